@@ -1,0 +1,108 @@
+-- Laws of the atomic types: places and atomics name each other; the code's table is the definition's rows; a search over
+-- the fifteen goes one after the other.
+use Prim.Native.Nat.{ℕ, zero, suc, _+_, _≤_, _<_}
+use native.Mathlib.Nat.{not-suc-le-zero, le-of-suc-le-suc}
+use native.Mathlib.Numerals.{add-one}
+use native.Mathlib.Omega.{arith}
+use mathlib.Core.Path.{_≡_, refl, sym, ap, _∙_}
+use mathlib.Core.Bool.{Bool, true, false}
+use mathlib.Core.List.{List, [], _∷_, map}
+use lib.Arith.{lt-of-le-ne}
+use lib.Dec.{lit<}
+use lib.ListN.{length, getD, take, drop, length-append, List·getD-eq-default}
+use lib.Seq.{drop-cons, take-append-seam}
+use Rattle.types.specs.declared.atomic.Atomic.{Atomic}
+use Rattle.types.specs.declared.atomic.Atomic.the-variants.{Bool as BOOL, SInt, Int, DInt, LInt, USInt, UInt, UDInt}
+use Rattle.types.specs.declared.atomic.Atomic.the-variants.{ULInt, Real, LReal, Byte, Word, DWord, LWord}
+use Rattle.types.specs.declared.atomic.AtomicRow.{AtomicRow}
+use Rattle.types.specs.declared.atomic.FoundAtomic.the-variants.{Is, Nothing}
+use Rattle.types.specs.Atomic.{atomics, atomicAt, numOf, nameOf, rowOf, rowsOf, firstOf}
+
+-- the atomic at its own place
+pub at-num : (a : Atomic) → atomicAt (numOf a) ≡ a
+unfolding atomicAt
+at-num BOOL = refl
+at-num SInt = refl
+at-num Int = refl
+at-num DInt = refl
+at-num LInt = refl
+at-num USInt = refl
+at-num UInt = refl
+at-num UDInt = refl
+at-num ULInt = refl
+at-num Real = refl
+at-num LReal = refl
+at-num Byte = refl
+at-num Word = refl
+at-num DWord = refl
+at-num LWord = refl
+
+pub past-last : (i : ℕ) → 15 ≤ i → BOOL ≡ atomicAt i
+unfolding atomicAt
+past-last i h = sym (List·getD-eq-default atomics BOOL h)
+
+getD-rows : (l : List Atomic) (i : ℕ) (d : AtomicRow) → i < length l → getD (map rowOf l) i d ≡ rowOf (getD l i BOOL)
+getD-rows [] i d h = absurd (not-suc-le-zero h)
+getD-rows (a ∷ l) zero d h = refl
+getD-rows (a ∷ l) (suc i) d h = getD-rows l i d (le-of-suc-le-suc h)
+
+-- a table that is the definition's rows has, at each place, that atomic's row
+pub table-row : (t : List AtomicRow) (i : ℕ) (d : AtomicRow) → t ≡ rowsOf atomics → i < 15 → getD t i d ≡ rowOf (atomicAt i)
+unfolding atomicAt rowsOf
+table-row t i d e h = rw (e, rowsOf) (getD-rows atomics i d h)
+
+-- the name that stands in a row
+pub row-name : (a : Atomic) (r : AtomicRow) → r ≡ rowOf a → take (r .2) (r .3) ≡ nameOf a
+unfolding rowOf
+row-name a r e = rw e (take-append-seam (nameOf a) _)
+
+pub row-long : (a : Atomic) (r : AtomicRow) → r ≡ rowOf a → r .2 ≤ length (r .3)
+unfolding rowOf
+row-long a r e = rw e (simp length-append (omega arith))
+
+-- one atomic of those that are left in a search
+module _ (p : Atomic → Bool) (i : ℕ) (l : i < 15) (b : Bool) (e : b ≡ p (atomicAt i)) where
+  pub first-hit : b ≡ true → Is (atomicAt i) ≡ firstOf p (drop i atomics)
+  unfolding firstOf atomicAt
+  first-hit q = rw (drop-cons atomics i BOOL l, ← e, q)
+
+  pub first-miss : b ≡ false → firstOf p (drop i atomics) ≡ firstOf p (drop (i + 1) atomics)
+  unfolding firstOf atomicAt
+  first-miss q = rw (add-one, drop-cons atomics i BOOL l, ← e, q)
+
+pub first-none : (p : Atomic → Bool) (i : ℕ) → 15 ≤ i → i ≤ 15 → Nothing ≡ firstOf p (drop i atomics)
+unfolding firstOf
+first-none p i h k =
+    let e : i ≡ 15 = omega arith in
+    rw e
+
+-- i is none of 1 to n, as the arms of a match leave it
+abbrev pub NoneOf : ℕ → ℕ → Type 0
+NoneOf i zero = Unit {0}
+NoneOf i (suc n) = NoneOf i n × (i ≡ suc n → ⊥)
+
+past : (i n : ℕ) → NoneOf i n → 0 < i → n < i
+past i zero h l = l
+past i (suc n) h l = lt-of-le-ne (past i n (h .0) l) (λ e. h .1 (sym e))
+
+-- any place but 1 to 14 has BOOL
+pub at-other : (i : ℕ) → NoneOf i 14 → BOOL ≡ atomicAt i
+at-other zero h = sym (at-num BOOL)
+at-other (suc i) h = past-last (suc i) (past (suc i) 14 h (omega arith))
+
+pub num-below : (a : Atomic) → numOf a < 15
+num-below BOOL = lit< tt
+num-below SInt = lit< tt
+num-below Int = lit< tt
+num-below DInt = lit< tt
+num-below LInt = lit< tt
+num-below USInt = lit< tt
+num-below UInt = lit< tt
+num-below UDInt = lit< tt
+num-below ULInt = lit< tt
+num-below Real = lit< tt
+num-below LReal = lit< tt
+num-below Byte = lit< tt
+num-below Word = lit< tt
+num-below DWord = lit< tt
+num-below LWord = lit< tt

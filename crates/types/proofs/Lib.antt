@@ -1,0 +1,6 @@
+-- Laws over the definitions of crate `types`, a file for each idea.
+pub mod AtomicLaws
+pub mod NameLaws
+pub mod HandleLaws
+pub mod LayoutLaws
+pub mod TableLaws

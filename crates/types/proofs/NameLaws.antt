@@ -1,0 +1,134 @@
+-- Laws of names: equality without case goes by the small letters, one byte after the other; the rule goes byte by byte.
+use Prim.Native.Nat.{ℕ, suc, _+_, _≤_, _<_}
+use native.Mathlib.Numerals.{add-one}
+use native.Mathlib.Omega.{arith}
+use mathlib.Core.Path.{_≡_, refl, sym, ap, _∙_}
+use mathlib.Core.Bool.{Bool, true, false, _&&_, not}
+use mathlib.Core.List.{List, [], _∷_, map}
+use borrow.Author.Tests.{eq-eqb, ne-eqb, eqb-true, le-leb, lt-leb}
+use lib.Dec.{eqb, leb}
+use lib.ListN.{length, getD, drop, drop-of-length-le}
+use lib.Seq.{drop-cons}
+use Rattle.types.specs.Names.{lowerOf, sameName, nameByte, nameBytes, goodName}
+
+-- ---- small letters
+
+pub lower-below : (x : ℕ) → x < 65 → x ≡ lowerOf x
+unfolding lowerOf
+lower-below x h = simp (lt-leb 65 x h)
+
+pub lower-capital : (x : ℕ) → 65 ≤ x → x ≤ 90 → x + 32 ≡ lowerOf x
+unfolding lowerOf
+lower-capital x h k = simp (le-leb 65 x h, le-leb x 90 k)
+
+pub lower-above : (x : ℕ) → 65 ≤ x → 90 < x → x ≡ lowerOf x
+unfolding lowerOf
+lower-above x h k = simp (le-leb 65 x h, lt-leb x 90 k)
+
+-- ---- equality without case
+
+same-on : (x y : ℕ) (xs ys : List ℕ) → lowerOf x ≡ lowerOf y → sameName (x ∷ xs) (y ∷ ys) ≡ sameName xs ys
+unfolding sameName
+same-on x y xs ys e = simp (eq-eqb _ _ e)
+
+same-off : (x y : ℕ) (xs ys : List ℕ) → (lowerOf x ≡ lowerOf y → ⊥) → sameName (x ∷ xs) (y ∷ ys) ≡ false
+unfolding sameName
+same-off x y xs ys e = simp (ne-eqb _ _ e)
+
+and-off : (a b : Bool) → b ≡ false → (a && b) ≡ false
+and-off true b e = e
+and-off false b e = refl
+
+-- names of two lengths differ
+pub same-long : (xs ys : List ℕ) → (length xs ≡ length ys → ⊥) → sameName xs ys ≡ false
+unfolding sameName
+same-long [] [] n = absurd (n refl)
+same-long [] (y ∷ ys) n = refl
+same-long (x ∷ xs) [] n = refl
+same-long (x ∷ xs) (y ∷ ys) n =
+    and-off (eqb (lowerOf x) (lowerOf y)) (sameName xs ys) (same-long xs ys (λ e. n (ap suc e)))
+
+-- the test says that the small letters are equal, and is passed where they are
+same-head : (u v : ℕ) (xs ys : List ℕ) → (sameName xs ys ≡ true → map lowerOf xs ≡ map lowerOf ys) → (b : Bool) → eqb u v ≡ b
+    → (b && sameName xs ys) ≡ true → _≡_ {A = List ℕ} (u ∷ map lowerOf xs) (v ∷ map lowerOf ys)
+same-head u v xs ys rest true p q =
+    let h : u ≡ v = eqb-true _ _ p in
+    let t : map lowerOf xs ≡ map lowerOf ys = rest q in
+    cc
+same-head u v xs ys rest false p q = cc
+
+pub same-lower : (xs ys : List ℕ) → sameName xs ys ≡ true → map lowerOf xs ≡ map lowerOf ys
+unfolding sameName
+same-lower [] [] e = refl
+same-lower [] (y ∷ ys) e = let z : _≡_ {A = List ℕ} [] (map lowerOf (y ∷ ys)) = cc in z
+same-lower (x ∷ xs) [] e = let z : _≡_ {A = List ℕ} (map lowerOf (x ∷ xs)) [] = cc in z
+same-lower (x ∷ xs) (y ∷ ys) e =
+    same-head (lowerOf x) (lowerOf y) xs ys (same-lower xs ys) (eqb (lowerOf x) (lowerOf y)) refl e
+
+pub lower-same : (xs ys : List ℕ) → map lowerOf xs ≡ map lowerOf ys → sameName xs ys ≡ true
+unfolding sameName
+lower-same [] [] e = refl
+lower-same [] (y ∷ ys) e = let z : false ≡ true = cc in z
+lower-same (x ∷ xs) [] e = let z : false ≡ true = cc in z
+lower-same (x ∷ xs) (y ∷ ys) e =
+    let e′ : lowerOf x ∷ map lowerOf xs ≡ lowerOf y ∷ map lowerOf ys = e in
+    let h : lowerOf x ≡ lowerOf y = cc in
+    let t : map lowerOf xs ≡ map lowerOf ys = cc in
+    same-on x y xs ys h ∙ lower-same xs ys t
+
+-- one byte of what is left of two names
+module _ (a b : List ℕ) (i : ℕ) (l : i < length a) (m : i < length b) where
+  pub name-on : lowerOf (getD a i 0) ≡ lowerOf (getD b i 0)
+      → sameName (drop i a) (drop i b) ≡ sameName (drop (i + 1) a) (drop (i + 1) b)
+  name-on e = rw (add-one, drop-cons a i 0 l, drop-cons b i 0 m) (same-on _ _ _ _ e)
+
+  pub name-off : (lowerOf (getD a i 0) ≡ lowerOf (getD b i 0) → ⊥) → sameName (drop i a) (drop i b) ≡ false
+  name-off e = rw (drop-cons a i 0 l, drop-cons b i 0 m) (same-off _ _ _ _ e)
+
+pub name-done : (a b : List ℕ) (i : ℕ) → length a ≤ i → length b ≤ i → sameName (drop i a) (drop i b) ≡ true
+unfolding sameName
+name-done a b i l m = rw (drop-of-length-le a l, drop-of-length-le b m)
+
+-- ---- the rule
+
+pub byte-below : (x : ℕ) → x < 0x21 → false ≡ nameByte x
+unfolding nameByte
+byte-below x h = simp (lt-leb 0x21 x h)
+
+pub byte-above : (x : ℕ) → 0x21 ≤ x → 0x7E < x → false ≡ nameByte x
+unfolding nameByte
+byte-above x h k = simp (le-leb 0x21 x h, lt-leb x 0x7E k)
+
+pub byte-within : (x : ℕ) → 0x21 ≤ x → x ≤ 0x7E → not (eqb x 59) ≡ nameByte x
+unfolding nameByte
+byte-within x h k = simp (le-leb 0x21 x h, le-leb x 0x7E k)
+
+-- one byte of what is left of a name
+module _ (s : List ℕ) (i : ℕ) (l : i < length s) (b : Bool) (e : b ≡ nameByte (getD s i 0)) where
+  pub bytes-on : b ≡ true → nameBytes (drop i s) ≡ nameBytes (drop (i + 1) s)
+  unfolding nameBytes
+  bytes-on q =
+      let g : nameByte (getD s i 0) ≡ true = sym e ∙ q in
+      rw (add-one, drop-cons s i 0 l, g)
+
+  pub bytes-off : b ≡ false → nameBytes (drop i s) ≡ false
+  unfolding nameBytes
+  bytes-off q =
+      let g : nameByte (getD s i 0) ≡ false = sym e ∙ q in
+      rw (drop-cons s i 0 l, g)
+
+pub bytes-done : (s : List ℕ) (i : ℕ) → length s ≤ i → nameBytes (drop i s) ≡ true
+unfolding nameBytes
+bytes-done s i l = rw (drop-of-length-le s l)
+
+pub good-empty : (s : List ℕ) → length s < 1 → false ≡ goodName s
+unfolding goodName
+good-empty s h = simp (lt-leb 1 (length s) h)
+
+pub good-long : (s : List ℕ) → 1 ≤ length s → 40 < length s → false ≡ goodName s
+unfolding goodName
+good-long s h k = simp (le-leb 1 (length s) h, lt-leb (length s) 40 k)
+
+pub good-within : (s : List ℕ) → 1 ≤ length s → length s ≤ 40 → nameBytes s ≡ goodName s
+unfolding goodName
+good-within s h k = simp (le-leb 1 (length s) h, le-leb (length s) 40 k)

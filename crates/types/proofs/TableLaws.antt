@@ -1,0 +1,185 @@
+-- Laws of rows: what was stored in a row is read back, and the other rows stay as they were.
+use Prim.Native.Nat.{ℕ, zero, suc, _+_, _-_, _*_, _/_, _%_, _≤_, _<_}
+use native.Mathlib.Nat.{add-zero}
+use native.Mathlib.Omega.{arith}
+use mathlib.Core.Path.{_≡_, refl, sym, ap, _∙_}
+use mathlib.Core.Bool.{Bool, true, false}
+use mathlib.Core.List.{List, [], _∷_}
+use mathlib.Core.Logic.{_⊎_, inl, inr, ⊎-elim, _≢_}
+use native.Mathlib.Decide.{decLt}
+use borrow.Author.Tests.{lt-ltb, le-ltb, eq-eqb, ne-eqb}
+use lib.Dec.{eqb}
+use lib.ListN.{length, getD}
+use lib.Seq.{sets}
+use Rattle.words.proofs.Lists.{getD-sets, getD-beside}
+use Rattle.types.specs.declared.atomic.Atomic.{Atomic}
+use Rattle.types.specs.declared.member.Ty.{Ty}
+use Rattle.types.specs.declared.member.Ty.the-variants.{Atomic as atomic, Struct}
+use Rattle.types.specs.declared.member.Bit.{Bit}
+use Rattle.types.specs.declared.member.Bit.the-variants.{None, At}
+use Rattle.types.specs.declared.member.Member.{Member}
+use Rattle.types.specs.declared.member.StructKind.{StructKind}
+use Rattle.types.specs.declared.member.StructKind.the-variants.{Udt, Predefined, Str, Aoi}
+use Rattle.types.specs.declared.member.StructDef.{StructDef}
+use Rattle.types.specs.Atomic.{numOf, atomicAt}
+use Rattle.types.specs.Tables.{tyWord, tyOf, bitWord, bitOf, flagsOf, kindWord, kindOf, memberRow, memberAt, typeRow, typeAt}
+use Rattle.types.proofs.AtomicLaws.{at-num, num-below}
+
+-- ---- words
+
+pub ty-back : (t : Ty) → tyOf (tyWord t) ≡ t
+unfolding tyOf
+ty-back (atomic a) = simp (lt-ltb (numOf a) 0x8000 (omega (arith, num-below a)), at-num a)
+ty-back (Struct n) =
+    let e : 0x8000 + n - 0x8000 ≡ n = omega arith in
+    simp (le-ltb (0x8000 + n) 0x8000 (omega arith), e)
+
+-- a bit is one of eight
+abbrev pub BitFits : Bit → Type 0
+BitFits None = Unit {0}
+BitFits (At k) = k < 8
+
+pub bit-back : (b : Bit) → BitFits b → bitOf (bitWord b) ≡ b
+unfolding bitOf
+bit-back None h = refl
+bit-back (At k) h =
+    let e : (k + 1 - 1) % 8 ≡ k = omega arith in
+    simp (ne-eqb (k + 1) 0 (λ q. omega arith), e)
+
+pub hidden-back : (h l : Bool) → eqb (flagsOf h l % 2) 1 ≡ h
+hidden-back true true = refl
+hidden-back true false = refl
+hidden-back false true = refl
+hidden-back false false = refl
+
+pub local-back : (h l : Bool) → eqb (flagsOf h l / 2 % 2) 1 ≡ l
+local-back true true = refl
+local-back true false = refl
+local-back false true = refl
+local-back false false = refl
+
+pub kind-back : (k : StructKind) → kindOf (kindWord k) ≡ k
+unfolding kindOf
+kind-back Udt = refl
+kind-back Predefined = refl
+kind-back Str = refl
+kind-back Aoi = refl
+
+-- ---- rows of eight words
+
+-- row i of a table has these eight words
+pub record Eight (t : List ℕ) (i : ℕ) (a b c d e f g h : ℕ) : Type 0 where
+  pub w0 : getD t (8 * i) 0 ≡ a
+  pub w1 : getD t (8 * i + 1) 0 ≡ b
+  pub w2 : getD t (8 * i + 2) 0 ≡ c
+  pub w3 : getD t (8 * i + 3) 0 ≡ d
+  pub w4 : getD t (8 * i + 4) 0 ≡ e
+  pub w5 : getD t (8 * i + 5) 0 ≡ f
+  pub w6 : getD t (8 * i + 6) 0 ≡ g
+  pub w7 : getD t (8 * i + 7) 0 ≡ h
+
+-- a stored row has the words that were stored
+stored : (t : List ℕ) (i : ℕ) (a b c d e f g h : ℕ) → 8 * i + 8 ≤ length t
+    → Eight (sets t (8 * i) (a ∷ b ∷ c ∷ d ∷ e ∷ f ∷ g ∷ h ∷ [])) i a b c d e f g h
+stored t i a b c d e f g h l =
+    let row = a ∷ b ∷ c ∷ d ∷ e ∷ f ∷ g ∷ h ∷ [] in
+    let at : (k : ℕ) → k < 8 → getD (sets t (8 * i) row) (8 * i + k) 0 ≡ getD row k 0 =
+    λ k m. getD-sets t (8 * i) row k 0 (omega arith) (omega arith) in
+    record {
+      w0 = rw add-zero at (at 0 (omega arith));
+      w1 = at 1 (omega arith);
+      w2 = at 2 (omega arith);
+      w3 = at 3 (omega arith);
+      w4 = at 4 (omega arith);
+      w5 = at 5 (omega arith);
+      w6 = at 6 (omega arith);
+      w7 = at 7 (omega arith);
+    }
+
+-- another row has the words that it had
+beside : (t row : List ℕ) (i j : ℕ) → length row ≡ 8 → j ≢ i
+    → Eight (sets t (8 * i) row) j (getD t (8 * j) 0) (getD t (8 * j + 1) 0) (getD t (8 * j + 2) 0) (getD t (8 * j + 3) 0)
+    (getD t (8 * j + 4) 0) (getD t (8 * j + 5) 0) (getD t (8 * j + 6) 0) (getD t (8 * j + 7) 0)
+beside t row i j w n =
+    let at : (k : ℕ) → k < 8 → getD (sets t (8 * i) row) (8 * j + k) 0 ≡ getD t (8 * j + k) 0 =
+    λ k l. getD-beside t (8 * i) row (8 * j + k) 0 (side k l (decLt j i)) in
+    record {
+      w0 = simp add-zero at (at 0 (omega arith));
+      w1 = at 1 (omega arith);
+      w2 = at 2 (omega arith);
+      w3 = at 3 (omega arith);
+      w4 = at 4 (omega arith);
+      w5 = at 5 (omega arith);
+      w6 = at 6 (omega arith);
+      w7 = at 7 (omega arith);
+    }
+  where
+    side : (k : ℕ) → k < 8 → Dec (j < i) → (8 * j + k < 8 * i) ⊎ (8 * i + length row ≤ 8 * j + k)
+    side k l (yes m) = inl (omega arith)
+    side k l (no m) = inr (omega (arith, m, n))
+
+-- ---- members
+
+-- what a member's row can hold
+pub record Storable (m : Member) : Type 0 where
+  pub bit : BitFits (m .bit)
+  pub access : m .access < 256
+
+member-words : (t : List ℕ) (i : ℕ) (m : Member) → 8 * i + 8 ≤ length t
+    → Eight (sets t (8 * i) (memberRow m)) i (m .name) (m .long) (tyWord (m .ty)) (m .count) (m .offset) (bitWord (m .bit))
+    (flagsOf (m .hidden) (m .local)) (m .access)
+unfolding memberRow
+member-words t i m h = stored t i _ _ _ _ _ _ _ _ h
+
+member-long : (m : Member) → length (memberRow m) ≡ 8
+unfolding memberRow
+member-long m = refl
+
+-- a stored member is read back
+pub member-back : (t : List ℕ) (i : ℕ) (m : Member) → 8 * i + 8 ≤ length t → Storable m
+    → memberAt (sets t (8 * i) (memberRow m)) i ≡ m
+unfolding memberAt
+member-back t i m h s =
+    let w = member-words t i m h in
+    let a : m .access % 256 ≡ m .access = omega (arith, s .access) in
+    simp (w .w0, w .w1, w .w2, w .w3, w .w4, w .w5, w .w6, w .w7, ty-back, bit-back (m .bit) (s .bit), hidden-back, local-back, a)
+
+-- and the other members stay
+pub member-beside : (t : List ℕ) (i j : ℕ) (m : Member) → j ≢ i → memberAt (sets t (8 * i) (memberRow m)) j ≡ memberAt t j
+unfolding memberAt
+member-beside t i j m n =
+    let w = beside t (memberRow m) i j (member-long m) n in
+    simp (w .w0, w .w1, w .w2, w .w3, w .w4, w .w5, w .w6, w .w7)
+
+-- ---- structures
+
+-- what a structure's row can hold
+pub record TypeStorable (d : StructDef) : Type 0 where
+  pub id : d .id < 65536
+  pub handle : d .handle < 65536
+
+type-words : (t : List ℕ) (i : ℕ) (d : StructDef) → 8 * i + 8 ≤ length t
+    → Eight (sets t (8 * i) (typeRow d)) i (d .name) (d .long) (d .id) (d .handle) (d .size) (kindWord (d .kind)) (d .first) (d .count)
+unfolding typeRow
+type-words t i d h = stored t i _ _ _ _ _ _ _ _ h
+
+type-long : (d : StructDef) → length (typeRow d) ≡ 8
+unfolding typeRow
+type-long d = refl
+
+-- a stored structure is read back
+pub type-back : (t : List ℕ) (i : ℕ) (d : StructDef) → 8 * i + 8 ≤ length t → TypeStorable d
+    → typeAt (sets t (8 * i) (typeRow d)) i ≡ d
+unfolding typeAt
+type-back t i d h s =
+    let w = type-words t i d h in
+    let a : d .id % 65536 ≡ d .id = omega (arith, s .id) in
+    let b : d .handle % 65536 ≡ d .handle = omega (arith, s .handle) in
+    simp (w .w0, w .w1, w .w2, w .w3, w .w4, w .w5, w .w6, w .w7, kind-back, a, b)
+
+-- and the other structures stay
+pub type-beside : (t : List ℕ) (i j : ℕ) (d : StructDef) → j ≢ i → typeAt (sets t (8 * i) (typeRow d)) j ≡ typeAt t j
+unfolding typeAt
+type-beside t i j d n =
+    let w = beside t (typeRow d) i j (type-long d) n in
+    simp (w .w0, w .w1, w .w2, w .w3, w .w4, w .w5, w .w6, w .w7)

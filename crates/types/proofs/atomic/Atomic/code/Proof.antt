@@ -1,0 +1,17 @@
+-- `types::Atomic::code` meets its contract.
+use borrow.Author.Needs.{needs}
+use mathlib.Core.Path.{ap}
+use Rattle.types.specs.declared.atomic.AtomicRow.{AtomicRow}
+use Rattle.types.specs.Atomic.{rowOf}
+use Rattle.types.proofs.atomic.Atomic.code.Statement.{statement}
+use Rattle.types.proofs.atomic.Atomic.code.Tie as tie
+
+row-requires : tie.Need-row-requires
+row-requires c κs = search needs
+
+returns : tie.Need-returns
+unfolding rowOf
+returns c = ap (λ (r : AtomicRow). r .0) (c .row .ensures)
+
+pub code-spec : {M : Type 1} → statement M
+code-spec = tie.close (tie.spec row-requires returns)

@@ -1,0 +1,113 @@
+-- `types::Atomic::from_name` meets its contract. The invariant: the first of the fifteen with the name is the first of those
+-- that are left.
+use native.Mathlib.Omega.{arith}
+use borrow.Author.Needs.{needs}
+use Prim.Native.Nat.{ℕ, _-_, _≤_}
+use mathlib.Core.Path.{_≡_, refl, sym, ap, _∙_}
+use mathlib.Core.List.{List}
+use lib.ListN.{drop}
+use lib.Seq.{length-take-le}
+use Rattle.types.specs.Atomic.{atomics, atomicAt, rowsOf, firstOf, nameOf, atomicNamed}
+use Rattle.types.specs.Names.{sameName}
+use Rattle.types.specs.declared.atomic.FoundAtomic.the-variants.{Is}
+use Rattle.types.proofs.AtomicLaws.{table-row, row-name, row-long, first-hit, first-miss, first-none}
+use Rattle.types.proofs.atomic.Atomic.from_name.Statement.{statement}
+use Rattle.types.proofs.atomic.Atomic.from_name.Tie as tie
+
+abbrev Inv-loop : tie.InvT-loop
+Inv-loop name rows i₀ i =
+    (i ≤ 15) × ((rows ≡ rowsOf atomics) × (atomicNamed name ≡ firstOf (λ a. sameName (nameOf a) name) (drop i atomics)))
+
+abbrev μ-loop : tie.MeasureT-loop
+μ-loop name rows i₀ i = 15 - i
+
+table-requires : tie.Need-table-requires Inv-loop μ-loop
+table-requires c κs = search needs
+
+loop-holds : tie.Need-loop-holds Inv-loop μ-loop
+unfolding atomicNamed
+loop-holds c = (omega arith, (c .table .ensures, refl))
+
+mul-row : tie.Need-mul-row Inv-loop μ-loop
+mul-row c = search needs
+
+array-copy-out-row : tie.Need-array-copy-out-row Inv-loop μ-loop
+array-copy-out-row c = search needs
+
+cast-long : tie.Need-cast-long Inv-loop μ-loop
+cast-long c = search needs
+
+array-share-prefix-bytes : tie.Need-array-share-prefix-bytes Inv-loop μ-loop
+array-share-prefix-bytes c =
+    let l = c .before .before .before .before .loop in
+    row-long (atomicAt (l .i)) _ (table-row _ (l .i) _ (l .inv .1 .0) (omega arith))
+
+slice-aggregate-same-name : tie.Need-slice-aggregate-same-name Inv-loop μ-loop
+slice-aggregate-same-name c =
+    let l = c .before .before .before .before .before .loop in
+    sym (length-take-le _ _ (row-long (atomicAt (l .i)) _ (table-row _ (l .i) _ (l .inv .1 .0) (omega arith))))
+
+same-name-requires : tie.Need-same-name-requires Inv-loop μ-loop
+same-name-requires c κs = search needs
+
+at-requires : tie.Need-at-requires Inv-loop μ-loop
+at-requires c κs = search needs
+
+returns : tie.Need-returns Inv-loop μ-loop
+returns c =
+    let same = c .before .before in
+    let at-loop = same .before .before .before .before .before .before in
+    let l = at-loop .loop in
+    let name = at-loop .before .before .before .args .name .now in
+    let row = table-row _ (l .i) _ (l .inv .1 .0) (omega arith) in
+    ap Is (c .at .ensures)
+    ∙ first-hit (λ a. sameName (nameOf a) name) (l .i) (omega arith) _
+    (same .same-name .ensures ∙ ap (λ (s : List ℕ). sameName s name) (row-name (atomicAt (l .i)) _ row)) (c .before .if1 .taken)
+    ∙ sym (l .inv .1 .1)
+
+add-i : tie.Need-add-i Inv-loop μ-loop
+add-i c = omega arith
+
+loop-less : tie.Need-loop-less Inv-loop μ-loop
+loop-less c = omega arith
+
+loop-again : tie.Need-loop-again Inv-loop μ-loop
+loop-again c =
+    let same = c .before in
+    let at-loop = same .before .before .before .before .before .before in
+    let l = at-loop .loop in
+    let name = at-loop .before .before .before .args .name .now in
+    let row = table-row _ (l .i) _ (l .inv .1 .0) (omega arith) in (
+      omega arith,
+      (
+        l .inv .1 .0,
+        l .inv .1 .1 ∙ first-miss (λ a. sameName (nameOf a) name) (l .i) (omega arith) _
+            (same .same-name .ensures ∙ ap (λ (s : List ℕ). sameName s name) (row-name (atomicAt (l .i)) _ row)) (c .if1 .left),
+      ),
+    )
+
+returns-2 : tie.Need-returns-2 Inv-loop μ-loop
+returns-2 c =
+    let l = c .before .loop in
+    first-none _ (l .i) (omega arith) (omega arith) ∙ sym (l .inv .1 .1)
+
+pub from-name-spec : {M : Type 1} → statement M
+from-name-spec =
+    tie.close
+    (tie.spec
+    Inv-loop
+    μ-loop
+    table-requires
+    loop-holds
+    mul-row
+    array-copy-out-row
+    cast-long
+    array-share-prefix-bytes
+    slice-aggregate-same-name
+    same-name-requires
+    at-requires
+    returns
+    add-i
+    loop-less
+    loop-again
+    returns-2)

@@ -1,0 +1,30 @@
+-- `types::Atomic::row` meets its contract.
+use borrow.Author.Needs.{needs}
+use Prim.Native.Nat.{ℕ}
+use mathlib.Core.Path.{ap, _∙_}
+use Rattle.types.specs.Atomic.{atomicAt, rowOf}
+use Rattle.types.proofs.AtomicLaws.{table-row, at-num}
+use Rattle.types.proofs.atomic.Atomic.row.Statement.{statement}
+use Rattle.types.proofs.atomic.Atomic.row.Tie as tie
+
+table-requires : tie.Need-table-requires
+table-requires c κs = search needs
+
+num-requires : tie.Need-num-requires
+num-requires c κs = search needs
+
+mul-result : tie.Need-mul-result
+mul-result c = search needs
+
+array-copy-out-result : tie.Need-array-copy-out-result
+array-copy-out-result c = search needs
+
+returns : tie.Need-returns
+returns c =
+    let num = c .before .num in
+    table-row _ (num .result) _ (c .before .before .table .ensures) (num .ensures .small)
+    ∙ ap (λ (i : ℕ). rowOf (atomicAt i)) (num .ensures .is) ∙ ap rowOf (at-num (c .before .before .before .args .self))
+
+pub row-spec : {M : Type 1} → statement M
+row-spec =
+    tie.close (tie.spec table-requires num-requires mul-result array-copy-out-result returns)

@@ -1,0 +1,19 @@
+-- `types::structure_handle` meets its contract: the finished fold from the start.
+use borrow.Author.Needs.{needs}
+use mathlib.Core.Path.{ap, _∙_}
+use Rattle.types.specs.Handle.{notZero, handleOf}
+use Rattle.types.proofs.handle.structure_handle.Statement.{statement}
+use Rattle.types.proofs.handle.structure_handle.Tie as tie
+
+fold-handle-requires : tie.Need-fold-handle-requires
+fold-handle-requires c κs = search needs
+
+finish-handle-requires : tie.Need-finish-handle-requires
+finish-handle-requires c κs = search needs
+
+returns : tie.Need-returns
+unfolding handleOf
+returns c = c .finish-handle .ensures ∙ ap notZero (c .before .fold-handle .ensures)
+
+pub structure-handle-spec : {M : Type 1} → statement M
+structure-handle-spec = tie.close (tie.spec fold-handle-requires finish-handle-requires returns)

@@ -1,0 +1,57 @@
+-- `types::member_end` meets its contract: nothing wraps in 64 bits.
+use native.Mathlib.Omega.{arith}
+use borrow.Author.Needs.{needs}
+use mathlib.Core.Path.{_≡_, refl}
+use Prim.Native.Nat.{_+_, _*_, _≤_}
+use Rattle.types.specs.Layout.{times}
+use Rattle.types.proofs.LayoutLaws.{product-most, end-at, end-over}
+use Rattle.types.proofs.layout.member_end.Statement.{statement}
+use Rattle.types.proofs.layout.member_end.Tie as tie
+
+product : (c : tie.After-elements) → c .before .wide2 .result * c .elements .result ≤ 0xFFFF_FFFE_0000_0001
+product c = product-most (omega arith) (c .elements .ensures .small)
+
+sum : (c : tie.After-elements) → c .before .before .wide .result + c .before .wide2 .result * c .elements .result
+    ≡ c .before .before .before .args .offset + c .before .before .before .args .size * times (c .before .before .before .args .count)
+sum c = rw (c .before .before .wide .ensures, c .before .wide2 .ensures, c .elements .ensures .is)
+
+wide-requires : tie.Need-wide-requires
+wide-requires c κs = search needs
+
+wide-requires-2 : tie.Need-wide-requires-2
+wide-requires-2 c κs = search needs
+
+elements-requires : tie.Need-elements-requires
+elements-requires c κs = search needs
+
+mul-end : tie.Need-mul-end
+mul-end c = omega (arith, product c)
+
+add-end : tie.Need-add-end
+add-end c = omega (arith, product c)
+
+cast-t10 : tie.Need-cast-t10
+cast-t10 c = search needs
+
+returns : tie.Need-returns
+returns c =
+    let a = c .before .before .before .before .args in
+    end-at (a .offset) (a .size) (a .count) _ (sum (c .before)) (c .if1 .taken)
+
+returns-2 : tie.Need-returns-2
+returns-2 c =
+    let a = c .before .before .before .before .args in
+    end-over (a .offset) (a .size) (a .count) _ (sum (c .before)) (c .if1 .left)
+
+pub member-end-spec : {M : Type 1} → statement M
+member-end-spec =
+    tie.close
+    (tie.spec
+    wide-requires
+    wide-requires-2
+    elements-requires
+    mul-end
+    add-end
+    cast-t10
+    returns
+    returns-2)

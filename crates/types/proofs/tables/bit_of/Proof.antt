@@ -1,0 +1,23 @@
+-- `types::bit_of` meets its contract.
+use borrow.Author.Needs.{needs}
+use borrow.Author.Tests.{eq-eqb, ne-eqb}
+use Rattle.types.specs.Tables.{bitOf}
+use Rattle.types.proofs.tables.bit_of.Statement.{statement}
+use Rattle.types.proofs.tables.bit_of.Tie as tie
+
+returns : tie.Need-returns
+unfolding bitOf
+returns c = simp (eq-eqb _ _ (c .if1 .taken))
+
+sub-t3 : tie.Need-sub-t3
+sub-t3 c = search needs
+
+cast-t5 : tie.Need-cast-t5
+cast-t5 c = search needs
+
+returns-2 : tie.Need-returns-2
+unfolding bitOf
+returns-2 c = simp (ne-eqb _ _ (c .if1 .left))
+
+pub bit-of-spec : {M : Type 1} → statement M
+bit-of-spec = tie.close (tie.spec returns sub-t3 cast-t5 returns-2)

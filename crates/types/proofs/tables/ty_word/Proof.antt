@@ -1,0 +1,48 @@
+-- `types::ty_word` meets its contract.
+use native.Mathlib.Omega.{arith}
+use borrow.Author.Needs.{needs}
+use mathlib.Core.Path.{_≡_, sym, ap, _∙_}
+use Rattle.types.specs.Tables.{tyWord, TyFits}
+use Rattle.types.proofs.tables.ty_word.Statement.{statement}
+use Rattle.types.proofs.tables.ty_word.Tie as tie
+
+enum-known-ty : tie.Need-enum-known-ty
+enum-known-ty c = search needs
+
+num-requires : tie.Need-num-requires
+num-requires c κs = search needs
+
+cast-result : tie.Need-cast-result
+cast-result c = search needs
+
+enum-known-ty-2 : tie.Need-enum-known-ty-2
+enum-known-ty-2 c = search needs
+
+cast-result-2 : tie.Need-cast-result-2
+cast-result-2 c =
+    let h = rw (c .before .ty2 .given .1) at (c .before .before .before .pre) in
+    omega arith
+
+add-result : tie.Need-add-result
+add-result c =
+    let h = rw (c .before .ty2 .given .1) at (c .before .before .before .pre) in
+    omega arith
+
+returns : tie.Need-returns
+returns c = c .num .ensures .is ∙ sym (ap tyWord (c .before .before .ty .given .1))
+
+returns-2 : tie.Need-returns-2
+returns-2 c = sym (ap tyWord (c .before .ty2 .given .1))
+
+pub ty-word-spec : {M : Type 1} → statement M
+ty-word-spec =
+    tie.close
+    (tie.spec
+    enum-known-ty
+    num-requires
+    cast-result
+    enum-known-ty-2
+    cast-result-2
+    add-result
+    returns
+    returns-2)

@@ -1,0 +1,84 @@
+-- Rows of the lent tables: a member or a structure as eight words, and the words of a row read back.
+use Prim.Native.Nat.{ℕ, _+_, _-_, _*_, _/_, _%_, _<_}
+use mathlib.Core.Bool.{Bool, true, false, cond}
+use mathlib.Core.List.{List, [], _∷_}
+use lib.Dec.{eqb, ltb}
+use lib.ListN.{getD}
+use Rattle.types.specs.declared.member.Ty.{Ty}
+use Rattle.types.specs.declared.member.Ty.the-variants.{Atomic, Struct}
+use Rattle.types.specs.declared.member.Bit.{Bit}
+use Rattle.types.specs.declared.member.Bit.the-variants.{None, At}
+use Rattle.types.specs.declared.member.Member.{Member}
+use Rattle.types.specs.declared.member.StructKind.{StructKind}
+use Rattle.types.specs.declared.member.StructKind.the-variants.{Udt, Predefined, Str, Aoi}
+use Rattle.types.specs.declared.member.StructDef.{StructDef}
+use Rattle.types.specs.Atomic.{numOf, atomicAt}
+
+-- an atomic's place among the fifteen, or 0x8000 plus a structure's number
+abbrev pub tyWord : Ty → ℕ
+tyWord (Atomic a) = numOf a
+tyWord (Struct n) = 0x8000 + n
+
+unfoldable pub tyOf : ℕ → Ty
+tyOf w = cond (ltb w 0x8000) (Atomic (atomicAt w)) (Struct (w - 0x8000))
+
+-- a structure's number is below the number of rows
+abbrev pub TyFits : Ty → Type 0
+TyFits (Atomic a) = Unit {0}
+TyFits (Struct n) = n < 200
+
+-- 0, or one more than the bit
+abbrev pub bitWord : Bit → ℕ
+bitWord None = 0
+bitWord (At k) = k + 1
+
+unfoldable pub bitOf : ℕ → Bit
+bitOf w = cond (eqb w 0) None (At ((w - 1) % 8))
+
+-- 1 for hidden, and 2 for local
+abbrev pub flagsOf : Bool → Bool → ℕ
+flagsOf hidden local = cond hidden 1 0 + cond local 2 0
+
+abbrev pub kindWord : StructKind → ℕ
+kindWord Udt = 0
+kindWord Predefined = 1
+kindWord Str = 2
+kindWord Aoi = 3
+
+unfoldable pub kindOf : ℕ → StructKind
+kindOf w = cond (eqb w 1) Predefined (cond (eqb w 2) Str (cond (eqb w 3) Aoi Udt))
+
+unfoldable pub memberRow : Member → List ℕ
+memberRow m =
+    m .name ∷ m .long ∷ tyWord (m .ty) ∷ m .count ∷ m .offset ∷ bitWord (m .bit) ∷ flagsOf (m .hidden) (m .local) ∷ m .access ∷ []
+
+unfoldable pub memberAt : List ℕ → ℕ → Member
+memberAt t row =
+    record {
+      name = getD t (8 * row) 0;
+      long = getD t (8 * row + 1) 0;
+      ty = tyOf (getD t (8 * row + 2) 0);
+      count = getD t (8 * row + 3) 0;
+      offset = getD t (8 * row + 4) 0;
+      bit = bitOf (getD t (8 * row + 5) 0);
+      hidden = eqb (getD t (8 * row + 6) 0 % 2) 1;
+      local = eqb (getD t (8 * row + 6) 0 / 2 % 2) 1;
+      access = getD t (8 * row + 7) 0 % 256;
+    }
+
+unfoldable pub typeRow : StructDef → List ℕ
+typeRow d =
+    d .name ∷ d .long ∷ d .id ∷ d .handle ∷ d .size ∷ kindWord (d .kind) ∷ d .first ∷ d .count ∷ []
+
+unfoldable pub typeAt : List ℕ → ℕ → StructDef
+typeAt t i =
+    record {
+      name = getD t (8 * i) 0;
+      long = getD t (8 * i + 1) 0;
+      id = getD t (8 * i + 2) 0 % 65536;
+      handle = getD t (8 * i + 3) 0 % 65536;
+      size = getD t (8 * i + 4) 0;
+      kind = kindOf (getD t (8 * i + 5) 0);
+      first = getD t (8 * i + 6) 0;
+      count = getD t (8 * i + 7) 0;
+    }

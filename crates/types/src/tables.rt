@@ -1,0 +1,204 @@
+// The lent tables and their rows: a member's or a type's row of eight words, read into a struct by
+// value and stored from one. A template id of 0 marks an unused row.
+ghost use mathlib.Core.Path.{_≡_};
+ghost use Prim.Native.Nat.{_*_, _<_, _%_};
+ghost use lib.Seq.{sets};
+ghost use Rattle.types.specs.Tables.{tyWord, tyOf, bitWord, bitOf, flagsOf, kindWord, kindOf, TyFits};
+ghost use Rattle.types.specs.Tables.{memberRow, memberAt, typeRow, typeAt};
+use crate::atomic::Atomic;
+use crate::member::Bit;
+use crate::member::Member;
+use crate::member::StructDef;
+use crate::member::StructKind;
+use crate::member::Ty;
+
+pub const TYPES: usize = 200;
+
+pub const TYPE_WORDS: usize = 8;
+
+pub const MEMBERS: usize = 2000;
+
+pub const MEMBER_WORDS: usize = 8;
+
+pub const NAME_BYTES: usize = 32768;
+
+pub type TypeTable = [u32; TYPES * TYPE_WORDS];
+
+pub type MemberTable = [u32; MEMBERS * MEMBER_WORDS];
+
+pub type NameTable = [u8; NAME_BYTES];
+
+fn wide(x: u32) -> usize
+    ensures { λ r. ⌜ r ≡ x ⌝ }
+{
+    x as usize
+}
+
+// The word of a type: an atomic's place among the fifteen, or 0x8000 plus a structure's number.
+fn ty_word(ty: Ty) -> u32
+    requires { ⌜ TyFits ty ⌝ }
+    ensures { λ r. ⌜ r ≡ tyWord ty ⌝ }
+{
+    match ty {
+        Ty::Atomic(a) => a.num() as u32,
+        Ty::Struct(n) => 0x8000 + (n as u32),
+    }
+}
+
+fn ty_of(w: u32) -> Ty
+    ensures { λ r. ⌜ r ≡ tyOf w ⌝ }
+{
+    if w < 0x8000 {
+        return Ty::Atomic(Atomic::at(wide(w)));
+    }
+    Ty::Struct(wide(w - 0x8000))
+}
+
+// 0, or one more than the bit.
+fn bit_word(bit: Bit) -> u32
+    ensures { λ r. ⌜ r ≡ bitWord bit ⌝ }
+{
+    match bit {
+        Bit::None => 0,
+        Bit::At(k) => (k as u32) + 1,
+    }
+}
+
+// Any word reads as no bit or as one of the eight.
+fn bit_of(w: u32) -> Bit
+    ensures { λ r. ⌜ r ≡ bitOf w ⌝ }
+{
+    if w == 0 {
+        return Bit::None;
+    }
+    Bit::At(((w - 1) % 8) as u8)
+}
+
+// 1 for hidden, and 2 for local.
+fn flags_word(hidden: bool, local: bool) -> u32
+    ensures { λ r. ⌜ r ≡ flagsOf hidden local ⌝ }
+{
+    if hidden {
+        if local {
+            return 3;
+        }
+        return 1;
+    }
+    if local {
+        return 2;
+    }
+    0
+}
+
+fn kind_word(kind: StructKind) -> u32
+    ensures { λ r. ⌜ r ≡ kindWord kind ⌝ }
+{
+    match kind {
+        StructKind::Udt => 0,
+        StructKind::Predefined => 1,
+        StructKind::Str => 2,
+        StructKind::Aoi => 3,
+    }
+}
+
+fn kind_of(w: u32) -> StructKind
+    ensures { λ r. ⌜ r ≡ kindOf w ⌝ }
+{
+    match w {
+        1 => StructKind::Predefined,
+        2 => StructKind::Str,
+        3 => StructKind::Aoi,
+        _ => StructKind::Udt,
+    }
+}
+
+fn low8(x: u32) -> u8
+    ensures { λ r. ⌜ r ≡ x % 256 ⌝ }
+{
+    (x % 256) as u8
+}
+
+fn low16(x: u32) -> u16
+    ensures { λ r. ⌜ r ≡ x % 65536 ⌝ }
+{
+    (x % 65536) as u16
+}
+
+// The member that a row holds.
+pub fn member_at(members: &MemberTable, row: usize) -> Member
+    requires { ⌜ row < 2000 ⌝ }
+    ensures { λ r. ⌜ r ≡ memberAt (now (members .entry)) row ⌝ }
+{
+    let at = MEMBER_WORDS * row;
+    let ty = ty_of(members[at + 2]);
+    let bit = bit_of(members[at + 5]);
+    let flags = members[at + 6];
+    let access = low8(members[at + 7]);
+    Member {
+        name: members[at],
+        long: members[at + 1],
+        ty,
+        count: members[at + 3],
+        offset: members[at + 4],
+        bit,
+        hidden: flags % 2 == 1,
+        local: flags / 2 % 2 == 1,
+        access,
+    }
+}
+
+// Stores a member's row; the other rows stay.
+pub fn put_member(members: &mut MemberTable, row: usize, m: Member)
+    requires { ⌜ (row < 2000) × TyFits (m .ty) ⌝ }
+    ensures { λ _. ⌜ now (members .exit) ≡ sets (now (members .entry)) (8 * row) (memberRow m) ⌝ }
+{
+    let at = MEMBER_WORDS * row;
+    let ty = m.ty;
+    let bit = m.bit;
+    members[at] = m.name;
+    members[at + 1] = m.long;
+    members[at + 2] = ty_word(ty);
+    members[at + 3] = m.count;
+    members[at + 4] = m.offset;
+    members[at + 5] = bit_word(bit);
+    members[at + 6] = flags_word(m.hidden, m.local);
+    members[at + 7] = m.access as u32;
+}
+
+// The structure that a row holds.
+pub fn type_at(types: &TypeTable, i: usize) -> StructDef
+    requires { ⌜ i < 200 ⌝ }
+    ensures { λ r. ⌜ r ≡ typeAt (now (types .entry)) i ⌝ }
+{
+    let at = TYPE_WORDS * i;
+    let id = low16(types[at + 2]);
+    let handle = low16(types[at + 3]);
+    let kind = kind_of(types[at + 5]);
+    StructDef {
+        name: types[at],
+        long: types[at + 1],
+        id,
+        handle,
+        size: types[at + 4],
+        kind,
+        first: types[at + 6],
+        count: types[at + 7],
+    }
+}
+
+// Stores a structure's row; the other rows stay.
+pub fn put_type(types: &mut TypeTable, i: usize, d: StructDef)
+    requires { ⌜ i < 200 ⌝ }
+    ensures { λ _. ⌜ now (types .exit) ≡ sets (now (types .entry)) (8 * i) (typeRow d) ⌝ }
+{
+    let at = TYPE_WORDS * i;
+    let kind = d.kind;
+    types[at] = d.name;
+    types[at + 1] = d.long;
+    types[at + 2] = d.id as u32;
+    types[at + 3] = d.handle as u32;
+    types[at + 4] = d.size;
+    types[at + 5] = kind_word(kind);
+    types[at + 6] = d.first;
+    types[at + 7] = d.count;
+}

@@ -1,0 +1,4 @@
+-- The laws that every crate cites: runs of stores and parts of lists, words, bits.
+pub mod Lists
+pub mod WordLaws
+pub mod BitLaws

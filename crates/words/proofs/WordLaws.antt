@@ -1,0 +1,119 @@
+-- Laws of little-endian words, over the width: a word is its two halves, in a list and as bytes; what was stored is loaded;
+-- what was loaded can be stored again.
+use Prim.Native.Nat.{ℕ, zero, suc, _+_, _-_, _*_, _/_, _%_, _^_, _≤_, _<_}
+use native.Mathlib.Nat.{add-zero, zero-add, suc-add, pow-suc, pow-succ', mul-assoc, mul-comm, div-div-eq-div-mul, one-le-pow, mod-one, div-one}
+use native.Mathlib.Omega.{arith}
+use mathlib.Core.Path.{_≡_, refl, sym, ap, _∙_}
+use mathlib.Core.List.{List, [], _∷_, _++_}
+use mathlib.Core.Logic.{_⊎_, inl, inr, ⊎-elim}
+use lib.Arith.{mod-mul}
+use lib.ListN.{length, getD}
+use lib.Seq.{sets, drop-cons}
+use Rattle.words.specs.Words.{wordAt, bytesOf, part, Bytes}
+use Rattle.words.proofs.Lists.{sets-append, getD-sets, getD-beside, part-cons}
+
+power-pos : (n : ℕ) → 0 < 256 ^ n
+power-pos n = one-le-pow n 256 (omega arith)
+
+-- the one law of the loads: m bytes, and n bytes after them
+pub word-split : (m n : ℕ) (s : List ℕ) (at : ℕ) → wordAt (m + n) s at ≡ wordAt m s at + 256 ^ m * wordAt n s (at + m)
+unfolding wordAt
+word-split zero n s at = simp (zero-add, add-zero) (omega arith)
+word-split (suc m) n s at =
+    let e : at + 1 + m ≡ at + suc m = omega arith in
+    let f : 256 ^ suc m * wordAt n s (at + suc m) ≡ 256 * (256 ^ m * wordAt n s (at + suc m)) =
+    rw pow-succ' (mul-assoc 256 (256 ^ m) (wordAt n s (at + suc m))) in
+    rw suc-add (omega (arith, rw e at (word-split m n s (at + 1)), f))
+
+pub length-bytes : (n x : ℕ) → length (bytesOf n x) ≡ n
+unfolding bytesOf
+length-bytes zero x = refl
+length-bytes (suc n) x = ap suc (length-bytes n (x / 256))
+
+-- a byte is its own lowest byte
+pub byte-of : (x : ℕ) → x < 256 → x % 256 ≡ x
+byte-of x h = omega arith
+
+-- the remainder by a word's range, one byte after the other
+mod-step : (n x : ℕ) → x % 256 ^ suc n ≡ x % 256 + 256 * (x / 256 % 256 ^ n)
+mod-step n x = rw pow-suc (omega (arith, mod-mul x {m = 256 ^ n} {c = 256} (power-pos n) (omega arith)))
+
+-- the bytes of a number are those of its low end
+bytes-low : (n x : ℕ) → bytesOf n (x % 256 ^ n) ≡ bytesOf n x
+unfolding bytesOf
+bytes-low zero x = refl
+bytes-low (suc n) x =
+    let e : x % 256 ^ suc n % 256 ≡ x % 256 = omega (arith, mod-step n x) in
+    let f : x % 256 ^ suc n / 256 ≡ x / 256 % 256 ^ n = omega (arith, mod-step n x) in
+    rw (e, f, bytes-low n (x / 256))
+
+bytes-split : (m n x : ℕ) → bytesOf (m + n) x ≡ bytesOf m x ++ bytesOf n (x / 256 ^ m)
+unfolding bytesOf
+bytes-split zero n x = rw (zero-add, div-one)
+bytes-split (suc m) n x =
+    let e : x / 256 ^ suc m ≡ x / 256 / 256 ^ m = rw pow-succ' (sym (div-div-eq-div-mul x 256 (256 ^ m))) in
+    rw (suc-add, e, bytes-split m n (x / 256))
+
+-- the one law of the stores: the low m bytes, and the n bytes above them
+pub store-split : (m n : ℕ) (s : List ℕ) (at x : ℕ)
+    → sets (sets s at (bytesOf m (x % 256 ^ m))) (at + m) (bytesOf n (x / 256 ^ m)) ≡ sets s at (bytesOf (m + n) x)
+store-split m n s at x =
+    rw (bytes-low m x, bytes-split m n x, sets-append s at (bytesOf m x) (bytesOf n (x / 256 ^ m)), length-bytes m x)
+
+-- a word is below its range
+pub word-below : (n : ℕ) (s : List ℕ) (at : ℕ) → Bytes s → wordAt n s at < 256 ^ n
+unfolding wordAt
+word-below zero s at b = omega arith
+word-below (suc n) s at b = rw pow-suc (omega (arith, word-below n s (at + 1) b, b at))
+
+-- words are equal where their bytes are
+pub word-ext : (n : ℕ) (s t : List ℕ) (at to : ℕ) → ((k : ℕ) → k < n → getD s (at + k) 0 ≡ getD t (to + k) 0)
+    → wordAt n s at ≡ wordAt n t to
+unfolding wordAt
+word-ext zero s t at to h = refl
+word-ext (suc n) s t at to h =
+    let e : getD s at 0 ≡ getD t to 0 = simp add-zero at (h 0 (omega arith)) in
+    let f : wordAt n s (at + 1) ≡ wordAt n t (to + 1) =
+    word-ext n s t (at + 1) (to + 1)
+    (λ k l.
+    let a : at + 1 + k ≡ at + suc k = omega arith in
+    let b : to + 1 + k ≡ to + suc k = omega arith in
+    rw (a, b) (h (suc k) (omega arith))) in
+    rw (e, f)
+
+-- a store elsewhere changes no word
+pub word-beside : (n : ℕ) (s : List ℕ) (at i : ℕ) (vs : List ℕ) → (at + n ≤ i) ⊎ (i + length vs ≤ at)
+    → wordAt n (sets s i vs) at ≡ wordAt n s at
+word-beside n s at i vs h =
+    word-ext n (sets s i vs) s at at
+    (λ k l. getD-beside s i vs (at + k) 0 (⊎-elim (λ a. inl (omega arith)) (λ b. inr (omega arith)) h))
+
+bytes-word : (n x : ℕ) → wordAt n (bytesOf n x) 0 ≡ x % 256 ^ n
+unfolding wordAt bytesOf
+bytes-word zero x = sym (mod-one x)
+bytes-word (suc n) x =
+    let e : wordAt n (x % 256 ∷ bytesOf n (x / 256)) 1 ≡ x / 256 % 256 ^ n =
+    word-ext n (x % 256 ∷ bytesOf n (x / 256)) (bytesOf n (x / 256)) 1 0
+    (λ k l.
+    let a : 1 + k ≡ suc k = omega arith in
+    rw (a, zero-add))
+    ∙ bytes-word n (x / 256) in
+    omega (arith, e, mod-step n x)
+
+-- what was stored is loaded
+pub word-back : (n : ℕ) (s : List ℕ) (at x : ℕ) → at + n ≤ length s → wordAt n (sets s at (bytesOf n x)) at ≡ x % 256 ^ n
+word-back n s at x h =
+    word-ext n (sets s at (bytesOf n x)) (bytesOf n x) at 0
+    (λ k l. rw zero-add (getD-sets s at (bytesOf n x) k 0 (omega (arith, length-bytes n x)) (omega (arith, length-bytes n x))))
+    ∙ bytes-word n x
+
+-- what was loaded is those bytes
+pub bytes-back : (n : ℕ) (s : List ℕ) (at : ℕ) → Bytes s → at + n ≤ length s → bytesOf n (wordAt n s at) ≡ part s at n
+unfolding wordAt bytesOf part
+bytes-back zero s at b h = refl
+bytes-back (suc n) s at b h =
+    let w : ℕ = wordAt n s (at + 1) in
+    let e : (getD s at 0 + 256 * w) % 256 ≡ getD s at 0 = omega (arith, b at) in
+    let f : (getD s at 0 + 256 * w) / 256 ≡ w = omega (arith, b at) in
+    let g : at + 1 ≡ suc at = omega arith in
+    rw (e, f, drop-cons s at 0 (omega arith), ← g) (ap (λ (l : List ℕ). getD s at 0 ∷ l) (bytes-back n s (at + 1) b (omega arith)))

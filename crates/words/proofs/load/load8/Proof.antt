@@ -1,0 +1,16 @@
+-- `words::load8` meets its contract: a word of one byte is that byte.
+use borrow.Author.Needs.{needs}
+use native.Mathlib.Omega.{arith}
+use Rattle.words.specs.Words.{wordAt}
+use Rattle.words.proofs.load.load8.Statement.{statement}
+use Rattle.words.proofs.load.load8.Tie as tie
+
+shared-slice-read-result : tie.Need-shared-slice-read-result
+shared-slice-read-result c = search needs
+
+returns : tie.Need-returns
+unfolding wordAt
+returns c = omega arith
+
+pub load8-spec : {M : Type 1} → statement M
+load8-spec = tie.close (tie.spec shared-slice-read-result returns)

@@ -1,0 +1,16 @@
+// Little-endian words and single bits of byte slices: the few functions, and all the laws, that the
+// crates `types` and `values` share. Each function asks only that its place lies inside the slice.
+mod bits;
+mod load;
+mod store;
+
+pub use bits::bit_at;
+pub use bits::set_bit;
+pub use load::load8;
+pub use load::load16;
+pub use load::load32;
+pub use load::load64;
+pub use store::store8;
+pub use store::store16;
+pub use store::store32;
+pub use store::store64;
