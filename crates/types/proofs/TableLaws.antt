@@ -18,11 +18,12 @@ use Rattle.types.specs.declared.member.Ty.the-variants.{Atomic as atomic
 use Rattle.types.specs.declared.member.Bit.{Bit}
 use Rattle.types.specs.declared.member.Bit.the-variants.{None, At}
 use Rattle.types.specs.declared.member.Member.{Member}
+use Rattle.types.specs.declared.member.Span.{Span}
 use Rattle.types.specs.declared.member.StructKind.{StructKind}
 use Rattle.types.specs.declared.member.StructKind.the-variants.{Udt, Predefined, Str, Aoi}
 use Rattle.types.specs.declared.member.StructDef.{StructDef}
 use Rattle.types.specs.Atomic.{numOf, atomicAt}
-use Rattle.types.specs.Tables.{tyWord, tyOf, bitWord, bitOf, flagsOf, kindWord, kindOf, memberRow, memberAt, typeRow, typeAt}
+use Rattle.types.specs.Tables.{tyWord, tyOf, bitWord, bitOf, flagsOf, kindWord, kindOf, memberRow, memberAt, nameAt, typeRow, typeAt}
 use Rattle.types.proofs.AtomicLaws.{at-num, num-below}
 
 -- ---- words
@@ -125,31 +126,45 @@ pub record Storable (m : Member) : Type 0 where
   pub bit : BitFits (m .bit)
   pub access : m .access < 256
 
-member-words : (t : List ℕ) (i : ℕ) (m : Member) → 8 * i + 8 ≤ length t
-    → Eight (sets t (8 * i) (memberRow m)) i (m .name) (m .long) (tyWord (m .ty)) (m .count) (m .offset) (bitWord (m .bit))
+member-words : (t : List ℕ) (i : ℕ) (n : Span) (m : Member) → 8 * i + 8 ≤ length t
+    → Eight (sets t (8 * i) (memberRow n m)) i (n .at) (n .long) (tyWord (m .ty)) (m .count) (m .offset) (bitWord (m .bit))
     (flagsOf (m .hidden) (m .local)) (m .access)
 unfolding memberRow
-member-words t i m h = stored t i _ _ _ _ _ _ _ _ h
+member-words t i n m h = stored t i _ _ _ _ _ _ _ _ h
 
-member-long : (m : Member) → length (memberRow m) ≡ 8
+member-long : (n : Span) (m : Member) → length (memberRow n m) ≡ 8
 unfolding memberRow
-member-long m = refl
+member-long n m = refl
 
 -- a stored member is read back
-pub member-back : (t : List ℕ) (i : ℕ) (m : Member) → 8 * i + 8 ≤ length t → Storable m
-    → memberAt (sets t (8 * i) (memberRow m)) i ≡ m
+pub member-back : (t : List ℕ) (i : ℕ) (n : Span) (m : Member) → 8 * i + 8 ≤ length t → Storable m
+    → memberAt (sets t (8 * i) (memberRow n m)) i ≡ m
 unfolding memberAt
-member-back t i m h s =
-    let w = member-words t i m h in
+member-back t i n m h s =
+    let w = member-words t i n m h in
     let a : m .access % 256 ≡ m .access = omega (arith, s .access) in
     simp (w .w0, w .w1, w .w2, w .w3, w .w4, w .w5, w .w6, w .w7, ty-back, bit-back (m .bit) (s .bit), hidden-back, local-back, a)
 
+pub name-back : (t : List ℕ) (i : ℕ) (n : Span) (m : Member) → 8 * i + 8 ≤ length t
+    → nameAt (sets t (8 * i) (memberRow n m)) i ≡ n
+unfolding nameAt
+name-back t i n m h =
+    let w = member-words t i n m h in
+    simp (w .w0, w .w1)
+
 -- and the other members stay
-pub member-beside : (t : List ℕ) (i j : ℕ) (m : Member) → j ≢ i → memberAt (sets t (8 * i) (memberRow m)) j ≡ memberAt t j
+pub member-beside : (t : List ℕ) (i j : ℕ) (n : Span) (m : Member) → j ≢ i → memberAt (sets t (8 * i) (memberRow n m)) j ≡ memberAt t j
 unfolding memberAt
-member-beside t i j m n =
-    let w = beside t (memberRow m) i j (member-long m) n in
+member-beside t i j n m d =
+    let w = beside t (memberRow n m) i j (member-long n m) d in
     simp (w .w0, w .w1, w .w2, w .w3, w .w4, w .w5, w .w6, w .w7)
+
+pub name-beside : (t : List ℕ) (i j : ℕ) (n : Span) (m : Member) → j ≢ i
+    → nameAt (sets t (8 * i) (memberRow n m)) j ≡ nameAt t j
+unfolding nameAt
+name-beside t i j n m d =
+    let w = beside t (memberRow n m) i j (member-long n m) d in
+    simp (w .w0, w .w1)
 
 -- ---- structures
 
@@ -159,7 +174,7 @@ pub record TypeStorable (d : StructDef) : Type 0 where
   pub handle : d .handle < 65536
 
 type-words : (t : List ℕ) (i : ℕ) (d : StructDef) → 8 * i + 8 ≤ length t
-    → Eight (sets t (8 * i) (typeRow d)) i (d .name) (d .long) (d .id) (d .handle) (d .size) (kindWord (d .kind)) (d .first) (d .count)
+    → Eight (sets t (8 * i) (typeRow d)) i (d .name .at) (d .name .long) (d .id) (d .handle) (d .size) (kindWord (d .kind)) (d .first) (d .count)
 unfolding typeRow
 type-words t i d h = stored t i _ _ _ _ _ _ _ _ h
 

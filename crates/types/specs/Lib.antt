@@ -1,8 +1,11 @@
 -- The definitions that crate `types` is proved against, a module for each paragraph of document 01.
 pub mod Atomic
+pub mod Defs
 pub mod Handle
 pub mod Layout
 pub mod Names
 pub mod Refusal
 pub mod Tables
+pub mod Template
+pub mod Waste
 pub mod Cases

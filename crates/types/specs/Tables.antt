@@ -9,6 +9,7 @@ use Rattle.types.specs.declared.member.Ty.the-variants.{Atomic, Struct}
 use Rattle.types.specs.declared.member.Bit.{Bit}
 use Rattle.types.specs.declared.member.Bit.the-variants.{None, At}
 use Rattle.types.specs.declared.member.Member.{Member}
+use Rattle.types.specs.declared.member.Span.{Span}
 use Rattle.types.specs.declared.member.StructKind.{StructKind}
 use Rattle.types.specs.declared.member.StructKind.the-variants.{Udt, Predefined, Str, Aoi}
 use Rattle.types.specs.declared.member.StructDef.{StructDef}
@@ -48,15 +49,17 @@ kindWord Aoi = 3
 unfoldable pub kindOf : ℕ → StructKind
 kindOf w = cond (eqb w 1) Predefined (cond (eqb w 2) Str (cond (eqb w 3) Aoi Udt))
 
-unfoldable pub memberRow : Member → List ℕ
-memberRow m =
-    m .name ∷ m .long ∷ tyWord (m .ty) ∷ m .count ∷ m .offset ∷ bitWord (m .bit) ∷ flagsOf (m .hidden) (m .local) ∷ m .access ∷ []
+-- a member's row: where its name stands, and the member
+unfoldable pub memberRow : Span → Member → List ℕ
+memberRow s m =
+    s .at ∷ s .long ∷ tyWord (m .ty) ∷ m .count ∷ m .offset ∷ bitWord (m .bit) ∷ flagsOf (m .hidden) (m .local) ∷ m .access ∷ []
+
+unfoldable pub nameAt : List ℕ → ℕ → Span
+nameAt t row = record { at = getD t (8 * row) 0; long = getD t (8 * row + 1) 0 }
 
 unfoldable pub memberAt : List ℕ → ℕ → Member
 memberAt t row =
     record {
-      name = getD t (8 * row) 0;
-      long = getD t (8 * row + 1) 0;
       ty = tyOf (getD t (8 * row + 2) 0);
       count = getD t (8 * row + 3) 0;
       offset = getD t (8 * row + 4) 0;
@@ -66,15 +69,15 @@ memberAt t row =
       access = getD t (8 * row + 7) 0 % 256;
     }
 
+-- a structure's row
 unfoldable pub typeRow : StructDef → List ℕ
 typeRow d =
-    d .name ∷ d .long ∷ d .id ∷ d .handle ∷ d .size ∷ kindWord (d .kind) ∷ d .first ∷ d .count ∷ []
+    d .name .at ∷ d .name .long ∷ d .id ∷ d .handle ∷ d .size ∷ kindWord (d .kind) ∷ d .first ∷ d .count ∷ []
 
 unfoldable pub typeAt : List ℕ → ℕ → StructDef
 typeAt t i =
     record {
-      name = getD t (8 * i) 0;
-      long = getD t (8 * i + 1) 0;
+      name = record { at = getD t (8 * i) 0; long = getD t (8 * i + 1) 0 };
       id = getD t (8 * i + 2) 0 % 65536;
       handle = getD t (8 * i + 3) 0 % 65536;
       size = getD t (8 * i + 4) 0;

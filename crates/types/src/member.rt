@@ -13,10 +13,14 @@ pub enum Bit {
     At(u8),
 }
 
-// A member of a structure. Its name is the `long` bytes at `name`; a count of 0 is one element.
-pub struct Member {
-    pub name: u32,
+// Where a name stands: `long` bytes from `at` on.
+pub struct Span {
+    pub at: u32,
     pub long: u32,
+}
+
+// A member of a structure, but for its name. A count of 0 is one element.
+pub struct Member {
     pub ty: Ty,
     pub count: u32,
     pub offset: u32,
@@ -35,8 +39,7 @@ pub enum StructKind {
 
 // A structure: its name, id, handle and size, and which rows of the members are its own.
 pub struct StructDef {
-    pub name: u32,
-    pub long: u32,
+    pub name: Span,
     pub id: u16,
     pub handle: u16,
     pub size: u32,

@@ -4,10 +4,11 @@ ghost use mathlib.Core.Path.{_≡_};
 ghost use Prim.Native.Nat.{_*_, _<_, _%_};
 ghost use lib.Seq.{sets};
 ghost use Rattle.types.specs.Tables.{tyWord, tyOf, bitWord, bitOf, flagsOf, kindWord, kindOf, TyFits};
-ghost use Rattle.types.specs.Tables.{memberRow, memberAt, typeRow, typeAt};
+ghost use Rattle.types.specs.Tables.{memberRow, memberAt, nameAt, typeRow, typeAt};
 use crate::atomic::Atomic;
 use crate::member::Bit;
 use crate::member::Member;
+use crate::member::Span;
 use crate::member::StructDef;
 use crate::member::StructKind;
 use crate::member::Ty;
@@ -135,8 +136,6 @@ pub fn member_at(members: &MemberTable, row: usize) -> Member
     let flags = members[at + 6];
     let access = low8(members[at + 7]);
     Member {
-        name: members[at],
-        long: members[at + 1],
         ty,
         count: members[at + 3],
         offset: members[at + 4],
@@ -147,16 +146,28 @@ pub fn member_at(members: &MemberTable, row: usize) -> Member
     }
 }
 
+// Where the name of the member in a row stands.
+pub fn name_at(members: &MemberTable, row: usize) -> Span
+    requires { ⌜ row < 2000 ⌝ }
+    ensures { λ r. ⌜ r ≡ nameAt (now (members .entry)) row ⌝ }
+{
+    let at = MEMBER_WORDS * row;
+    Span {
+        at: members[at],
+        long: members[at + 1],
+    }
+}
+
 // Stores a member's row; the other rows stay.
-pub fn put_member(members: &mut MemberTable, row: usize, m: Member)
+pub fn put_member(members: &mut MemberTable, row: usize, name: Span, m: Member)
     requires { ⌜ (row < 2000) × TyFits (m .ty) ⌝ }
-    ensures { λ _. ⌜ now (members .exit) ≡ sets (now (members .entry)) (8 * row) (memberRow m) ⌝ }
+    ensures { λ _. ⌜ now (members .exit) ≡ sets (now (members .entry)) (8 * row) (memberRow name m) ⌝ }
 {
     let at = MEMBER_WORDS * row;
     let ty = m.ty;
     let bit = m.bit;
-    members[at] = m.name;
-    members[at + 1] = m.long;
+    members[at] = name.at;
+    members[at + 1] = name.long;
     members[at + 2] = ty_word(ty);
     members[at + 3] = m.count;
     members[at + 4] = m.offset;
@@ -174,9 +185,12 @@ pub fn type_at(types: &TypeTable, i: usize) -> StructDef
     let id = low16(types[at + 2]);
     let handle = low16(types[at + 3]);
     let kind = kind_of(types[at + 5]);
-    StructDef {
-        name: types[at],
+    let name = Span {
+        at: types[at],
         long: types[at + 1],
+    };
+    StructDef {
+        name,
         id,
         handle,
         size: types[at + 4],
@@ -192,9 +206,10 @@ pub fn put_type(types: &mut TypeTable, i: usize, d: StructDef)
     ensures { λ _. ⌜ now (types .exit) ≡ sets (now (types .entry)) (8 * i) (typeRow d) ⌝ }
 {
     let at = TYPE_WORDS * i;
+    let name = d.name;
     let kind = d.kind;
-    types[at] = d.name;
-    types[at + 1] = d.long;
+    types[at] = name.at;
+    types[at + 1] = name.long;
     types[at + 2] = d.id as u32;
     types[at + 3] = d.handle as u32;
     types[at + 4] = d.size;

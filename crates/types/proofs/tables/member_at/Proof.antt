@@ -52,43 +52,28 @@ element-copy-out-low8 c = search needs
 low8-requires : tie.Need-low8-requires
 low8-requires c κs = search needs
 
-mul-t8 : tie.Need-mul-t8
-mul-t8 c = search needs
+add-t8 : tie.Need-add-t8
+add-t8 c = search needs
+
+mul-t9 : tie.Need-mul-t9
+mul-t9 c = search needs
 
 element-copy-out-t12 : tie.Need-element-copy-out-t12
 element-copy-out-t12 c = search needs
 
-add-t9 : tie.Need-add-t9
-add-t9 c = search needs
+add-t21 : tie.Need-add-t21
+add-t21 c = search needs
 
-mul-t21 : tie.Need-mul-t21
-mul-t21 c = search needs
+mul-t22 : tie.Need-mul-t22
+mul-t22 c = search needs
 
-element-copy-out-t24 : tie.Need-element-copy-out-t24
-element-copy-out-t24 c = search needs
-
-add-t25 : tie.Need-add-t25
-add-t25 c = search needs
-
-mul-t26 : tie.Need-mul-t26
-mul-t26 c = search needs
-
-element-copy-out-t29 : tie.Need-element-copy-out-t29
-element-copy-out-t29 c = search needs
-
-add-t30 : tie.Need-add-t30
-add-t30 c = search needs
-
-mul-t31 : tie.Need-mul-t31
-mul-t31 c = search needs
-
-element-copy-out-t34 : tie.Need-element-copy-out-t34
-element-copy-out-t34 c = search needs
+element-copy-out-t25 : tie.Need-element-copy-out-t25
+element-copy-out-t25 c = search needs
 
 returns : tie.Need-returns
 unfolding memberAt
 returns c =
-    let access = c .before .before .before .before in
+    let access = c .before .before in
     let bit = access .before .before .before in
     rw (access .low8 .ensures, bit .bit-of .ensures, bit .before .before .ty-of .ensures)
 
@@ -112,15 +97,10 @@ member-at-spec =
     mul-low8
     element-copy-out-low8
     low8-requires
-    mul-t8
+    add-t8
+    mul-t9
     element-copy-out-t12
-    add-t9
-    mul-t21
-    element-copy-out-t24
-    add-t25
-    mul-t26
-    element-copy-out-t29
-    add-t30
-    mul-t31
-    element-copy-out-t34
+    add-t21
+    mul-t22
+    element-copy-out-t25
     returns)

@@ -90,7 +90,7 @@ element-write-types-8 c = search needs
 returns : tie.Need-returns
 unfolding typeRow
 returns c =
-    let a = c .before .before .before .args in
+    let a = c .before .before .before .before .args in
     rw (← c .kind-word .ensures) (eight (a .types .now) (8 * a .i) _ _ _ _ _ _ _ _)
 
 pub put-type-spec : {M : Type 1} → statement M

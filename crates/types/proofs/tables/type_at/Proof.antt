@@ -43,47 +43,47 @@ element-copy-out-kind-of c = search needs
 kind-of-requires : tie.Need-kind-of-requires
 kind-of-requires c κs = search needs
 
-mul-t7 : tie.Need-mul-t7
-mul-t7 c = search needs
+mul-t8 : tie.Need-mul-t8
+mul-t8 c = search needs
 
-element-copy-out-t11 : tie.Need-element-copy-out-t11
-element-copy-out-t11 c = search needs
+element-copy-out-t12 : tie.Need-element-copy-out-t12
+element-copy-out-t12 c = search needs
+
+add-t9 : tie.Need-add-t9
+add-t9 c = search needs
+
+mul-t19 : tie.Need-mul-t19
+mul-t19 c = search needs
+
+element-copy-out-t22 : tie.Need-element-copy-out-t22
+element-copy-out-t22 c = search needs
 
 add-t8 : tie.Need-add-t8
 add-t8 c = search needs
 
-mul-t18 : tie.Need-mul-t18
-mul-t18 c = search needs
+mul-t9 : tie.Need-mul-t9
+mul-t9 c = search needs
 
-element-copy-out-t21 : tie.Need-element-copy-out-t21
-element-copy-out-t21 c = search needs
+element-copy-out-t22-2 : tie.Need-element-copy-out-t22-2
+element-copy-out-t22-2 c = search needs
 
-add-t22 : tie.Need-add-t22
-add-t22 c = search needs
+add-t19 : tie.Need-add-t19
+add-t19 c = search needs
 
-mul-t23 : tie.Need-mul-t23
-mul-t23 c = search needs
+mul-t25 : tie.Need-mul-t25
+mul-t25 c = search needs
 
-element-copy-out-t26 : tie.Need-element-copy-out-t26
-element-copy-out-t26 c = search needs
+element-copy-out-t12-2 : tie.Need-element-copy-out-t12-2
+element-copy-out-t12-2 c = search needs
 
-add-t27 : tie.Need-add-t27
-add-t27 c = search needs
+add-t28 : tie.Need-add-t28
+add-t28 c = search needs
 
-mul-t28 : tie.Need-mul-t28
-mul-t28 c = search needs
+mul-t29 : tie.Need-mul-t29
+mul-t29 c = search needs
 
-element-copy-out-t31 : tie.Need-element-copy-out-t31
-element-copy-out-t31 c = search needs
-
-add-t32 : tie.Need-add-t32
-add-t32 c = search needs
-
-mul-t33 : tie.Need-mul-t33
-mul-t33 c = search needs
-
-element-copy-out-t36 : tie.Need-element-copy-out-t36
-element-copy-out-t36 c = search needs
+element-copy-out-t32 : tie.Need-element-copy-out-t32
+element-copy-out-t32 c = search needs
 
 returns : tie.Need-returns
 unfolding typeAt
@@ -109,18 +109,18 @@ type-at-spec =
     mul-kind-of
     element-copy-out-kind-of
     kind-of-requires
-    mul-t7
-    element-copy-out-t11
+    mul-t8
+    element-copy-out-t12
+    add-t9
+    mul-t19
+    element-copy-out-t22
     add-t8
-    mul-t18
-    element-copy-out-t21
-    add-t22
-    mul-t23
-    element-copy-out-t26
-    add-t27
-    mul-t28
-    element-copy-out-t31
-    add-t32
-    mul-t33
-    element-copy-out-t36
+    mul-t9
+    element-copy-out-t22-2
+    add-t19
+    mul-t25
+    element-copy-out-t12-2
+    add-t28
+    mul-t29
+    element-copy-out-t32
     returns)
