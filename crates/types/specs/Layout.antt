@@ -1,10 +1,23 @@
--- Layout (document 01, "Layout"): where a member ends.
-use Prim.Native.Nat.{ℕ, _+_, _*_, _^_, _<_}
+-- Layout (document 01, "Layout"): where a declared member goes, as a step from a cursor to what lies where and the next
+-- cursor. The UDT paragraph is `place`; an AOI differs only in that its BOOLs share the hosts at its start.
+use Prim.Native.Nat.{ℕ, _+_, _-_, _*_, _/_, _%_, _^_, _<_, _≤_}
 use mathlib.Core.Path.{_≡_}
-use mathlib.Core.Bool.{cond}
-use lib.Dec.{eqb, leb}
+use mathlib.Core.Bool.{Bool, true, false, cond, _||_}
+use lib.Dec.{eqb, leb, ltb}
+use Rattle.types.specs.declared.atomic.Atomic.the-variants.{Bool as BOOL, SInt}
+use Rattle.types.specs.declared.layout.Cursor.{Cursor}
+use Rattle.types.specs.declared.layout.Decl.{Decl}
 use Rattle.types.specs.declared.layout.End.{End}
-use Rattle.types.specs.declared.layout.End.the-variants.{At, Over}
+use Rattle.types.specs.declared.layout.End.the-variants.{At as endAt, Over}
+use Rattle.types.specs.declared.layout.Host.{Host}
+use Rattle.types.specs.declared.layout.Host.the-variants.{Closed, Open, Shared}
+use Rattle.types.specs.declared.layout.Placed.{Placed}
+use Rattle.types.specs.declared.layout.Placed.the-variants.{Hosted, One, AccessWrong, TooFar}
+use Rattle.types.specs.declared.member.Bit.the-variants.{None, At}
+use Rattle.types.specs.declared.member.Member.{Member}
+use Rattle.types.specs.declared.member.Ty.{Ty}
+use Rattle.types.specs.declared.member.Ty.the-variants.{Atomic, Struct}
+use Rattle.types.specs.Atomic.{numOf}
 
 -- a count of 0 is one element
 unfoldable pub times : ℕ → ℕ
@@ -15,6 +28,97 @@ pub record Times (n r : ℕ) : Type 0 where
   pub small : r < 2 ^ 32
 
 -- a member must end at or below 2^26
+abbrev pub most : ℕ
+most = 67108864
+
 unfoldable pub memberEnd : ℕ → ℕ → ℕ → End
 memberEnd offset size count =
-    cond (leb (offset + size * times count) 67108864) (At (offset + size * times count)) Over
+    cond (leb (offset + size * times count) most) (endAt (offset + size * times count)) Over
+
+-- access 0, 2 or 3
+unfoldable pub accessOk : ℕ → Bool
+accessOk a = eqb a 0 || eqb a 2 || eqb a 3
+
+unfoldable pub isBool : Ty → Bool
+isBool (Atomic a) = eqb (numOf a) 0
+isBool (Struct n) = false
+
+-- the lowest multiple of a from x on
+unfoldable pub alignUp : ℕ → ℕ → ℕ
+alignUp x a = (x + (a - 1)) / a * a
+
+-- a hidden SINT host at an offset
+abbrev pub hostAt : ℕ → Member
+hostAt o = record { ty = Atomic SInt; count = 0; offset = o; bit = None; hidden = true; local = false; access = 0 }
+
+-- a declared BOOL at a bit
+abbrev pub boolAt : Decl → ℕ → ℕ → Member
+boolAt d byte bit =
+    record { ty = Atomic BOOL; count = 0; offset = byte; bit = At bit; hidden = false; local = d .local; access = d .access }
+
+-- any other declared member at an offset
+abbrev pub otherAt : Decl → ℕ → Member
+otherAt d o =
+    record { ty = d .ty; count = d .count; offset = o; bit = None; hidden = false; local = d .local; access = d .access }
+
+-- a hidden host opens at the current offset, which grows by 1, and the BOOL takes its bit 0
+unfoldable pub opened : Cursor → Decl → Placed
+opened c d =
+    Hosted (hostAt (c .offset)) (boolAt d (c .offset) 0)
+    (record { offset = c .offset + 1; host = Open (c .offset) 1; members = c .members + 2 })
+
+-- the BOOL takes a bit of a host that stands already
+unfoldable pub nextBit : Cursor → Decl → ℕ → ℕ → Host → Placed
+nextBit c d byte bit host =
+    One (boolAt d byte bit) (record { offset = c .offset; host = host; members = c .members + 1 })
+
+-- a BOOL takes the next bit of the open host; with no host, or eight used, a host opens. In an AOI the i-th BOOL is at byte
+-- 4 * floor(i / 32) + floor((i mod 32) / 8), bit i mod 8
+unfoldable pub placeBool : Host → Cursor → Decl → Placed
+placeBool Closed c d = opened c d
+placeBool (Open byte bit) c d = cond (ltb bit 8) (nextBit c d byte bit (Open byte (bit + 1))) (opened c d)
+placeBool (Shared i) c d = nextBit c d (4 * (i / 32) + i % 32 / 8) (i % 8) (Shared (i + 1))
+
+-- any other member closes the host; an AOI's hosts are shared to the end
+unfoldable pub closed : Host → Host
+closed Closed = Closed
+closed (Open byte bit) = Closed
+closed (Shared i) = Shared i
+
+-- where any other member begins, and where it ends
+unfoldable pub startOf : Cursor → Decl → ℕ
+startOf c d = alignUp (c .offset) (d .align)
+
+unfoldable pub endOf : Cursor → Decl → ℕ
+endOf c d = startOf c d + d .size * times (d .count)
+
+-- any other member closes the host, is aligned, and must end at or below 2^26
+unfoldable pub placeOther : Cursor → Decl → Placed
+placeOther c d =
+    cond (leb (endOf c d) most)
+    (One (otherAt d (startOf c d)) (record { offset = endOf c d; host = closed (c .host); members = c .members + 1 }))
+    TooFar
+
+-- one declared member: first its access, then a BOOL (dim 0) or any other
+unfoldable pub placed : Cursor → Decl → Placed
+placed c d =
+    cond (accessOk (d .access))
+    (cond (isBool (d .ty)) (placeBool (c .host) c d) (placeOther c d))
+    AccessWrong
+
+-- what keeps the sums of one step inside 32 bits
+pub record Aligned (x align : ℕ) : Type 0 where
+  pub far : x ≤ 2 ^ 27
+  pub least : 0 < align
+  pub most : align ≤ 4
+
+-- so many BOOLs have come before, in an AOI
+abbrev pub sharedBits : Host → ℕ
+sharedBits Closed = 0
+sharedBits (Open byte bit) = 0
+sharedBits (Shared i) = i
+
+pub record Able (c : Cursor) (d : Decl) : Type 0 where
+  pub aligned : Aligned (c .offset) (d .align)
+  pub members : c .members ≤ 2 ^ 27
+  pub bits : sharedBits (c .host) ≤ 2 ^ 27

@@ -1,0 +1,27 @@
+-- `types::align_up` meets its contract.
+use native.Mathlib.Omega.{arith}
+use borrow.Author.Needs.{needs}
+use mathlib.Core.Path.{refl}
+use Rattle.types.specs.Layout.{alignUp}
+use Rattle.types.proofs.LayoutLaws.{align-most}
+use Rattle.types.proofs.layout.align_up.Statement.{statement}
+use Rattle.types.proofs.layout.align_up.Tie as tie
+
+sub-result : tie.Need-sub-result
+sub-result c = search needs
+
+add-result : tie.Need-add-result
+add-result c = search needs
+
+div-result : tie.Need-div-result
+div-result c = search needs
+
+mul-result : tie.Need-mul-result
+mul-result c = omega (arith, align-most (c .args .x) (c .args .align), c .pre .far, c .pre .most)
+
+returns : tie.Need-returns
+unfolding alignUp
+returns c = refl
+
+pub align-up-spec : {M : Type 1} → statement M
+align-up-spec = tie.close (tie.spec sub-result add-result div-result mul-result returns)

@@ -1,0 +1,30 @@
+-- `types::close` meets its contract.
+use borrow.Author.Needs.{needs}
+use mathlib.Core.Path.{sym, ap}
+use Rattle.types.specs.Layout.{closed}
+use Rattle.types.proofs.layout.close.Statement.{statement}
+use Rattle.types.proofs.layout.close.Tie as tie
+
+enum-told : tie.Need-enum-told
+enum-told c = search needs
+
+enum-told-2 : tie.Need-enum-told-2
+enum-told-2 c = search needs
+
+enum-known-host : tie.Need-enum-known-host
+enum-known-host c = search needs
+
+returns : tie.Need-returns
+unfolding closed
+returns c = sym (ap closed (c .enum-told .given .1))
+
+returns-2 : tie.Need-returns-2
+unfolding closed
+returns-2 c = sym (ap closed (c .enum-told2 .given .1))
+
+returns-3 : tie.Need-returns-3
+unfolding closed
+returns-3 c = sym (ap closed (c .before .host .given .1))
+
+pub close-spec : {M : Type 1} → statement M
+close-spec = tie.close (tie.spec enum-told enum-told-2 enum-known-host returns returns-2 returns-3)

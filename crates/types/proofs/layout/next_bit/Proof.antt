@@ -1,0 +1,16 @@
+-- `types::next_bit` meets its contract.
+use borrow.Author.Needs.{needs}
+use mathlib.Core.Path.{refl}
+use Rattle.types.specs.Layout.{nextBit}
+use Rattle.types.proofs.layout.next_bit.Statement.{statement}
+use Rattle.types.proofs.layout.next_bit.Tie as tie
+
+add-t10 : tie.Need-add-t10
+add-t10 c = search needs
+
+returns : tie.Need-returns
+unfolding nextBit
+returns c = refl
+
+pub next-bit-spec : {M : Type 1} → statement M
+next-bit-spec = tie.close (tie.spec add-t10 returns)

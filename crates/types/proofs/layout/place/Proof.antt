@@ -1,0 +1,49 @@
+-- `types::place` meets its contract.
+use borrow.Author.Needs.{needs}
+use mathlib.Core.Path.{sym, _∙_}
+use Rattle.types.proofs.LayoutLaws.{placed-bool, placed-other, placed-wrong}
+use Rattle.types.proofs.layout.place.Statement.{statement}
+use Rattle.types.proofs.layout.place.Tie as tie
+
+access-ok-requires : tie.Need-access-ok-requires
+access-ok-requires c κs = search needs
+
+is-bool-requires : tie.Need-is-bool-requires
+is-bool-requires c κs = search needs
+
+place-bool-requires : tie.Need-place-bool-requires
+place-bool-requires c κs = search needs
+
+returns : tie.Need-returns
+returns c =
+    let way = c .before .before in
+    let a = way .before .before .before .args in
+    c .place-bool .ensures
+    ∙ placed-bool (a .c) (a .d) (sym (way .before .before .access-ok .ensures) ∙ way .before .if1 .taken)
+    (sym (way .is-bool .ensures) ∙ c .before .if2 .taken)
+
+place-other-requires : tie.Need-place-other-requires
+place-other-requires c κs = search needs
+
+returns-2 : tie.Need-returns-2
+returns-2 c =
+    let way = c .before .before in
+    let a = way .before .before .before .args in
+    c .place-other .ensures
+    ∙ placed-other (a .c) (a .d) (sym (way .before .before .access-ok .ensures) ∙ way .before .if1 .taken)
+    (sym (way .is-bool .ensures) ∙ c .before .if2 .left)
+
+returns-3 : tie.Need-returns-3
+returns-3 c = placed-wrong (c .before .before .args .c) (c .before .before .args .d) (sym (c .before .access-ok .ensures) ∙ c .if1 .left)
+
+pub place-spec : {M : Type 1} → statement M
+place-spec =
+    tie.close
+    (tie.spec
+    access-ok-requires
+    is-bool-requires
+    place-bool-requires
+    returns
+    place-other-requires
+    returns-2
+    returns-3)

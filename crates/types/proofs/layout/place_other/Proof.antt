@@ -1,0 +1,54 @@
+-- `types::place_other` meets its contract: the end decides.
+use borrow.Author.Needs.{needs}
+use mathlib.Core.Path.{_∙_}
+use Rattle.types.specs.Layout.{startOf}
+use Rattle.types.proofs.LayoutLaws.{other-over, other-at}
+use Rattle.types.proofs.layout.place_other.Statement.{statement}
+use Rattle.types.proofs.layout.place_other.Tie as tie
+
+align-up-requires : tie.Need-align-up-requires
+align-up-requires c κs = search needs
+
+member-end-requires : tie.Need-member-end-requires
+member-end-requires c κs = search needs
+
+close-requires : tie.Need-close-requires
+close-requires c κs = search needs
+
+enum-told : tie.Need-enum-told
+enum-told c = search needs
+
+enum-known-end : tie.Need-enum-known-end
+enum-known-end c = search needs
+
+add-t12 : tie.Need-add-t12
+add-t12 c = search needs
+
+returns : tie.Need-returns
+unfolding startOf
+returns c =
+    let end = c .before .before .before in
+    let a = end .before .before .args in
+    other-over (a .c) (a .d) _ _ (end .before .align-up .ensures) (end .member-end .ensures) (c .enum-told .given .1)
+
+returns-2 : tie.Need-returns-2
+unfolding startOf
+returns-2 c =
+    let way = c .before .before in
+    let end = way .before .before .before in
+    let a = end .before .before .args in
+    other-at (a .c) (a .d) _ _ (end .before .align-up .ensures) (end .member-end .ensures) _ _ (way .end .given .1)
+    (way .before .before .close .ensures)
+
+pub place-other-spec : {M : Type 1} → statement M
+place-other-spec =
+    tie.close
+    (tie.spec
+    align-up-requires
+    member-end-requires
+    close-requires
+    enum-told
+    enum-known-end
+    add-t12
+    returns
+    returns-2)
