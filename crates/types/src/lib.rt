@@ -3,6 +3,7 @@
 mod atomic;
 mod handle;
 mod layout;
+mod measure;
 mod member;
 mod names;
 mod refusal;
@@ -20,6 +21,7 @@ pub use layout::Host;
 pub use layout::Placed;
 pub use layout::member_end;
 pub use layout::place;
+pub use measure::Measured;
 pub use member::Bit;
 pub use member::Member;
 pub use member::Span;

@@ -1,0 +1,144 @@
+-- Whole layouts (document 01, "Layout"): a UDT's and an AOI's parts from their declared members, a string's and the predefined
+-- types' parts, and their sizes.
+use Prim.Native.Nat.{ℕ, zero, suc, _+_, _*_, _/_, _%_, _-_}
+use mathlib.Core.Bool.{Bool, true, false, cond}
+use mathlib.Core.List.{List, [], _∷_, _++_}
+use lib.ListN.{length}
+use Rattle.types.specs.declared.atomic.Atomic.the-variants.{Bool as BOOL, SInt, DInt}
+use Rattle.types.specs.declared.layout.Cursor.{Cursor}
+use Rattle.types.specs.declared.layout.Decl.{Decl}
+use Rattle.types.specs.declared.layout.Host.the-variants.{Closed, Shared}
+use Rattle.types.specs.declared.layout.Placed.{Placed}
+use Rattle.types.specs.declared.layout.Placed.the-variants.{Hosted, One, AccessWrong, TooFar}
+use Rattle.types.specs.declared.measure.Measured.{Measured}
+use Rattle.types.specs.declared.measure.Measured.the-variants.{Laid, AccessWrong as accessWrong, TooFar as tooFar}
+use Rattle.types.specs.declared.member.Bit.the-variants.{None, At}
+use Rattle.types.specs.declared.member.Member.{Member}
+use Rattle.types.specs.declared.member.Ty.the-variants.{Atomic}
+use Rattle.types.specs.Defs.{Part}
+use Rattle.types.specs.Digits.{hostName, bitHostName}
+use Rattle.types.specs.Layout.{placed, isBool, alignUp}
+
+-- ---- declared members, one after the other
+
+abbrev pub named : List ℕ → Member → Part
+named n m = record { name = n; member = m }
+
+-- what a step adds: a host and the member, or the member alone
+abbrev pub thenParts : Placed → List ℕ → List ℕ → (Cursor → List Part) → List Part
+thenParts (Hosted h m c) host name rest = named host h ∷ named name m ∷ rest c
+thenParts (One m c) host name rest = named name m ∷ rest c
+thenParts AccessWrong host name rest = []
+thenParts TooFar host name rest = []
+
+-- the parts of the declared members from a cursor on: `name` gives a declared member's name, `host` a host's
+unfoldable pub partsFrom : (Decl → List ℕ) → (ℕ → List ℕ) → Cursor → List Decl → List Part
+partsFrom name host c [] = []
+partsFrom name host c (d ∷ ds) = thenParts (placed c d) (host (c .members)) (name d) (λ c′. partsFrom name host c′ ds)
+
+-- how far they come, after n bytes of names; or the first refusal
+abbrev pub thenMeasure : Placed → ℕ → ℕ → ℕ → (Cursor → ℕ → Measured) → Measured
+thenMeasure (Hosted h m c) host name n rest = rest c (n + host + name)
+thenMeasure (One m c) host name n rest = rest c (n + name)
+thenMeasure AccessWrong host name n rest = accessWrong
+thenMeasure TooFar host name n rest = tooFar
+
+unfoldable pub measured : (ℕ → List ℕ) → Cursor → ℕ → List Decl → Measured
+measured host c n [] = Laid c n
+measured host c n (d ∷ ds) =
+    thenMeasure (placed c d) (length (host (c .members))) (d .name .long) n (λ c′ n′. measured host c′ n′ ds)
+
+-- the size is rounded up to 4
+abbrev pub sizeAt : Cursor → ℕ
+sizeAt c = alignUp (c .offset) 4
+
+-- ---- UDT
+
+abbrev pub udtStart : Cursor
+udtStart = record { offset = 0; host = Closed; members = 0 }
+
+unfoldable pub udtParts : (Decl → List ℕ) → List ℕ → List Decl → List Part
+udtParts name type ds = partsFrom name (hostName type) udtStart ds
+
+-- ---- AOI
+
+-- how many BOOLs (dim 0) are declared
+unfoldable pub bools : List Decl → ℕ
+bools [] = 0
+bools (d ∷ ds) = cond (isBool (d .ty)) 1 0 + bools ds
+
+-- ceil(n / 32) hidden DINT hosts from offset 0, over EnableIn, EnableOut and all declared BOOLs
+unfoldable pub aoiHosts : List Decl → ℕ
+aoiHosts ds = (2 + bools ds + 31) / 32
+
+abbrev pub bitHostAt : ℕ → Member
+bitHostAt i =
+    record { ty = Atomic DInt; count = 0; offset = 4 * i; bit = None; hidden = true; local = false; access = 0 }
+
+unfoldable pub hostParts : ℕ → ℕ → List Part
+hostParts i zero = []
+hostParts i (suc n) = named (bitHostName i) (bitHostAt i) ∷ hostParts (i + 1) n
+
+-- EnableIn and EnableOut are the first two BOOLs, with access 2
+abbrev pub enableAt : ℕ → Member
+enableAt bit = record { ty = Atomic BOOL; count = 0; offset = 0; bit = At bit; hidden = false; local = false; access = 2 }
+
+abbrev pub enableIn : List ℕ
+enableIn = 69 ∷ 110 ∷ 97 ∷ 98 ∷ 108 ∷ 101 ∷ 73 ∷ 110 ∷ []
+
+abbrev pub enableOut : List ℕ
+enableOut = 69 ∷ 110 ∷ 97 ∷ 98 ∷ 108 ∷ 101 ∷ 79 ∷ 117 ∷ 116 ∷ []
+
+-- where the declared members begin: after h hosts, with two BOOLs placed
+abbrev pub aoiStart : ℕ → Cursor
+aoiStart h = record { offset = 4 * h; host = Shared 2; members = h + 2 }
+
+unfoldable pub aoiParts : (Decl → List ℕ) → List Decl → List Part
+aoiParts name ds =
+    hostParts 0 (aoiHosts ds)
+    ++ (named enableIn (enableAt 0) ∷ named enableOut (enableAt 1)
+    ∷ partsFrom name bitHostName (aoiStart (aoiHosts ds)) ds)
+
+-- ---- strings
+
+-- a visible DINT at an offset
+abbrev pub dintAt : ℕ → Member
+dintAt o = record { ty = Atomic DInt; count = 0; offset = o; bit = None; hidden = false; local = false; access = 0 }
+
+-- c SINT from offset 4 on
+abbrev pub dataOf : ℕ → Member
+dataOf c = record { ty = Atomic SInt; count = c; offset = 4; bit = None; hidden = false; local = false; access = 0 }
+
+-- DINT LEN at 0, c SINT DATA at 4, size 4 + c rounded up to 4
+unfoldable pub stringParts : ℕ → List Part
+stringParts c = named (76 ∷ 69 ∷ 78 ∷ []) (dintAt 0) ∷ named (68 ∷ 65 ∷ 84 ∷ 65 ∷ []) (dataOf c) ∷ []
+
+unfoldable pub stringSize : ℕ → ℕ
+stringSize c = alignUp (4 + c) 4
+
+-- ---- predefined, size 12
+
+-- BOOLs from bit 31 of CTL downwards
+abbrev pub statusAt : ℕ → Member
+statusAt i =
+    record {
+      ty = Atomic BOOL;
+      count = 0;
+      offset = (31 - i) / 8;
+      bit = At ((31 - i) % 8);
+      hidden = false;
+      local = false;
+      access = 0;
+    }
+
+unfoldable pub statusParts : ℕ → List (List ℕ) → List Part
+statusParts i [] = []
+statusParts i (n ∷ ns) = named n (statusAt i) ∷ statusParts (i + 1) ns
+
+-- hidden DINT CTL at 0, two DINT words at 4 and 8, then the BOOLs
+abbrev pub ctlAt : Member
+ctlAt = record { ty = Atomic DInt; count = 0; offset = 0; bit = None; hidden = true; local = false; access = 0 }
+
+unfoldable pub controlParts : List ℕ → List ℕ → List (List ℕ) → List Part
+controlParts one two bits =
+    named (67 ∷ 84 ∷ 76 ∷ []) ctlAt ∷ named one (dintAt 4) ∷ named two (dintAt 8) ∷ statusParts 0 bits
