@@ -1,6 +1,7 @@
 // Types and layouts (document 01's first crate): the atomic types, names, refusals, rows of the lent
 // tables, and the leaves that layouts and templates are made of.
 mod atomic;
+mod digits;
 mod handle;
 mod layout;
 mod measure;

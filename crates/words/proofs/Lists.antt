@@ -1,13 +1,14 @@
 -- Laws of a run of stores (`sets`) and of a part of a list (`part`), over any element. A run of stores changes just its own
 -- places; runs that meet are one run; a part is read from the front, one element after the other.
-use Prim.Native.Nat.{ℕ, zero, suc, _+_, _-_, _≤_, _<_}
+use Prim.Native.Nat.{ℕ, zero, suc, _+_, _-_, _≤_, _<_, min}
+use native.Mathlib.Decide.{decLe}
 use native.Mathlib.Nat.{add-zero, add-sub-cancel-left}
 use native.Mathlib.Omega.{arith}
 use mathlib.Core.Path.{_≡_, refl, sym, ap, _∙_}
 use mathlib.Core.List.{List, [], _∷_, _++_, append-assoc}
 use mathlib.Core.Logic.{_⊎_, inl, inr, ⊎-elim}
-use lib.ListN.{length, getD, set, take, drop, length-append, length-take, length-drop, List·getD-append}
-use lib.Seq.{sets, sets-eq, set-comm, set-set, drop-cons, drop-drop, length-sets, getD-append-add, getD-set-other, length-take-le}
+use lib.ListN.{length, getD, set, take, drop, length-append, length-take, length-drop, drop-of-length-le, List·getD-append}
+use lib.Seq.{sets, sets-eq, set-comm, set-set, drop-cons, drop-drop, length-sets, getD-append-add, getD-set-other, length-take-le, take-all, take-length}
 use Rattle.words.specs.Words.{part}
 
 module _ {A : Type 0} where
@@ -84,3 +85,26 @@ module _ {A : Type 0} where
       let e6 : a + 6 ≡ suc (suc (suc (suc (suc (suc a))))) = omega arith in
       let e7 : a + 7 ≡ suc (suc (suc (suc (suc (suc (suc a)))))) = omega arith in
       rw (e1, e2, e3, e4, e5, e6, e7)
+
+  -- one element of a copy from the front, and a copy that is done
+  pub copy-on : (l s : List A) (at i : ℕ) (d : A) → i < length s
+      → sets l (at + i) (drop i s) ≡ sets (set l (at + i) (getD s i d)) (at + (i + 1)) (drop (i + 1) s)
+  copy-on l s at i d h =
+      let e : at + (i + 1) ≡ suc (at + i) = omega arith in
+      let f : i + 1 ≡ suc i = omega arith in
+      rw (e, f, drop-cons s i d h)
+
+  pub copy-done : (l s : List A) (at i : ℕ) → length s ≤ i → sets l at (drop i s) ≡ l
+  copy-done l s at i h = rw (drop-of-length-le s h)
+
+  -- at most n elements, whichever way the count is given
+  pub take-least : (n : ℕ) (l : List A) → take (min n (length l)) l ≡ take n l
+  take-least n l = go (decLe (length l) n)
+    where
+      go : Dec (length l ≤ n) → take (min n (length l)) l ≡ take n l
+      go (yes h) =
+          let e : min n (length l) ≡ length l = omega arith in
+          rw (e, take-length l, take-all n l h)
+      go (no h) =
+          let e : min n (length l) ≡ n = omega (arith, h) in
+          rw e

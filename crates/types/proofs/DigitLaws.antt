@@ -1,0 +1,108 @@
+-- Laws of decimal digits and of hosts' names: a number's digits, one more at a time; three writes that are one name.
+use Prim.Native.Nat.{ℕ, zero, suc, _+_, _/_, _%_, _≤_, _<_, min}
+use native.Mathlib.Omega.{arith}
+use mathlib.Core.Path.{_≡_, refl, sym, ap, _∙_}
+use mathlib.Core.List.{List, [], _∷_, _++_}
+use borrow.Author.Tests.{lt-ltb, le-ltb}
+use lib.ListN.{length, take, length-append, length-take}
+use lib.Seq.{sets, length-take-le}
+use Rattle.words.proofs.Lists.{sets-append, take-least}
+use Rattle.types.specs.declared.digits.Digits.{Digits}
+use Rattle.types.specs.Digits.{digitsIn, digits, tenZ, hostName, Spelled}
+
+abbrev pub digitOf : ℕ → ℕ
+digitOf x = 48 + x % 10
+
+more : (n x : ℕ) → 10 ≤ x → digitsIn (suc n) x ≡ digitsIn n (x / 10) ++ (digitOf x ∷ [])
+unfolding digitsIn
+more n x h = simp (le-ltb x 10 h)
+
+one : (n x : ℕ) → x < 10 → digitsIn (suc n) x ≡ digitOf x ∷ []
+unfolding digitsIn
+one n x h =
+    let e : x % 10 ≡ x = omega arith in
+    simp (lt-ltb x 10 h, e)
+
+two : (n x : ℕ) → 10 ≤ x → x < 100 → digitsIn (suc (suc n)) x ≡ digitOf (x / 10) ∷ digitOf x ∷ []
+two n x h k = more (suc n) x h ∙ rw (one n (x / 10) (omega arith))
+
+three : (n x : ℕ) → 100 ≤ x → x < 1000
+    → digitsIn (suc (suc (suc n))) x ≡ digitOf (x / 100) ∷ digitOf (x / 10) ∷ digitOf x ∷ []
+three n x h k =
+    let e : x / 10 / 10 ≡ x / 100 = omega arith in
+    more (suc (suc n)) x (omega arith) ∙ rw (two n (x / 10) (omega arith) (omega arith), e)
+
+four : (n x : ℕ) → 1000 ≤ x → x < 10000
+    → digitsIn (suc (suc (suc (suc n)))) x ≡ digitOf (x / 1000) ∷ digitOf (x / 100) ∷ digitOf (x / 10) ∷ digitOf x ∷ []
+four n x h k =
+    let e : x / 10 / 10 ≡ x / 100 = omega arith in
+    let f : x / 10 / 100 ≡ x / 1000 = omega arith in
+    more (suc (suc (suc n))) x (omega arith) ∙ rw (three n (x / 10) (omega arith) (omega arith), e, f)
+
+five : (n x : ℕ) → 10000 ≤ x → x < 100000
+    → digitsIn (suc (suc (suc (suc (suc n))))) x
+    ≡ digitOf (x / 10000) ∷ digitOf (x / 1000) ∷ digitOf (x / 100) ∷ digitOf (x / 10) ∷ digitOf x ∷ []
+five n x h k =
+    let e : x / 10 / 10 ≡ x / 100 = omega arith in
+    let f : x / 10 / 100 ≡ x / 1000 = omega arith in
+    let g : x / 10 / 1000 ≡ x / 10000 = omega arith in
+    more (suc (suc (suc (suc n)))) x (omega arith) ∙ rw (four n (x / 10) (omega arith) (omega arith), e, f, g)
+
+six : (n x : ℕ) → 100000 ≤ x → x < 1000000
+    → digitsIn (suc (suc (suc (suc (suc (suc n)))))) x
+    ≡ digitOf (x / 100000) ∷ digitOf (x / 10000) ∷ digitOf (x / 1000) ∷ digitOf (x / 100) ∷ digitOf (x / 10) ∷ digitOf x ∷ []
+six n x h k =
+    let e : x / 10 / 10 ≡ x / 100 = omega arith in
+    let f : x / 10 / 100 ≡ x / 1000 = omega arith in
+    let g : x / 10 / 1000 ≡ x / 10000 = omega arith in
+    let i : x / 10 / 10000 ≡ x / 100000 = omega arith in
+    more (suc (suc (suc (suc (suc n))))) x (omega arith) ∙ rw (five n (x / 10) (omega arith) (omega arith), e, f, g, i)
+
+module _ (x : ℕ) where
+  pub digits-1 : x < 10 → digitOf x ∷ [] ≡ digits x
+  unfolding digits
+  digits-1 h = sym (one 19 x h)
+
+  pub digits-2 : 10 ≤ x → x < 100 → digitOf (x / 10) ∷ digitOf x ∷ [] ≡ digits x
+  unfolding digits
+  digits-2 h k = sym (two 18 x h k)
+
+  pub digits-3 : 100 ≤ x → x < 1000 → digitOf (x / 100) ∷ digitOf (x / 10) ∷ digitOf x ∷ [] ≡ digits x
+  unfolding digits
+  digits-3 h k = sym (three 17 x h k)
+
+  pub digits-4 : 1000 ≤ x → x < 10000 → digitOf (x / 1000) ∷ digitOf (x / 100) ∷ digitOf (x / 10) ∷ digitOf x ∷ [] ≡ digits x
+  unfolding digits
+  digits-4 h k = sym (four 16 x h k)
+
+  pub digits-5 : 10000 ≤ x → x < 100000
+      → digitOf (x / 10000) ∷ digitOf (x / 1000) ∷ digitOf (x / 100) ∷ digitOf (x / 10) ∷ digitOf x ∷ [] ≡ digits x
+  unfolding digits
+  digits-5 h k = sym (five 15 x h k)
+
+  pub digits-6 : 100000 ≤ x → x < 1000000
+      → digitOf (x / 100000) ∷ digitOf (x / 10000) ∷ digitOf (x / 1000) ∷ digitOf (x / 100) ∷ digitOf (x / 10) ∷ digitOf x ∷ []
+      ≡ digits x
+  unfolding digits
+  digits-6 h k = sym (six 14 x h k)
+
+-- ---- host names
+
+module _ (name : List ℕ) (k n : ℕ) (d : Digits) (s : Spelled k d) (e : n ≡ min 10 (length name)) where
+  spelled-long : length (digits k) ≡ d .long
+  spelled-long = ap length (sym (s .is)) ∙ length-take-le (d .long) (d .bytes) (s .room)
+
+  pub host-long : 10 + n + d .long ≡ length (hostName name k)
+  unfolding hostName
+  host-long = simp (length-append, length-take, spelled-long) (omega arith)
+
+  -- three writes are one name
+  pub host-put : (t : List ℕ) (at : ℕ)
+      → sets (sets (sets t at tenZ) (at + 10) (take n name)) (at + 10 + n) (take (d .long) (d .bytes)) ≡ sets t at (hostName name k)
+  unfolding hostName
+  host-put t at =
+      let f : take n name ≡ take 10 name = ap (λ (m : ℕ). take m name) e ∙ take-least 10 name in
+      let g : length (take 10 name) ≡ n = length-take 10 name ∙ sym e in
+      rw (s .is, f)
+      (sym (sets-append t at tenZ (take 10 name ++ digits k)
+      ∙ sets-append (sets t at tenZ) (at + 10) (take 10 name) (digits k) ∙ rw g))

@@ -1,0 +1,37 @@
+-- `types::host_long` meets its contract.
+use native.Mathlib.Omega.{arith}
+use borrow.Author.Needs.{needs}
+use mathlib.Core.Path.{_∙_}
+use Rattle.types.proofs.DigitLaws.{host-long}
+use Rattle.types.proofs.digits.host_long.Statement.{statement}
+use Rattle.types.proofs.digits.host_long.Tie as tie
+
+at-most-ten-requires : tie.Need-at-most-ten-requires
+at-most-ten-requires c κs = search needs
+
+spell-requires : tie.Need-spell-requires
+spell-requires c κs = search needs
+
+add-result : tie.Need-add-result
+add-result c = search needs
+
+add-result-2 : tie.Need-add-result-2
+add-result-2 c = search needs
+
+cast-result : tie.Need-cast-result
+cast-result c = search needs
+
+returns : tie.Need-returns
+returns c =
+    let spelled = c .before in
+    let ten = spelled .before in
+    let a = ten .before .before .args in
+    record {
+      is = host-long (a .name .now) (a .k) (ten .at-most-ten .result) _ (spelled .spell .ensures) (ten .at-most-ten .ensures);
+      most = omega (arith, spelled .spell .ensures .most, ten .at-most-ten .ensures);
+    }
+
+pub host-long-spec : {M : Type 1} → statement M
+host-long-spec =
+    tie.close
+    (tie.spec at-most-ten-requires spell-requires add-result add-result-2 cast-result returns)
