@@ -2,6 +2,8 @@
 pub mod AtomicLaws
 pub mod NameLaws
 pub mod DigitLaws
+pub mod EntryLaws
 pub mod HandleLaws
 pub mod LayoutLaws
+pub mod PlaceLaws
 pub mod TableLaws

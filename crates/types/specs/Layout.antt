@@ -122,3 +122,14 @@ pub record Able (c : Cursor) (d : Decl) : Type 0 where
   pub aligned : Aligned (c .offset) (d .align)
   pub members : c .members ≤ 2 ^ 27
   pub bits : sharedBits (c .host) ≤ 2 ^ 27
+
+-- a host as a UDT has it
+abbrev pub InUdt : Host → Type 0
+InUdt Closed = Unit {0}
+InUdt (Open byte bit) = Unit {0}
+InUdt (Shared i) = ⊥
+
+-- no host is open: the next BOOL opens a new one at the current offset
+pub record Shut (c : Cursor) : Type 0 where
+  pub host : c .host ≡ Closed
+  pub opens : (e : Decl) → accessOk (e .access) ≡ true → isBool (e .ty) ≡ true → placed c e ≡ opened c e

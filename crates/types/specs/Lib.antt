@@ -1,5 +1,6 @@
 -- The definitions that crate `types` is proved against, a module for each paragraph of document 01.
 pub mod Atomic
+pub mod Entries
 pub mod Defs
 pub mod Digits
 pub mod Handle

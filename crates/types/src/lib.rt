@@ -2,6 +2,7 @@
 // tables, and the leaves that layouts and templates are made of.
 mod atomic;
 mod digits;
+mod entries;
 mod handle;
 mod layout;
 mod measure;

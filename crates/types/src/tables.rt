@@ -46,7 +46,7 @@ fn ty_word(ty: Ty) -> u32
     }
 }
 
-fn ty_of(w: u32) -> Ty
+pub fn ty_of(w: u32) -> Ty
     ensures { λ r. ⌜ r ≡ tyOf w ⌝ }
 {
     if w < 0x8000 {

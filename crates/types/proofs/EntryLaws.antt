@@ -1,0 +1,54 @@
+-- Laws of declared members: the ways that a found type becomes a declaration, and the entries that are left.
+use Prim.Native.Nat.{ℕ, suc, _+_, _-_, _*_, _/_, _<_, _≤_}
+use native.Mathlib.Omega.{arith}
+use mathlib.Core.Path.{_≡_, refl, sym, _∙_}
+use mathlib.Core.Bool.{Bool, true, false}
+use mathlib.Core.List.{List, [], _∷_}
+use borrow.Author.Tests.{eq-eqb, ne-eqb}
+use lib.ListN.{length}
+use Rattle.types.specs.declared.atomic.Atomic.the-variants.{DWord}
+use Rattle.types.specs.declared.layout.Decl.{Decl}
+use Rattle.types.specs.declared.member.Span.{Span}
+use Rattle.types.specs.declared.member.Ty.{Ty}
+use Rattle.types.specs.declared.member.Ty.the-variants.{Atomic}
+use Rattle.types.specs.Layout.{isBool}
+use Rattle.types.specs.Entries.{boolArray, storedTy, storedCount, plain, resolved, declAt, declsFrom, Found}
+
+module _ (sizes : ℕ → ℕ) (ty : Ty) (dim : ℕ) (name : Span) (local : Bool) (access : ℕ) where
+  pub one-bool : isBool ty ≡ true → dim ≡ 0 → plain sizes ty dim name local access ≡ resolved sizes ty dim name local access
+  unfolding resolved storedTy storedCount boolArray
+  one-bool b e = simp (b, eq-eqb dim 0 e)
+
+  pub bool-array : isBool ty ≡ true → (dim ≡ 0 → ⊥)
+      → plain sizes (Atomic DWord) ((dim - 1) / 32 + 1) name local access ≡ resolved sizes ty dim name local access
+  unfolding resolved storedTy storedCount boolArray
+  bool-array b n =
+      let e : (dim + 31) / 32 ≡ (dim - 1) / 32 + 1 = omega (arith, n) in
+      simp (b, ne-eqb dim 0 n, e)
+
+  pub no-bool : isBool ty ≡ false → plain sizes ty dim name local access ≡ resolved sizes ty dim name local access
+  unfolding resolved storedTy storedCount boolArray
+  no-bool b = simp b
+
+-- the first of the declared members that are left, and those after it
+pub decls-cons : (types book tys : List ℕ) (at n j : ℕ) → j < n
+    → declsFrom types book tys at j (n - j) ≡ declAt types book tys at j ∷ declsFrom types book tys at (j + 1) (n - (j + 1))
+unfolding declsFrom
+decls-cons types book tys at n j l =
+    let e : n - j ≡ suc (n - (j + 1)) = omega arith in
+    rw e
+
+pub decls-none : (types book tys : List ℕ) (at n j : ℕ) → n ≤ j → declsFrom types book tys at j (n - j) ≡ []
+unfolding declsFrom
+decls-none types book tys at n j l =
+    let e : n - j ≡ 0 = omega arith in
+    rw e
+
+-- fewer entries are found where more are
+pub found-first : {book tys : List ℕ} {at n : ℕ} (m : ℕ) → m ≤ n → Found book tys at n → Found book tys at m
+found-first m l f =
+    record {
+      inside = omega (arith, f .inside);
+      known = omega (arith, f .known);
+      types = λ k h. f .types k (omega arith);
+    }

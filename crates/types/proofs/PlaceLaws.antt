@@ -1,0 +1,90 @@
+-- The ways that placing a declared member can go (document 01, "Layout"): what holds of each of them holds of the step. And
+-- that any other member closes a UDT's host, so that the next BOOL opens a new one at the current offset.
+use Prim.Native.Nat.{ℕ, _+_, _*_, _/_, _%_, _≤_, _<_}
+use mathlib.Core.Path.{_≡_, refl, sym, _∙_}
+use mathlib.Core.Bool.{Bool, true, false, cond, true≢false}
+use borrow.Author.Tests.{ltb-true, ltb-false, leb-true, leb-false}
+use lib.Dec.{leb, ltb}
+use Rattle.types.specs.declared.layout.Cursor.{Cursor}
+use Rattle.types.specs.declared.layout.Decl.{Decl}
+use Rattle.types.specs.declared.layout.Host.{Host}
+use Rattle.types.specs.declared.layout.Host.the-variants.{Closed, Open, Shared}
+use Rattle.types.specs.declared.layout.Placed.{Placed}
+use Rattle.types.specs.declared.layout.Placed.the-variants.{Hosted, One, AccessWrong, TooFar}
+use Rattle.types.specs.declared.member.Member.{Member}
+use Rattle.types.specs.Layout.{most, accessOk, isBool, otherAt, opened, nextBit, placeBool, closed}
+use Rattle.types.specs.Layout.{startOf, endOf, placeOther, placed, InUdt, Shut}
+use Rattle.types.proofs.LayoutLaws.{placed-bool}
+
+-- a UDT's host has no bit left, or there is none
+abbrev pub Full : Host → Type 0
+Full Closed = Unit {0}
+Full (Open byte bit) = 8 ≤ bit
+Full (Shared i) = ⊥
+
+-- where any other member leaves the cursor
+abbrev pub pastOther : Cursor → Decl → Cursor
+pastOther c d = record { offset = endOf c d; host = closed (c .host); members = c .members + 1 }
+
+-- P holds of each way that a step can go
+pub record Ways (P : Placed → Type 0) (c : Cursor) (d : Decl) : Type 0 where
+  pub wrong : accessOk (d .access) ≡ false → P AccessWrong
+  pub opens : isBool (d .ty) ≡ true → Full (c .host) → P (opened c d)
+  pub next : isBool (d .ty) ≡ true → (byte bit : ℕ) → c .host ≡ Open byte bit → bit < 8
+      → P (nextBit c d byte bit (Open byte (bit + 1)))
+  pub shared : isBool (d .ty) ≡ true → (i : ℕ) → c .host ≡ Shared i
+      → P (nextBit c d (4 * (i / 32) + i % 32 / 8) (i % 8) (Shared (i + 1)))
+  pub other : isBool (d .ty) ≡ false → endOf c d ≤ most → P (One (otherAt d (startOf c d)) (pastOther c d))
+  pub far : isBool (d .ty) ≡ false → most < endOf c d → P TooFar
+
+-- what holds of both answers of a test holds of the picked one
+either : (P : Placed → Type 0) (t : Bool) (x y : Placed) → (t ≡ true → P x) → (t ≡ false → P y) → P (cond t x y)
+either P true x y f g = f refl
+either P false x y f g = g refl
+
+module _ (P : Placed → Type 0) (c : Cursor) (d : Decl) (w : Ways P c d) where
+  bool-cases : isBool (d .ty) ≡ true → (h : Host) → c .host ≡ h → P (placeBool h c d)
+  unfolding placeBool
+  bool-cases b Closed e = w .opens b (rw e tt)
+  bool-cases b (Open byte bit) e =
+      either P (ltb bit 8) _ _ (λ l. w .next b byte bit e (ltb-true bit 8 l)) (λ l. w .opens b (rw e (ltb-false bit 8 l)))
+  bool-cases b (Shared i) e = w .shared b i e
+
+  other-cases : isBool (d .ty) ≡ false → P (placeOther c d)
+  unfolding placeOther
+  other-cases b =
+      either P (leb (endOf c d) most) _ _ (λ l. w .other b (leb-true _ _ l)) (λ l. w .far b (leb-false _ _ l))
+
+  -- what holds of each way that a step can go holds of the step
+  pub place-cases : P (placed c d)
+  unfolding placed
+  place-cases =
+      either P (accessOk (d .access)) _ _
+      (λ a. either P (isBool (d .ty)) _ _ (λ b. bool-cases b (c .host) refl) other-cases)
+      (w .wrong)
+
+-- ---- no host stays open across another member
+
+closed-udt : (h : Host) → InUdt h → closed h ≡ Closed
+unfolding closed
+closed-udt Closed u = refl
+closed-udt (Open byte bit) u = refl
+
+shut : {c : Cursor} → c .host ≡ Closed → Shut c
+unfolding placeBool
+shut {c} h = record { host = h; opens = λ e a b. sym (placed-bool c e a b) ∙ rw h }
+
+-- after any other member in a UDT the next BOOL opens a new host at the current offset
+pub host-closed : (c : Cursor) (d : Decl) (m : Member) (c′ : Cursor) → InUdt (c .host) → isBool (d .ty) ≡ false
+    → placed c d ≡ One m c′ → Shut c′
+unfolding opened nextBit
+host-closed c d m c′ u b =
+    place-cases (λ p. p ≡ One m c′ → Shut c′) c d
+    (record {
+      wrong = λ a q. let z : true ≡ false = cc in absurd (true≢false z);
+      opens = λ t f q. absurd (true≢false (sym t ∙ b));
+      next = λ t byte bit h l q. absurd (true≢false (sym t ∙ b));
+      shared = λ t i h q. absurd (true≢false (sym t ∙ b));
+      other = λ t l q. shut (let e : closed (c .host) ≡ c′ .host = cc in sym e ∙ closed-udt (c .host) u);
+      far = λ t l q. let z : true ≡ false = cc in absurd (true≢false z);
+    })

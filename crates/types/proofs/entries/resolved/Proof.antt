@@ -1,0 +1,56 @@
+-- `types::resolved` meets its contract: one BOOL, an array of them, or any other.
+use borrow.Author.Needs.{needs}
+use mathlib.Core.Path.{sym, _∙_}
+use Rattle.types.specs.Atomic.{sizeOf}
+use Rattle.types.proofs.EntryLaws.{one-bool, bool-array, no-bool}
+use Rattle.types.proofs.entries.resolved.Statement.{statement}
+use Rattle.types.proofs.entries.resolved.Tie as tie
+
+is-bool-requires : tie.Need-is-bool-requires
+is-bool-requires c κs = search needs
+
+plain-requires : tie.Need-plain-requires
+plain-requires c κs = search needs
+
+returns : tie.Need-returns
+returns c =
+    let way = c .before .before in
+    let a = way .before .before .args in
+    c .plain .ensures
+    ∙ one-bool _ (a .ty) (a .dim) (a .name) (a .local) (a .access) (sym (way .before .is-bool .ensures) ∙ way .if1 .taken)
+    (c .before .if2 .taken)
+
+sub-t12 : tie.Need-sub-t12
+sub-t12 c = search needs
+
+add-t14 : tie.Need-add-t14
+add-t14 c = search needs
+
+returns-2 : tie.Need-returns-2
+unfolding sizeOf
+returns-2 c =
+    let a = c .before .before .before .args in
+    bool-array _ (a .ty) (a .dim) (a .name) (a .local) (a .access)
+    (sym (c .before .before .is-bool .ensures) ∙ c .before .if1 .taken) (c .if2 .left)
+
+plain-requires-2 : tie.Need-plain-requires-2
+plain-requires-2 c κs = search needs
+
+returns-3 : tie.Need-returns-3
+returns-3 c =
+    let a = c .before .before .before .args in
+    c .plain2 .ensures
+    ∙ no-bool _ (a .ty) (a .dim) (a .name) (a .local) (a .access) (sym (c .before .before .is-bool .ensures) ∙ c .before .if1 .left)
+
+pub resolved-spec : {M : Type 1} → statement M
+resolved-spec =
+    tie.close
+    (tie.spec
+    is-bool-requires
+    plain-requires
+    returns
+    sub-t12
+    add-t14
+    returns-2
+    plain-requires-2
+    returns-3)

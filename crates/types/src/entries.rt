@@ -1,0 +1,109 @@
+// Declared members whose types were found (document 01, "Declaration book" and "Layout"): a book's entry
+// as a declaration that a layout can place.
+ghost use mathlib.Core.Path.{_≡_};
+ghost use Prim.Native.Nat.{_+_, min};
+ghost use Rattle.types.specs.Entries.{plain as plainOf, resolved as resolvedOf, sizesIn, declAt, Found};
+ghost use Rattle.types.specs.Tables.{TyFits};
+use crate::atomic::Atomic;
+use crate::layout::Decl;
+use crate::layout::is_bool;
+use crate::member::Span;
+use crate::member::Ty;
+use crate::tables::TypeTable;
+use crate::tables::ty_of;
+use crate::tables::type_at;
+use words::load8;
+use words::load32;
+
+fn at_most_four(x: u32) -> u32
+    ensures { λ r. ⌜ r ≡ min x 4 ⌝ }
+{
+    if x < 4 {
+        return x;
+    }
+    4
+}
+
+fn wide8(x: u8) -> u32
+    ensures { λ r. ⌜ r ≡ x ⌝ }
+{
+    x as u32
+}
+
+fn wide16(x: u16) -> u32
+    ensures { λ r. ⌜ r ≡ x ⌝ }
+{
+    x as u32
+}
+
+// A declared member that is stored as it is declared.
+fn plain(types: &TypeTable, ty: Ty, dim: u32, name: Span, local: bool, access: u8) -> Decl
+    requires { ⌜ TyFits ty ⌝ }
+    ensures { λ r. ⌜ r ≡ plainOf (sizesIn (now (types .entry))) ty dim name local access ⌝ }
+{
+    match ty {
+        Ty::Atomic(a) => {
+            let size = wide8(a.size());
+            let align = at_most_four(size);
+            Decl {
+                name,
+                ty,
+                size,
+                align,
+                count: dim,
+                local,
+                access,
+            }
+        }
+        Ty::Struct(n) => {
+            let d = type_at(types, n);
+            Decl {
+                name,
+                ty,
+                size: d.size,
+                align: 4,
+                count: dim,
+                local,
+                access,
+            }
+        }
+    }
+}
+
+// A declared member of a type that was found. A BOOL with a dim is DWORDs.
+fn resolved(types: &TypeTable, ty: Ty, dim: u32, name: Span, local: bool, access: u8) -> Decl
+    requires { ⌜ TyFits ty ⌝ }
+    ensures { λ r. ⌜ r ≡ resolvedOf (sizesIn (now (types .entry))) ty dim name local access ⌝ }
+{
+    let bool = is_bool(ty);
+    if bool {
+        if dim == 0 {
+            return plain(types, ty, dim, name, local, access);
+        }
+        return Decl {
+            name,
+            ty: Ty::Atomic(Atomic::DWord),
+            size: 4,
+            align: 4,
+            count: (dim - 1) / 32 + 1,
+            local,
+            access,
+        };
+    }
+    plain(types, ty, dim, name, local, access)
+}
+
+// The j-th of a type's declared members: its entry in the book, and the type that was found for it.
+pub fn decl_at(types: &TypeTable, book: &[u8], tys: &[u16], at: usize, j: usize) -> Decl
+    requires { ⌜ Found (now book) (now tys) at (j + 1) ⌝ }
+    ensures { λ r. ⌜ r ≡ declAt (now (types .entry)) (now (book .entry)) (now (tys .entry)) at j ⌝ }
+{
+    let entry = at + 16 * j;
+    let place = load32(book, entry);
+    let long = wide8(load8(book, entry + 4));
+    let local = load8(book, entry + 6);
+    let access = load8(book, entry + 7);
+    let dim = load32(book, entry + 8);
+    let ty = ty_of(wide16(tys[j]));
+    resolved(types, ty, dim, Span { at: place, long }, local == 1, access)
+}
