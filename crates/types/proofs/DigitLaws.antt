@@ -2,8 +2,10 @@
 use Prim.Native.Nat.{ℕ, zero, suc, _+_, _/_, _%_, _≤_, _<_, min}
 use native.Mathlib.Omega.{arith}
 use mathlib.Core.Path.{_≡_, refl, sym, ap, _∙_}
+use mathlib.Core.Bool.{Bool, true, false, cond}
 use mathlib.Core.List.{List, [], _∷_, _++_}
 use borrow.Author.Tests.{lt-ltb, le-ltb}
+use lib.Dec.{ltb}
 use lib.ListN.{length, take, length-append, length-take}
 use lib.Seq.{sets, length-take-le}
 use Rattle.words.proofs.Lists.{sets-append, take-least}
@@ -106,3 +108,19 @@ module _ (name : List ℕ) (k n : ℕ) (d : Digits) (s : Spelled k d) (e : n ≡
       rw (s .is, f)
       (sym (sets-append t at tenZ (take 10 name ++ digits k)
       ∙ sets-append (sets t at tenZ) (at + 10) (take 10 name) (digits k) ∙ rw g))
+
+digits-most : (n x : ℕ) → length (digitsIn n x) ≤ n
+unfolding digitsIn
+digits-most zero x = omega arith
+digits-most (suc n) x =
+    fork (ltb x 10) ((48 + x) ∷ []) (digitsIn n (x / 10) ++ ((48 + x % 10) ∷ [])) (omega arith)
+    (simp length-append (omega (arith, digits-most n (x / 10))))
+  where
+    fork : (b : Bool) (s t : List ℕ) → length s ≤ suc n → length t ≤ suc n → length (cond b s t) ≤ suc n
+    fork true s t h k = h
+    fork false s t h k = k
+
+-- no host's name is longer than 40
+pub host-most : (name : List ℕ) (k : ℕ) → length (hostName name k) ≤ 40
+unfolding hostName digits
+host-most name k = simp (length-append, length-take) (omega (arith, digits-most 20 k))

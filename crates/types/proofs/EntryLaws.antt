@@ -5,14 +5,22 @@ use mathlib.Core.Path.{_≡_, refl, sym, _∙_}
 use mathlib.Core.Bool.{Bool, true, false}
 use mathlib.Core.List.{List, [], _∷_}
 use borrow.Author.Tests.{eq-eqb, ne-eqb}
-use lib.ListN.{length}
-use Rattle.types.specs.declared.atomic.Atomic.the-variants.{DWord}
+use lib.Dec.{lit≤}
+use lib.ListN.{getD}
+use Rattle.words.specs.Words.{Bytes, wordAt}
+use Rattle.words.proofs.WordLaws.{word-below}
+use Rattle.types.specs.declared.atomic.Atomic.{Atomic as Kind}
+use Rattle.types.specs.declared.atomic.Atomic.the-variants.{Bool as BOOL, SInt, Int, DInt, LInt, USInt, UInt, UDInt}
+use Rattle.types.specs.declared.atomic.Atomic.the-variants.{ULInt, Real, LReal, Byte, Word, DWord, LWord}
 use Rattle.types.specs.declared.layout.Decl.{Decl}
 use Rattle.types.specs.declared.member.Span.{Span}
 use Rattle.types.specs.declared.member.Ty.{Ty}
-use Rattle.types.specs.declared.member.Ty.the-variants.{Atomic}
+use Rattle.types.specs.declared.member.Ty.the-variants.{Atomic, Struct}
+use Rattle.types.specs.Atomic.{sizeOf}
 use Rattle.types.specs.Layout.{isBool}
-use Rattle.types.specs.Entries.{boolArray, storedTy, storedCount, plain, resolved, declAt, declsFrom, Found}
+use Rattle.types.specs.Structs.{Fair}
+use Rattle.types.specs.Tables.{tyOf}
+use Rattle.types.specs.Entries.{boolArray, storedTy, storedCount, alignIn, plain, resolved, declAt, declsFrom, Found}
 
 module _ (sizes : ℕ → ℕ) (ty : Ty) (dim : ℕ) (name : Span) (local : Bool) (access : ℕ) where
   pub one-bool : isBool ty ≡ true → dim ≡ 0 → plain sizes ty dim name local access ≡ resolved sizes ty dim name local access
@@ -52,3 +60,33 @@ found-first m l f =
       known = omega (arith, f .known);
       types = λ k h. f .types k (omega arith);
     }
+
+-- ---- what every declared member of a book has
+
+size-least : (a : Kind) → 1 ≤ sizeOf a
+unfolding sizeOf
+size-least BOOL = lit≤ tt
+size-least SInt = lit≤ tt
+size-least Int = lit≤ tt
+size-least DInt = lit≤ tt
+size-least LInt = lit≤ tt
+size-least USInt = lit≤ tt
+size-least UInt = lit≤ tt
+size-least UDInt = lit≤ tt
+size-least ULInt = lit≤ tt
+size-least Real = lit≤ tt
+size-least LReal = lit≤ tt
+size-least Byte = lit≤ tt
+size-least Word = lit≤ tt
+size-least DWord = lit≤ tt
+size-least LWord = lit≤ tt
+
+align-fair : (t : Ty) → (0 < alignIn t) × (alignIn t ≤ 4)
+align-fair (Atomic a) = (omega (arith, size-least a), omega arith)
+align-fair (Struct n) = (omega arith, omega arith)
+
+pub decl-fair : (types book tys : List ℕ) (at j : ℕ) → Bytes book → Fair (declAt types book tys at j)
+unfolding declAt resolved
+decl-fair types book tys at j b =
+    let a = align-fair (storedTy (tyOf (getD tys j 0)) (wordAt 4 book (at + 16 * j + 8))) in
+    record { least = a .0; most = a .1; name = word-below 1 book (at + 16 * j + 4) b }

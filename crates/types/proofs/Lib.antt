@@ -1,5 +1,7 @@
 -- Laws over the definitions of crate `types`, a file for each idea.
 pub mod AtomicLaws
+pub mod MeasureLaws
+pub mod Measuring
 pub mod NameLaws
 pub mod DigitLaws
 pub mod EntryLaws

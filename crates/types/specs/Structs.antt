@@ -1,6 +1,6 @@
 -- Whole layouts (document 01, "Layout"): a UDT's and an AOI's parts from their declared members, a string's and the predefined
 -- types' parts, and their sizes.
-use Prim.Native.Nat.{ℕ, zero, suc, _+_, _*_, _/_, _%_, _-_}
+use Prim.Native.Nat.{ℕ, zero, suc, _+_, _-_, _*_, _/_, _%_, _^_, _<_, _≤_}
 use mathlib.Core.Bool.{Bool, true, false, cond}
 use mathlib.Core.List.{List, [], _∷_, _++_}
 use lib.ListN.{length}
@@ -17,7 +17,8 @@ use Rattle.types.specs.declared.member.Member.{Member}
 use Rattle.types.specs.declared.member.Ty.the-variants.{Atomic}
 use Rattle.types.specs.Defs.{Part}
 use Rattle.types.specs.Digits.{hostName, bitHostName}
-use Rattle.types.specs.Layout.{placed, isBool, alignUp}
+use Rattle.types.specs.Entries.{Found}
+use Rattle.types.specs.Layout.{placed, isBool, alignUp, sharedBits, Able}
 
 -- ---- declared members, one after the other
 
@@ -142,3 +143,35 @@ ctlAt = record { ty = Atomic DInt; count = 0; offset = 0; bit = None; hidden = t
 unfoldable pub controlParts : List ℕ → List ℕ → List (List ℕ) → List Part
 controlParts one two bits =
     named (67 ∷ 84 ∷ 76 ∷ []) ctlAt ∷ named one (dintAt 4) ∷ named two (dintAt 8) ∷ statusParts 0 bits
+
+-- ---- one member of a measured layout
+
+unfoldable pub measureOne : (ℕ → List ℕ) → Cursor → ℕ → Decl → Measured
+measureOne host c n d = thenMeasure (placed c d) (length (host (c .members))) (d .name .long) n (λ c′ n′. Laid c′ n′)
+
+-- what keeps the sums of one step inside 32 bits
+pub record Near (c : Cursor) (n : ℕ) (d : Decl) : Type 0 where
+  pub able : Able c d
+  pub few : c .members < 1000000
+  pub names : n ≤ 2 ^ 27
+  pub name : d .name .long < 256
+
+-- what every declared member of a book has
+pub record Fair (d : Decl) : Type 0 where
+  pub least : 0 < d .align
+  pub most : d .align ≤ 4
+  pub name : d .name .long < 256
+
+-- how far a layout can have come after k members, with n bytes of names
+pub record Far (k : ℕ) (c : Cursor) (n : ℕ) : Type 0 where
+  pub offset : c .offset ≤ 2 ^ 26 + k
+  pub members : c .members ≤ 2 * k
+  pub bits : sharedBits (c .host) ≤ k
+  pub names : n ≤ 300 * k
+
+-- n declared members can be measured from a cursor that has come as far as k members can
+pub record Measurable (book tys : List ℕ) (at n : ℕ) (c : Cursor) (names : ℕ) : Type 0 where
+  pub found : Found book tys at n
+  pub passed : ℕ
+  pub few : passed + n ≤ 131072
+  pub far : Far passed c names

@@ -68,8 +68,16 @@ returns c =
     let dim = ty .before .before .before in
     let long = dim .before .before .before in
     c .resolved .ensures
-    ∙ rw (ty .ty-of .ensures, ty .before .wide16 .ensures, dim .load322 .ensures, dim .before .load83 .ensures,
-    dim .before .before .load82 .ensures, long .wide8 .ensures, long .before .load8 .ensures, long .before .before .load32 .ensures)
+    ∙ rw (
+      ty .ty-of .ensures,
+      ty .before .wide16 .ensures,
+      dim .load322 .ensures,
+      dim .before .load83 .ensures,
+      dim .before .before .load82 .ensures,
+      long .wide8 .ensures,
+      long .before .load8 .ensures,
+      long .before .before .load32 .ensures,
+    )
 
 pub decl-at-spec : {M : Type 1} → statement M
 decl-at-spec =
