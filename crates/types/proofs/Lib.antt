@@ -8,4 +8,8 @@ pub mod EntryLaws
 pub mod HandleLaws
 pub mod LayoutLaws
 pub mod PlaceLaws
+pub mod FreeLaws
+pub mod LaidLaws
+pub mod BoundLaws
+pub mod StoreLaws
 pub mod TableLaws

@@ -33,11 +33,11 @@ starts types book tys name at n c names m =
       done = omega arith;
       found = m .found;
       far = rw add-zero (m .far);
-      same = rw sub-zero }
+      same = rw sub-zero;
+    }
 
 module _ {types book tys name : List ℕ} {at n n₀ names j : ℕ} {c₀ c : Cursor}
-  (m : Measuring types book tys name at n c₀ n₀ c names j) where
-
+    (m : Measuring types book tys name at n c₀ n₀ c names j) where
   pub all-done : n ≤ j → Laid c names ≡ measured (hostName name) c₀ n₀ (declsFrom types book tys at 0 n)
   all-done l = sym (rw (decls-none types book tys at n j l) at (m .same) ∙ sym (measured-done (hostName name) c names))
 
@@ -70,5 +70,6 @@ module _ {types book tys name : List ℕ} {at n n₀ names j : ℕ} {c₀ c : Cu
             done = omega arith;
             found = m .found;
             far = rw (← f) (far-on (hostName name) (m .passed + j) c names _ (m .far) (decl-fair types book tys at j b)
-              (host-most name (c .members)) (sym e ∙ q));
-            same = split ∙ measured-on (hostName name) c names _ _ (sym e ∙ q) }
+                (host-most name (c .members)) (sym e ∙ q));
+            same = split ∙ measured-on (hostName name) c names _ _ (sym e ∙ q);
+          }

@@ -1,19 +1,23 @@
--- The ways that placing a declared member can go (document 01, "Layout"): what holds of each of them holds of the step. And
--- that any other member closes a UDT's host, so that the next BOOL opens a new one at the current offset.
+-- The ways that placing a declared member can go (document 01, "Layout"): what holds of each of them holds of the step.
+-- And any other member closes a UDT's host, so that the next BOOL opens a new one at the current offset.
 use Prim.Native.Nat.{ℕ, _+_, _*_, _/_, _%_, _≤_, _<_}
 use mathlib.Core.Path.{_≡_, refl, sym, _∙_}
 use mathlib.Core.Bool.{Bool, true, false, cond, true≢false}
+use mathlib.Core.List.{List, [], _∷_}
 use borrow.Author.Tests.{ltb-true, ltb-false, leb-true, leb-false}
 use lib.Dec.{leb, ltb}
+use lib.ListN.{length}
 use Rattle.types.specs.declared.layout.Cursor.{Cursor}
 use Rattle.types.specs.declared.layout.Decl.{Decl}
 use Rattle.types.specs.declared.layout.Host.{Host}
 use Rattle.types.specs.declared.layout.Host.the-variants.{Closed, Open, Shared}
 use Rattle.types.specs.declared.layout.Placed.{Placed}
-use Rattle.types.specs.declared.layout.Placed.the-variants.{Hosted, One, AccessWrong, TooFar}
+use Rattle.types.specs.declared.layout.Placed.the-variants.{One, AccessWrong, TooFar}
+use Rattle.types.specs.declared.measure.Measured.the-variants.{Laid, AccessWrong as accessWrong, TooFar as tooFar}
 use Rattle.types.specs.declared.member.Member.{Member}
 use Rattle.types.specs.Layout.{most, accessOk, isBool, otherAt, opened, nextBit, placeBool, closed}
 use Rattle.types.specs.Layout.{startOf, endOf, placeOther, placed, InUdt, Shut}
+use Rattle.types.specs.Structs.{thenMeasure, measured, udtStart}
 use Rattle.types.proofs.LayoutLaws.{placed-bool}
 
 -- a UDT's host has no bit left, or there is none
@@ -47,7 +51,9 @@ module _ (P : Placed → Type 0) (c : Cursor) (d : Decl) (w : Ways P c d) where
   unfolding placeBool
   bool-cases b Closed e = w .opens b (rw e tt)
   bool-cases b (Open byte bit) e =
-      either P (ltb bit 8) _ _ (λ l. w .next b byte bit e (ltb-true bit 8 l)) (λ l. w .opens b (rw e (ltb-false bit 8 l)))
+      either P (ltb bit 8) _ _
+      (λ l. w .next b byte bit e (ltb-true bit 8 l))
+      (λ l. w .opens b (rw e (ltb-false bit 8 l)))
   bool-cases b (Shared i) e = w .shared b i e
 
   other-cases : isBool (d .ty) ≡ false → P (placeOther c d)
@@ -63,7 +69,23 @@ module _ (P : Placed → Type 0) (c : Cursor) (d : Decl) (w : Ways P c d) where
       (λ a. either P (isBool (d .ty)) _ _ (λ b. bool-cases b (c .host) refl) other-cases)
       (w .wrong)
 
--- ---- no host stays open across another member
+-- ---- a step among others
+
+module _ (host : ℕ → List ℕ) (e : Cursor) (n′ : ℕ) where
+  -- a layout that goes on from a step ends at e, with so many bytes of names
+  abbrev pub Ends : Cursor → ℕ → Decl → List Decl → Placed → Type 0
+  Ends c n d ds p =
+      thenMeasure p (length (host (c .members))) (d .name .long) n (λ c′ k. measured host c′ k ds) ≡ Laid e n′
+
+-- a refused layout ends nowhere
+module _ {A : Type 0} {c : Cursor} {n : ℕ} where
+  pub no-access : accessWrong ≡ Laid c n → A
+  no-access q = let z : true ≡ false = cc in absurd (true≢false z)
+
+  pub no-far : tooFar ≡ Laid c n → A
+  no-far q = let z : true ≡ false = cc in absurd (true≢false z)
+
+-- ---- in a UDT no host stays open across another member
 
 closed-udt : (h : Host) → InUdt h → closed h ≡ Closed
 unfolding closed
@@ -74,7 +96,7 @@ shut : {c : Cursor} → c .host ≡ Closed → Shut c
 unfolding placeBool
 shut {c} h = record { host = h; opens = λ e a b. sym (placed-bool c e a b) ∙ rw h }
 
--- after any other member in a UDT the next BOOL opens a new host at the current offset
+-- after any other member the next BOOL opens a new host at the current offset
 pub host-closed : (c : Cursor) (d : Decl) (m : Member) (c′ : Cursor) → InUdt (c .host) → isBool (d .ty) ≡ false
     → placed c d ≡ One m c′ → Shut c′
 unfolding opened nextBit
@@ -88,3 +110,25 @@ host-closed c d m c′ u b =
       other = λ t l q. shut (let e : closed (c .host) ≡ c′ .host = cc in sym e ∙ closed-udt (c .host) u);
       far = λ t l q. let z : true ≡ false = cc in absurd (true≢false z);
     })
+
+module _ (host : ℕ → List ℕ) (e : Cursor) (n′ : ℕ) where
+  stays-udt : (c : Cursor) (n : ℕ) (ds : List Decl) → InUdt (c .host) → measured host c n ds ≡ Laid e n′
+      → InUdt (e .host)
+  unfolding measured opened nextBit
+  stays-udt c n [] u q = let z : c ≡ e = cc in rw (← z) u
+  stays-udt c n (d ∷ ds) u q =
+      place-cases (λ p. Ends host e n′ c n d ds p → InUdt (e .host)) c d
+      (record {
+        wrong = λ a r. no-access r;
+        opens = λ b f r. stays-udt _ _ ds tt r;
+        next = λ b byte bit h l r. stays-udt _ _ ds tt r;
+        shared = λ b i h r. absurd (rw h at u);
+        other = λ b l r. stays-udt _ _ ds (rw (closed-udt (c .host) u) tt) r;
+        far = λ b l r. no-far r;
+      })
+      q
+
+  -- so it is after any members of a UDT
+  pub udt-shut : (n₀ : ℕ) (ds : List Decl) (d : Decl) (m : Member) (c′ : Cursor)
+      → measured host udtStart n₀ ds ≡ Laid e n′ → isBool (d .ty) ≡ false → placed e d ≡ One m c′ → Shut c′
+  udt-shut n₀ ds d m c′ q b p = host-closed e d m c′ (stays-udt udtStart n₀ ds tt q) b p

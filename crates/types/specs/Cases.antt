@@ -1,9 +1,164 @@
--- The reference cases that document 01 marks P, each by computation.
+-- The reference cases that document 01 marks P, each by computation: layouts from their declared members, the size of a
+-- string, and the fold of one byte.
+use Prim.Native.Nat.{ℕ, _+_, _/_, min}
 use mathlib.Core.Path.{_≡_, refl}
-use mathlib.Core.List.{[], _∷_}
+use mathlib.Core.Bool.{false, cond}
+use mathlib.Core.List.{List, [], _∷_, getLast?}
+use mathlib.Core.Option.{Option, none, some}
+use lib.ListN.{length, replicate}
+use Rattle.types.specs.declared.atomic.Atomic.{Atomic as AtomicType}
+use Rattle.types.specs.declared.atomic.Atomic.the-variants.{Bool as BOOL, SInt, DWord}
+use Rattle.types.specs.declared.layout.Cursor.{Cursor}
+use Rattle.types.specs.declared.layout.Decl.{Decl}
+use Rattle.types.specs.declared.layout.Placed.{Placed}
+use Rattle.types.specs.declared.measure.Measured.{Measured}
+use Rattle.types.specs.declared.measure.Measured.the-variants.{Laid, AccessWrong, TooFar}
+use Rattle.types.specs.declared.member.Member.{Member}
+use Rattle.types.specs.declared.member.Ty.the-variants.{Atomic}
+use Rattle.types.specs.Atomic.{sizeOf}
+use Rattle.types.specs.Defs.{Part}
+use Rattle.types.specs.Digits.{hostName}
 use Rattle.types.specs.Handle.{foldFrom}
+use Rattle.types.specs.Layout.{accessOk, isBool, alignUp, times, boolAt, otherAt, opened, nextBit, closed}
+use Rattle.types.specs.Layout.{startOf, endOf, placeBool, placeOther, placed}
+use Rattle.types.specs.Structs.{partsFrom, measured, sizeAt, udtStart, udtParts, bools, aoiHosts, hostParts}
+use Rattle.types.specs.Structs.{aoiParts, stringSize}
 
--- fold of one zero byte
+-- ---- declared members, and what is asked of their layout
+
+-- so many elements of an atomic type; no name is asked for
+unfoldable pub declared : AtomicType → ℕ → Decl
+unfolding sizeOf
+declared a n =
+    record {
+      name = record { at = 0; long = 0 };
+      ty = Atomic a;
+      size = sizeOf a;
+      align = min (sizeOf a) 4;
+      count = n;
+      local = false;
+      access = 0;
+    }
+
+abbrev pub bool : Decl
+bool = declared BOOL 0
+
+abbrev pub sint : Decl
+sint = declared SInt 0
+
+-- BOOL with a dim becomes ceil(dim / 32) DWORDs
+abbrev pub boolDim : ℕ → Decl
+boolDim dim = declared DWord ((dim + 31) / 32)
+
+-- what a case opens to compute one step
+unfoldable pub step : Cursor → Decl → Placed
+unfolding placed accessOk isBool placeBool placeOther opened nextBit closed startOf endOf alignUp times declared
+step c d = placed c d
+
+unfoldable pub udt : List Decl → List Part
+unfolding udtParts partsFrom step
+udt ds = udtParts (λ d. []) [] ds
+
+unfoldable pub aoi : List Decl → List Part
+unfolding aoiParts aoiHosts bools hostParts partsFrom step
+aoi ds = aoiParts (λ d. []) ds
+
+-- the size, if the layout is not refused
+abbrev pub sizeIf : Measured → Option ℕ
+sizeIf (Laid c n) = some (sizeAt c)
+sizeIf AccessWrong = none
+sizeIf TooFar = none
+
+unfoldable pub udtSize : List Decl → Option ℕ
+unfolding measured step
+udtSize ds = sizeIf (measured (hostName []) udtStart 0 ds)
+
+-- where the hidden parts lie: the hosts
+unfoldable pub hostsAt : List Part → List ℕ
+hostsAt [] = []
+hostsAt (p ∷ ps) = cond (p .member .hidden) (p .member .offset ∷ hostsAt ps) (hostsAt ps)
+
+-- the visible members
+unfoldable pub visible : List Part → List Member
+visible [] = []
+visible (p ∷ ps) = cond (p .member .hidden) (visible ps) (p .member ∷ visible ps)
+
+-- ---- UDT
+
+pub no-members : udtSize [] ≡ some 0
+unfolding udtSize
+no-members = refl
+
+-- eight BOOLs: one host
+pub eight-bools : hostsAt (udt (replicate 8 bool)) ≡ 0 ∷ []
+unfolding udt hostsAt
+eight-bools = refl
+
+-- nine: hosts at 0 and 1, 11 members, size 4
+pub nine-bools : hostsAt (udt (replicate 9 bool)) ≡ 0 ∷ 1 ∷ []
+unfolding udt hostsAt
+nine-bools = refl
+
+pub nine-members : length (udt (replicate 9 bool)) ≡ 11
+unfolding udt
+nine-members = refl
+
+pub nine-size : udtSize (replicate 9 bool) ≡ some 4
+unfolding udtSize
+nine-size = refl
+
+-- BOOL, SINT, BOOL: hosts at 0 and 2, SINT at 1
+pub between-hosts : hostsAt (udt (bool ∷ sint ∷ bool ∷ [])) ≡ 0 ∷ 2 ∷ []
+unfolding udt hostsAt
+between-hosts = refl
+
+pub between : visible (udt (bool ∷ sint ∷ bool ∷ [])) ≡ boolAt bool 0 0 ∷ otherAt sint 1 ∷ boolAt bool 2 0 ∷ []
+unfolding udt visible
+between = refl
+
+-- BOOL dim 32: one DWORD
+pub dim-32 : visible (udt (boolDim 32 ∷ [])) ≡ otherAt (declared DWord 1) 0 ∷ []
+unfolding udt visible
+dim-32 = refl
+
+-- dim 33: two, size 8
+pub dim-33 : visible (udt (boolDim 33 ∷ [])) ≡ otherAt (declared DWord 2) 0 ∷ []
+unfolding udt visible
+dim-33 = refl
+
+pub dim-33-size : udtSize (boolDim 33 ∷ []) ≡ some 8
+unfolding udtSize
+dim-33-size = refl
+
+-- ---- AOI
+
+-- 30 BOOLs: one host, last at byte 3 bit 7
+pub thirty-bools : hostsAt (aoi (replicate 30 bool)) ≡ 0 ∷ []
+unfolding aoi hostsAt
+thirty-bools = refl
+
+pub thirty-last : getLast? (visible (aoi (replicate 30 bool))) ≡ some (boolAt bool 3 7)
+unfolding aoi visible
+thirty-last = refl
+
+-- 31: two, last at byte 4 bit 0
+pub thirty-one-bools : hostsAt (aoi (replicate 31 bool)) ≡ 0 ∷ 4 ∷ []
+unfolding aoi hostsAt
+thirty-one-bools = refl
+
+pub thirty-one-last : getLast? (visible (aoi (replicate 31 bool))) ≡ some (boolAt bool 4 0)
+unfolding aoi visible
+thirty-one-last = refl
+
+-- ---- strings
+
+-- capacity 82
+pub string-size : stringSize 82 ≡ 88
+unfolding stringSize alignUp
+string-size = refl
+
+-- ---- fold of one zero byte
+
 pub zero-byte : foldFrom 0x1D0F (0 ∷ []) ≡ 0xE1C5
 unfolding foldFrom
 zero-byte = refl

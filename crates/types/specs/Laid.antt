@@ -1,18 +1,18 @@
--- What a layout promises those who read and write values (document 01, "Layout"): every member names an earlier type, lies
--- inside the size, and no two visible members share a bit. It is stated in bits, so that a BOOL is a member like any other.
+-- What a layout promises those who read and write values (document 01, "Layout"): every member names an earlier type,
+-- lies inside the size, and no two visible members share a bit. It is said in bits: a BOOL is a member like any other.
 use Prim.Native.Nat.{ℕ, _+_, _*_, _<_, _≤_}
 use mathlib.Core.Path.{_≡_}
 use mathlib.Core.Bool.{false}
 use mathlib.Core.List.{List, [], _∷_}
 use mathlib.Core.Logic.{_⊎_}
-use lib.ListN.{length, getD}
+use Rattle.types.specs.declared.layout.Decl.{Decl}
 use Rattle.types.specs.declared.member.Bit.{Bit}
 use Rattle.types.specs.declared.member.Bit.the-variants.{None, At}
 use Rattle.types.specs.declared.member.Member.{Member}
 use Rattle.types.specs.declared.member.Ty.{Ty}
 use Rattle.types.specs.declared.member.Ty.the-variants.{Atomic, Struct}
 use Rattle.types.specs.Defs.{Part}
-use Rattle.types.specs.Waste.{bitsOf}
+use Rattle.types.specs.Waste.{sizeIn, bitsOf}
 
 -- a member's first bit: its own bit of the byte at its offset, or the first of its bytes
 abbrev pub firstIn : Bit → ℕ → ℕ
@@ -41,8 +41,26 @@ Clear sizes m [] = Unit {0}
 Clear sizes m (p ∷ ps) =
     (m .hidden ≡ false → p .member .hidden ≡ false → Apart sizes m (p .member)) × Clear sizes m ps
 
+-- what holds of a member of structure i, of so many bytes, before the rest of its parts
+pub record Lies (sizes : ℕ → ℕ) (i size : ℕ) (m : Member) (rest : List Part) : Type 0 where
+  pub earlier : Earlier i (m .ty)
+  pub inside : pastBit sizes m ≤ 8 * size
+  pub clear : Clear sizes m rest
+
 -- the parts of structure i, of so many bytes, where the sizes of the earlier structures are known
 unfoldable pub Laid : (ℕ → ℕ) → ℕ → ℕ → List Part → Type 0
 Laid sizes i size [] = Unit {0}
-Laid sizes i size (p ∷ ps) =
-    Earlier i (p .member .ty) × ((pastBit sizes (p .member) ≤ 8 * size) × (Clear sizes (p .member) ps × Laid sizes i size ps))
+Laid sizes i size (p ∷ ps) = Lies sizes i size (p .member) ps × Laid sizes i size ps
+
+-- ---- what a layout counts on
+
+-- a declared member whose type was found: an atomic or one of the first i, with that type's size
+pub record Resolved (sizes : ℕ → ℕ) (i : ℕ) (d : Decl) : Type 0 where
+  pub size : d .size ≡ sizeIn sizes (d .ty)
+  pub earlier : Earlier i (d .ty)
+  pub align : 0 < d .align
+
+-- each of the declared members is so
+unfoldable pub Every : (Decl → Type 0) → List Decl → Type 0
+Every P [] = Unit {0}
+Every P (d ∷ ds) = P d × Every P ds

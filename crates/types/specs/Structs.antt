@@ -18,7 +18,19 @@ use Rattle.types.specs.declared.member.Ty.the-variants.{Atomic}
 use Rattle.types.specs.Defs.{Part}
 use Rattle.types.specs.Digits.{hostName, bitHostName}
 use Rattle.types.specs.Entries.{Found}
+use Rattle.types.specs.Tables.{TyFits, memberRow}
 use Rattle.types.specs.Layout.{placed, isBool, alignUp, sharedBits, Able}
+
+-- the names of some parts, one after the other
+unfoldable pub namesOf : List Part → List ℕ
+namesOf [] = []
+namesOf (p ∷ ps) = p .name ++ namesOf ps
+
+-- the rows of some parts whose names stand one after the other, from a place on
+unfoldable pub rowsOf : ℕ → List Part → List ℕ
+rowsOf at [] = []
+rowsOf at (p ∷ ps) =
+    memberRow (record { at = at; long = length (p .name) }) (p .member) ++ rowsOf (at + length (p .name)) ps
 
 -- ---- declared members, one after the other
 

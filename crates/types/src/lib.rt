@@ -9,6 +9,7 @@ mod measure;
 mod member;
 mod names;
 mod refusal;
+mod store;
 mod tables;
 
 pub use atomic::Atomic;

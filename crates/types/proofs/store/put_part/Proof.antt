@@ -1,0 +1,31 @@
+-- `types::put_part` meets its contract.
+use borrow.Author.Needs.{needs}
+use Prim.Native.Nat.{_*_}
+use mathlib.Core.Path.{ap, _∙_}
+use lib.Seq.{sets}
+use Rattle.types.proofs.StoreLaws.{one-row, one-name}
+use Rattle.types.proofs.store.put_part.Statement.{statement}
+use Rattle.types.proofs.store.put_part.Tie as tie
+
+put-bytes-requires : tie.Need-put-bytes-requires
+put-bytes-requires c κs = search needs
+
+cast-t11 : tie.Need-cast-t11
+cast-t11 c = search needs
+
+cast-t12 : tie.Need-cast-t12
+cast-t12 c = search needs
+
+put-member-requires : tie.Need-put-member-requires
+put-member-requires c κs = search needs
+
+returns : tie.Need-returns
+returns c =
+    let put = c .before .before in
+    let a = put .before .before .before .args in
+    (c .put-member .ensures ∙ ap (sets (a .members .now) (8 * a .row)) (one-row (a .at) (a .name .now) (a .m)),
+    put .put-bytes .ensures ∙ ap (sets (a .names .now) (a .at)) (one-name (a .name .now) (a .m)))
+
+pub put-part-spec : {M : Type 1} → statement M
+put-part-spec =
+    tie.close (tie.spec put-bytes-requires cast-t11 cast-t12 put-member-requires returns)

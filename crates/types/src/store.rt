@@ -1,0 +1,78 @@
+// Whole layouts (document 01, "Layout"), the second pass: the rows and the names of what was measured.
+ghost use mathlib.Core.Path.{_≡_};
+ghost use Prim.Native.Nat.{_+_, _*_, _<_, _≤_};
+ghost use mathlib.Core.List.{[], _∷_};
+ghost use lib.ListN.{length};
+ghost use lib.Seq.{sets};
+ghost use Rattle.types.specs.Digits.{hostName};
+ghost use Rattle.types.specs.Structs.{namesOf, rowsOf, named};
+ghost use Rattle.types.specs.Tables.{TyFits};
+use crate::digits::host_long;
+use crate::digits::put_bytes;
+use crate::digits::put_host_name;
+use crate::layout::Cursor;
+use crate::layout::Decl;
+use crate::layout::Placed;
+use crate::layout::place;
+use crate::member::Member;
+use crate::member::Span;
+use crate::tables::MemberTable;
+use crate::tables::NameTable;
+use crate::tables::put_member;
+
+// A member's row, and its name among the names.
+pub fn put_part(
+    members: &mut MemberTable,
+    row: usize,
+    names: &mut NameTable,
+    at: usize,
+    name: &[u8],
+    m: Member,
+)
+    requires { ⌜ (row < 2000) × ((at + length (now name) ≤ 32768) × TyFits (m .ty)) ⌝ }
+    ensures rows { λ _. ⌜ now (members .exit) ≡ sets (now (members .entry)) (8 * row) (rowsOf at (named (now (name .entry)) m ∷ [])) ⌝ }
+    ensures names { λ _. ⌜ now (names .exit) ≡ sets (now (names .entry)) at (namesOf (named (now (name .entry)) m ∷ [])) ⌝ }
+{
+    let long = name.len();
+    put_bytes(names, at, name);
+    put_member(
+        members,
+        row,
+        Span {
+            at: at as u32,
+            long: long as u32,
+        },
+        m,
+    );
+}
+
+// A hidden host's row, and its name among the names; answers the name's length.
+fn put_host(
+    members: &mut MemberTable,
+    row: usize,
+    names: &mut NameTable,
+    at: usize,
+    name: &[u8],
+    k: u32,
+    m: Member,
+) -> usize
+    requires { ⌜ (row < 2000) × ((k < 1000000) × ((at + length (hostName (now name) k) ≤ 32768) × TyFits (m .ty))) ⌝ }
+    ensures long { λ r. ⌜ r ≡ length (hostName (now (name .entry)) k) ⌝ }
+    ensures rows { λ _. ⌜ now (members .exit) ≡ sets (now (members .entry)) (8 * row)
+        (rowsOf at (named (hostName (now (name .entry)) k) m ∷ [])) ⌝ }
+    ensures names { λ _. ⌜ now (names .exit) ≡ sets (now (names .entry)) at
+        (namesOf (named (hostName (now (name .entry)) k) m ∷ [])) ⌝ }
+{
+    let long = host_long(name, k);
+    put_host_name(names, at, name, k);
+    put_member(
+        members,
+        row,
+        Span {
+            at: at as u32,
+            long,
+        },
+        m,
+    );
+    long as usize
+}
