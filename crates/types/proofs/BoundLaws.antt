@@ -12,11 +12,12 @@ use Rattle.types.specs.declared.layout.Host.the-variants.{Closed, Open, 
 use Rattle.types.specs.declared.layout.Placed.{Placed}
 use Rattle.types.specs.declared.measure.Measured.the-variants.{Laid}
 use Rattle.types.specs.Defs.{Part}
-use Rattle.types.specs.Digits.{hostName, bitHostName}
+use Rattle.types.specs.Digits.{hostName}
 use Rattle.types.specs.Laid.{Every}
 use Rattle.types.specs.Layout.{most, alignUp, opened, nextBit}
 use Rattle.types.specs.Structs.{namesOf, thenParts, partsFrom, measured, sizeAt, udtStart, udtParts}
 use Rattle.types.specs.Structs.{aoiHosts, hostParts, aoiStart, aoiParts, stringSize}
+use Rattle.types.proofs.StoreLaws.{names-append}
 use Rattle.types.proofs.PlaceLaws.{Full, place-cases, Ends, no-access, no-far}
 
 -- ---- the counts
@@ -65,11 +66,6 @@ unfolding hostParts
 hosts-count k zero = refl
 hosts-count k (suc h) = ap suc (hosts-count (k + 1) h)
 
-names-append : (ps rs : List Part) → length (namesOf (ps ++ rs)) ≡ length (namesOf ps) + length (namesOf rs)
-unfolding namesOf
-names-append [] rs = omega arith
-names-append (p ∷ ps) rs = simp length-append (omega (arith, names-append ps rs))
-
 module _ (name : Decl → List ℕ) (type : List ℕ) (ds : List Decl) (n₀ : ℕ) (c : Cursor) (n : ℕ)
     (q : measured (hostName type) udtStart n₀ ds ≡ Laid c n) where
   pub udt-count : length (udtParts name type ds) ≡ c .members
@@ -81,20 +77,20 @@ module _ (name : Decl → List ℕ) (type : List ℕ) (ds : List Decl) (n₀ : �
   udt-names l = names-count name (hostName type) c n udtStart n₀ ds l q
 
 -- an AOI's names begin with its hosts', EnableIn and EnableOut, which have 17 bytes
-module _ (name : Decl → List ℕ) (ds : List Decl) (n₀ : ℕ) (c : Cursor) (n : ℕ)
-    (q : measured bitHostName (aoiStart (aoiHosts ds)) n₀ ds ≡ Laid c n) where
-  pub aoi-count : length (aoiParts name ds) ≡ c .members
+module _ (name : Decl → List ℕ) (type : List ℕ) (ds : List Decl) (n₀ : ℕ) (c : Cursor) (n : ℕ)
+    (q : measured (hostName type) (aoiStart (aoiHosts ds)) n₀ ds ≡ Laid c n) where
+  pub aoi-count : length (aoiParts name type ds) ≡ c .members
   unfolding aoiParts
   aoi-count =
       let h = aoiHosts ds in
-      simp length-append (omega (arith, hosts-count 0 h, parts-count name bitHostName c n (aoiStart h) n₀ ds q))
+      simp length-append (omega (arith, hosts-count 0 h, parts-count name (hostName type) c n (aoiStart h) n₀ ds q))
 
   pub aoi-names : Every (λ d. length (name d) ≡ d .name .long) ds
-      → n₀ ≡ length (namesOf (hostParts 0 (aoiHosts ds))) + 17 → length (namesOf (aoiParts name ds)) ≡ n
+      → n₀ ≡ length (namesOf (hostParts 0 (aoiHosts ds))) + 17 → length (namesOf (aoiParts name type ds)) ≡ n
   unfolding aoiParts namesOf
   aoi-names l e =
       let h = aoiHosts ds in
-      simp (names-append, length-append) (omega (arith, names-count name bitHostName c n (aoiStart h) n₀ ds l q))
+      simp (names-append, length-append) (omega (arith, names-count name (hostName type) c n (aoiStart h) n₀ ds l q))
 
 -- ---- the size
 

@@ -15,7 +15,7 @@ use Rattle.types.specs.declared.measure.Measured.the-variants.{Laid as E
 use Rattle.types.specs.declared.member.Member.{Member}
 use Rattle.types.specs.Atomic.{sizeOf}
 use Rattle.types.specs.Defs.{Part}
-use Rattle.types.specs.Digits.{hostName, bitHostName}
+use Rattle.types.specs.Digits.{hostName}
 use Rattle.types.specs.Laid.{firstBit, Apart, Clear, Lies, Laid, Resolved, Every}
 use Rattle.types.specs.Layout.{times, alignUp, placed}
 use Rattle.types.specs.Structs.{named, thenParts, partsFrom, measured, sizeAt, udtStart, udtParts}
@@ -116,16 +116,16 @@ module _ (sizes : ℕ → ℕ) (i : ℕ) where
       (record { earlier = tt; inside = omega arith; clear = clear }, hosts-laid size (k + 1) h ps (omega arith) r)
 
   -- EnableIn and EnableOut have bits 0 and 1, and all BOOLs to come fit into the hosts
-  pub aoi-laid : (name : Decl → List ℕ) (ds : List Decl) (n₀ : ℕ) (c : Cursor) (n : ℕ)
-      → Every (Resolved sizes i) ds → measured bitHostName (aoiStart (aoiHosts ds)) n₀ ds ≡ Ended c n
-      → Laid sizes i (sizeAt c) (aoiParts name ds)
+  pub aoi-laid : (name : Decl → List ℕ) (type : List ℕ) (ds : List Decl) (n₀ : ℕ) (c : Cursor) (n : ℕ)
+      → Every (Resolved sizes i) ds → measured (hostName type) (aoiStart (aoiHosts ds)) n₀ ds ≡ Ended c n
+      → Laid sizes i (sizeAt c) (aoiParts name type ds)
   unfolding aoiParts aoiHosts Laid Clear
-  aoi-laid name ds n₀ c n rs q =
+  aoi-laid name type ds n₀ c n rs q =
       let h = aoiHosts ds in
       let start = aoiStart h in
-      let r = rest sizes (32 * h) i (sizeAt c) name bitHostName c n ds rs (size-room c) start n₀ (omega arith) q in
+      let r = rest sizes (32 * h) i (sizeAt c) name (hostName type) c n ds rs (size-room c) start n₀ (omega arith) q in
       let room : 4 * h ≤ sizeAt c = r .room in
-      let others = partsFrom name bitHostName start ds in
+      let others = partsFrom name (hostName type) start ds in
       let clear : (bit : ℕ) → bit < 2 → Clear sizes (enableAt bit) others =
       λ bit b. r .clear (enableAt bit) (record { before = omega arith; beside = inl (omega arith) }) in
       let out : Laid sizes i (sizeAt c) (named enableOut (enableAt 1) ∷ others) =

@@ -12,4 +12,5 @@ pub mod FreeLaws
 pub mod LaidLaws
 pub mod BoundLaws
 pub mod StoreLaws
+pub mod StoreOneLaws
 pub mod TableLaws

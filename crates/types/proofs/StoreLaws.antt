@@ -37,7 +37,7 @@ unfolding rowsOf namesOf
 rows-append at [] qs = ap (λ (k : ℕ). rowsOf k qs) (omega arith)
 rows-append at (p ∷ ps) qs =
     let e : at + length (p .name ++ namesOf ps) ≡ at + length (p .name) + length (namesOf ps) =
-        omega (arith, length-append (p .name) (namesOf ps)) in
+    omega (arith, length-append (p .name) (namesOf ps)) in
     rw (e, append-assoc) (ap (λ (l : List ℕ). memberRow (record { at = at; long = length (p .name) }) (p .member) ++ l)
     (rows-append (at + length (p .name)) ps qs))
 

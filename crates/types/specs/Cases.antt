@@ -61,7 +61,7 @@ udt ds = udtParts (λ d. []) [] ds
 
 unfoldable pub aoi : List Decl → List Part
 unfolding aoiParts aoiHosts bools hostParts partsFrom step
-aoi ds = aoiParts (λ d. []) ds
+aoi ds = aoiParts (λ d. []) [] ds
 
 -- the size, if the layout is not refused
 abbrev pub sizeIf : Measured → Option ℕ

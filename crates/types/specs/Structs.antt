@@ -15,7 +15,9 @@ use Rattle.types.specs.declared.measure.Measured.the-variants.{Laid, Acc
 use Rattle.types.specs.declared.member.Bit.the-variants.{None, At}
 use Rattle.types.specs.declared.member.Member.{Member}
 use Rattle.types.specs.declared.member.Ty.the-variants.{Atomic}
-use Rattle.types.specs.Defs.{Part}
+use Rattle.types.specs.declared.store.Stored.{Stored}
+use Rattle.types.specs.declared.store.Stored.the-variants.{Next, Stop}
+use Rattle.types.specs.Defs.{Part, nameIn}
 use Rattle.types.specs.Digits.{hostName, bitHostName}
 use Rattle.types.specs.Entries.{Found}
 use Rattle.types.specs.Tables.{TyFits, memberRow}
@@ -106,11 +108,11 @@ enableOut = 69 ∷ 110 ∷ 97 ∷ 98 ∷ 108 ∷ 101 ∷ 79 ∷ 117 ∷ 116 ∷ 
 abbrev pub aoiStart : ℕ → Cursor
 aoiStart h = record { offset = 4 * h; host = Shared 2; members = h + 2 }
 
-unfoldable pub aoiParts : (Decl → List ℕ) → List Decl → List Part
-aoiParts name ds =
+unfoldable pub aoiParts : (Decl → List ℕ) → List ℕ → List Decl → List Part
+aoiParts name type ds =
     hostParts 0 (aoiHosts ds)
     ++ (named enableIn (enableAt 0) ∷ named enableOut (enableAt 1)
-    ∷ partsFrom name bitHostName (aoiStart (aoiHosts ds)) ds)
+    ∷ partsFrom name (hostName type) (aoiStart (aoiHosts ds)) ds)
 
 -- ---- strings
 
@@ -187,3 +189,27 @@ pub record Measurable (book tys : List ℕ) (at n : ℕ) (c : Cursor) (names : �
   pub passed : ℕ
   pub few : passed + n ≤ 131072
   pub far : Far passed c names
+
+-- ---- one member of a stored layout
+
+-- the parts that one declared member becomes
+unfoldable pub oneParts : List ℕ → List ℕ → Cursor → Decl → List Part
+oneParts book type c d = thenParts (placed c d) (hostName type (c .members)) (nameIn book (d .name)) (λ c′. [])
+
+-- where the next member goes: the cursor, the row, and the place of its name
+abbrev pub thenNext : Placed → ℕ → ℕ → ℕ → ℕ → Stored
+thenNext (Hosted h m c) host name row at = Next c (row + 2) (at + host + name)
+thenNext (One m c) host name row at = Next c (row + 1) (at + name)
+thenNext AccessWrong host name row at = Stop
+thenNext TooFar host name row at = Stop
+
+unfoldable pub storedOne : List ℕ → Cursor → Decl → ℕ → ℕ → Stored
+storedOne type c d row at = thenNext (placed c d) (length (hostName type (c .members))) (d .name .long) row at
+
+-- what one declared member's parts ask of the book and the tables
+pub record Fits (book type : List ℕ) (c : Cursor) (d : Decl) (row at : ℕ) : Type 0 where
+  pub near : Near c 0 d
+  pub name : d .name .at + d .name .long ≤ length book
+  pub ty : TyFits (d .ty)
+  pub rows : row + length (oneParts book type c d) ≤ 2000
+  pub names : at + length (namesOf (oneParts book type c d)) ≤ 32768

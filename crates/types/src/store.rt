@@ -5,7 +5,7 @@ ghost use mathlib.Core.List.{[], _∷_};
 ghost use lib.ListN.{length};
 ghost use lib.Seq.{sets};
 ghost use Rattle.types.specs.Digits.{hostName};
-ghost use Rattle.types.specs.Structs.{namesOf, rowsOf, named};
+ghost use Rattle.types.specs.Structs.{namesOf, rowsOf, named, oneParts, storedOne, Fits};
 ghost use Rattle.types.specs.Tables.{TyFits};
 use crate::digits::host_long;
 use crate::digits::put_bytes;
@@ -75,4 +75,55 @@ fn put_host(
         m,
     );
     long as usize
+}
+
+// Where the next member goes: the cursor, the row, and the place of its name. Nothing is left to store
+// where the layout was refused.
+pub enum Stored {
+    Next(Cursor, usize, usize),
+    Stop,
+}
+
+fn wide(x: u32) -> usize
+    ensures { λ r. ⌜ r ≡ x ⌝ }
+{
+    x as usize
+}
+
+// The rows and the names of one declared member of a type with that name.
+fn store_one(
+    book: &[u8],
+    name: &[u8],
+    c: Cursor,
+    d: Decl,
+    members: &mut MemberTable,
+    row: usize,
+    names: &mut NameTable,
+    at: usize,
+) -> Stored
+    requires { ⌜ Fits (now book) (now name) c d row at ⌝ }
+    ensures next { λ r. ⌜ r ≡ storedOne (now (name .entry)) c d row at ⌝ }
+    ensures rows { λ _. ⌜ now (members .exit) ≡ sets (now (members .entry)) (8 * row)
+        (rowsOf at (oneParts (now (book .entry)) (now (name .entry)) c d)) ⌝ }
+    ensures names { λ _. ⌜ now (names .exit) ≡ sets (now (names .entry)) at
+        (namesOf (oneParts (now (book .entry)) (now (name .entry)) c d)) ⌝ }
+{
+    let span = d.name;
+    let start = wide(span.at);
+    let long = wide(span.long);
+    let end = start + long;
+    let p = place(c, d);
+    match p {
+        Placed::Hosted(h, m, next) => {
+            let host = put_host(members, row, names, at, name, c.members, h);
+            put_part(members, row + 1, names, at + host, &book[start..end], m);
+            Stored::Next(next, row + 2, at + host + long)
+        }
+        Placed::One(m, next) => {
+            put_part(members, row, names, at, &book[start..end], m);
+            Stored::Next(next, row + 1, at + long)
+        }
+        Placed::AccessWrong => Stored::Stop,
+        Placed::TooFar => Stored::Stop,
+    }
 }

@@ -28,11 +28,14 @@ returns c =
     let put = c .before .before in
     let long = put .before .before in
     let a = long .before .before .args in
-    let host = hostName (a .name .now) (a .k) in
-    (long .host-long .ensures .is,
-    (c .put-member .ensures
-    ∙ ap (sets (a .members .now) (8 * a .row)) (one-row-of (a .at) host (a .m) _ (long .host-long .ensures .is)),
-    put .put-host-name .ensures ∙ ap (sets (a .names .now) (a .at)) (one-name host (a .m))))
+    let host = hostName (a .name .now) (a .k) in (
+      long .host-long .ensures .is,
+      (
+        c .put-member .ensures
+            ∙ ap (sets (a .members .now) (8 * a .row)) (one-row-of (a .at) host (a .m) _ (long .host-long .ensures .is)),
+        put .put-host-name .ensures ∙ ap (sets (a .names .now) (a .at)) (one-name host (a .m)),
+      ),
+    )
 
 pub put-host-spec : {M : Type 1} → statement M
 put-host-spec =

@@ -22,9 +22,10 @@ put-member-requires c κs = search needs
 returns : tie.Need-returns
 returns c =
     let put = c .before .before in
-    let a = put .before .before .before .args in
-    (c .put-member .ensures ∙ ap (sets (a .members .now) (8 * a .row)) (one-row (a .at) (a .name .now) (a .m)),
-    put .put-bytes .ensures ∙ ap (sets (a .names .now) (a .at)) (one-name (a .name .now) (a .m)))
+    let a = put .before .before .before .args in (
+      c .put-member .ensures ∙ ap (sets (a .members .now) (8 * a .row)) (one-row (a .at) (a .name .now) (a .m)),
+      put .put-bytes .ensures ∙ ap (sets (a .names .now) (a .at)) (one-name (a .name .now) (a .m)),
+    )
 
 pub put-part-spec : {M : Type 1} → statement M
 put-part-spec =

@@ -1,0 +1,199 @@
+-- `types::store_one` meets its contract: a host's part and the member's, the member's alone, or nothing.
+use native.Mathlib.Omega.{arith}
+use borrow.Author.Needs.{needs}
+use Prim.Native.Nat.{_+_, _-_}
+use mathlib.Core.Path.{_≡_, sym, ap, _∙_}
+use mathlib.Core.Logic.{inl, inr}
+use lib.ListN.{length, take, drop}
+use Rattle.types.specs.Defs.{nameIn}
+use Rattle.types.proofs.StoreOneLaws.{lent-name, lent-long, TwoFit, OneFits, two-fit, one-fits, next-hosted, next-alone}
+use Rattle.types.proofs.StoreOneLaws.{stop-access, stop-far, rows-hosted, names-hosted, rows-alone, names-alone, rows-kept, names-kept}
+use Rattle.types.proofs.store.store_one.Statement.{statement}
+use Rattle.types.proofs.store.store_one.Tie as tie
+
+two : (c : tie.After-p)
+    → let a = c .before .before .before .before .before .before .before .before .args in
+    TwoFit (a .book .now) (a .name .now) (a .c) (a .d) (a .row) (a .at) (c .p .given .0 .0) (c .p .given .0 .1 .0)
+two c =
+    let start = c .before .before .before .before .before .before .before .before in
+    let a = start .args in
+    two-fit (a .book .now) (a .name .now) (a .c) (a .d) (a .row) (a .at) _ (c .before .before .place .ensures) (start .pre) (c .p .given .1)
+
+one : (c : tie.After-p2) → let a = c .before .before .before .before .before .before .before .before .args in OneFits (a .d) (a .row) (a .at) (c .p2 .given .0 .0)
+one c =
+    let start = c .before .before .before .before .before .before .before .before in
+    let a = start .args in
+    one-fits (a .book .now) (a .name .now) (a .c) (a .d) (a .row) (a .at) _ (c .before .before .place .ensures) (start .pre) (c .p2 .given .1)
+
+name : (c : tie.After-place)
+    → let a = c .before .before .before .before .before .before .args in
+    let s = c .before .before .wide .result in
+    take (s + c .before .wide2 .result - s) (drop s (a .book .now)) ≡ nameIn (a .book .now) (a .d .name)
+name c = lent-name _ _ _ _ (c .before .before .wide .ensures) (c .before .wide2 .ensures)
+
+long : (c : tie.After-place)
+    → let a = c .before .before .before .before .before .before .args in
+    let s = c .before .before .wide .result in
+    length (take (s + c .before .wide2 .result - s) (drop s (a .book .now))) ≡ a .d .name .long
+long c = lent-long _ _ _ _ (c .before .before .wide .ensures) (c .before .wide2 .ensures) (c .before .before .before .before .before .before .pre .name)
+
+wide-requires : tie.Need-wide-requires
+wide-requires c κs = search needs
+
+wide-requires-2 : tie.Need-wide-requires-2
+wide-requires-2 c κs = search needs
+
+add-end : tie.Need-add-end
+add-end c = search needs
+
+place-requires : tie.Need-place-requires
+place-requires c κs = search needs
+
+enum-known-p : tie.Need-enum-known-p
+enum-known-p c = search needs
+
+put-host-requires : tie.Need-put-host-requires
+put-host-requires c κs =
+    let p = c .before .before .before in
+    let start = p .before .before .before .before .before .before .before .before in
+    (omega (arith, two p .rows), (start .pre .near .few, (omega (arith, two p .names), two p .host)))
+
+add-put-part : tie.Need-add-put-part
+add-put-part c = search needs
+
+add-put-part-2 : tie.Need-add-put-part-2
+add-put-part-2 c = omega (arith, two (c .before .before .before .before .before .before) .names, c .before .before .put-host .ensures .0)
+
+sub-put-part : tie.Need-sub-put-part
+sub-put-part c = search needs
+
+part-put-part-start : tie.Need-part-put-part-start
+part-put-part-start c = search needs
+
+part-put-part-end : tie.Need-part-put-part-end
+part-put-part-end c = search needs
+
+put-part-requires : tie.Need-put-part-requires
+put-part-requires c κs =
+    let p = c .before .before .before .before .before .before .before in
+    (omega (arith, two p .rows),
+    (omega (arith, two p .names, c .before .before .before .put-host .ensures .0, long (p .before .before)), two p .member))
+
+add-t25 : tie.Need-add-t25
+add-t25 c = omega (arith, two (c .before .before .before .before .before .before .before .before) .rows)
+
+add-t29 : tie.Need-add-t29
+add-t29 c = omega (arith, two (c .before .before .before .before .before .before .before .before) .names, c .before .before .before .before .put-host .ensures .0)
+
+add-t27 : tie.Need-add-t27
+add-t27 c = omega (arith, two (c .before .before .before .before .before .before .before .before) .names, c .before .before .before .before .put-host .ensures .0, c .before .before .before .before .before .before .before .before .before .before .before .wide2 .ensures)
+
+enum-known-p-2 : tie.Need-enum-known-p-2
+enum-known-p-2 c = search needs
+
+sub-put-part-2 : tie.Need-sub-put-part-2
+sub-put-part-2 c = search needs
+
+part-put-part-start-2 : tie.Need-part-put-part-start-2
+part-put-part-start-2 c = search needs
+
+part-put-part-end-2 : tie.Need-part-put-part-end-2
+part-put-part-end-2 c = search needs
+
+put-part-requires-2 : tie.Need-put-part-requires-2
+put-part-requires-2 c κs =
+    let p = c .before .before .before .before in
+    (omega (arith, one p .rows), (omega (arith, one p .names, long (p .before .before)), one p .member))
+
+add-t36 : tie.Need-add-t36
+add-t36 c = search needs
+
+add-t39 : tie.Need-add-t39
+add-t39 c = search needs
+
+enum-told : tie.Need-enum-told
+enum-told c = search needs
+
+enum-told-2 : tie.Need-enum-told-2
+enum-told-2 c = search needs
+
+returns : tie.Need-returns
+returns c =
+    let host = c .before .before .before .before in
+    let p = host .before .before .before .before in
+    let placed = p .before .before in
+    let a = placed .before .before .before .before .before .before .args in
+    let e = placed .place .ensures in
+    let k = host .put-host .ensures .0 in
+    (rw (placed .before .wide2 .ensures)
+    (next-hosted (a .book .now) (a .name .now) (a .c) (a .d) (a .row) (a .at) _ e _ (p .p .given .1) k),
+    (rw (c .put-part .ensures .0, host .put-host .ensures .1 .0, name placed)
+    (rows-hosted (a .book .now) (a .name .now) (a .c) (a .d) (a .row) (a .at) _ e (a .members .now) _ (p .p .given .1) k),
+    rw (c .put-part .ensures .1, host .put-host .ensures .1 .1, name placed)
+    (names-hosted (a .book .now) (a .name .now) (a .c) (a .d) (a .row) (a .at) _ e (a .names .now) _ (p .p .given .1) k)))
+
+returns-2 : tie.Need-returns-2
+returns-2 c =
+    let p = c .before .before .before .before .before in
+    let placed = p .before .before in
+    let a = placed .before .before .before .before .before .before .args in
+    let e = placed .place .ensures in
+    (rw (placed .before .wide2 .ensures)
+    (next-alone (a .book .now) (a .name .now) (a .c) (a .d) (a .row) (a .at) _ e (p .p2 .given .1)),
+    (rw (c .put-part2 .ensures .0, name placed)
+    (rows-alone (a .book .now) (a .name .now) (a .c) (a .d) (a .row) (a .at) _ e (a .members .now) (p .p2 .given .1)),
+    rw (c .put-part2 .ensures .1, name placed)
+    (names-alone (a .book .now) (a .name .now) (a .c) (a .d) (a .row) (a .at) _ e (a .names .now) (p .p2 .given .1))))
+
+returns-3 : tie.Need-returns-3
+returns-3 c =
+    let placed = c .before .before in
+    let a = placed .before .before .before .before .before .before .args in
+    let e = placed .place .ensures in
+    let q = c .enum-told .given .1 in
+    (stop-access (a .book .now) (a .name .now) (a .c) (a .d) (a .row) (a .at) _ e q,
+    (rows-kept (a .book .now) (a .name .now) (a .c) (a .d) (a .row) (a .at) _ e (a .members .now) (inl q),
+    names-kept (a .book .now) (a .name .now) (a .c) (a .d) (a .row) (a .at) _ e (a .names .now) (inl q)))
+
+returns-4 : tie.Need-returns-4
+returns-4 c =
+    let placed = c .before .before in
+    let a = placed .before .before .before .before .before .before .args in
+    let e = placed .place .ensures in
+    let q = c .enum-told2 .given .1 in
+    (stop-far (a .book .now) (a .name .now) (a .c) (a .d) (a .row) (a .at) _ e q,
+    (rows-kept (a .book .now) (a .name .now) (a .c) (a .d) (a .row) (a .at) _ e (a .members .now) (inr q),
+    names-kept (a .book .now) (a .name .now) (a .c) (a .d) (a .row) (a .at) _ e (a .names .now) (inr q)))
+
+pub store-one-spec : {M : Type 1} → statement M
+store-one-spec =
+    tie.close
+    (tie.spec
+    wide-requires
+    wide-requires-2
+    add-end
+    place-requires
+    enum-known-p
+    put-host-requires
+    add-put-part
+    add-put-part-2
+    sub-put-part
+    part-put-part-start
+    part-put-part-end
+    put-part-requires
+    add-t25
+    add-t29
+    add-t27
+    enum-known-p-2
+    sub-put-part-2
+    part-put-part-start-2
+    part-put-part-end-2
+    put-part-requires-2
+    add-t36
+    add-t39
+    enum-told
+    enum-told-2
+    returns
+    returns-2
+    returns-3
+    returns-4)
