@@ -2,7 +2,7 @@
 use Prim.Native.Nat.{ℕ, suc, _+_, _-_, _*_, _/_, _<_, _≤_}
 use native.Mathlib.Omega.{arith}
 use mathlib.Core.Path.{_≡_, refl, sym, _∙_}
-use mathlib.Core.Bool.{Bool, true, false}
+use mathlib.Core.Bool.{Bool, true, false, cond}
 use mathlib.Core.List.{List, [], _∷_}
 use borrow.Author.Tests.{eq-eqb, ne-eqb}
 use lib.Dec.{lit≤}
@@ -19,7 +19,7 @@ use Rattle.types.specs.declared.member.Ty.the-variants.{Atomic, Struct}
 use Rattle.types.specs.Atomic.{sizeOf}
 use Rattle.types.specs.Layout.{isBool}
 use Rattle.types.specs.Structs.{Fair}
-use Rattle.types.specs.Tables.{tyOf}
+use Rattle.types.specs.Tables.{TyFits, tyOf}
 use Rattle.types.specs.Entries.{boolArray, storedTy, storedCount, alignIn, plain, resolved, declAt, declsFrom, Found}
 
 module _ (sizes : ℕ → ℕ) (ty : Ty) (dim : ℕ) (name : Span) (local : Bool) (access : ℕ) where
@@ -90,3 +90,16 @@ unfolding declAt resolved
 decl-fair types book tys at j b =
     let a = align-fair (storedTy (tyOf (getD tys j 0)) (wordAt 4 book (at + 16 * j + 8))) in
     record { least = a .0; most = a .1; name = word-below 1 book (at + 16 * j + 4) b }
+
+-- what is stored for a found type is of that type, or DWORDs
+stored-fits : (t : Ty) (dim : ℕ) → TyFits t → TyFits (storedTy t dim)
+unfolding storedTy
+stored-fits t dim f = go (boolArray t dim)
+  where
+    go : (b : Bool) → TyFits (cond b (Atomic DWord) t)
+    go true = tt
+    go false = f
+
+pub decl-ty : (types book tys : List ℕ) (at n j : ℕ) → j < n → Found book tys at n → TyFits (declAt types book tys at j .ty)
+unfolding declAt resolved
+decl-ty types book tys at n j l f = stored-fits (tyOf (getD tys j 0)) _ (f .types j l)

@@ -12,5 +12,6 @@ pub mod FreeLaws
 pub mod LaidLaws
 pub mod BoundLaws
 pub mod StoreLaws
+pub mod Storing
 pub mod StoreOneLaws
 pub mod TableLaws

@@ -47,7 +47,8 @@ all-fit c d f =
       next = λ b byte bit e l. tt;
       shared = λ b i e. tt;
       other = λ b l. f;
-      far = λ b l. tt })
+      far = λ b l. tt;
+    })
 
 -- what is asked of the tables for a host and a member, and for a member alone
 pub record TwoFit (book type : List ℕ) (c : Cursor) (d : Decl) (row at : ℕ) (h m : Member) : Type 0 where
@@ -89,7 +90,8 @@ module _ (book type : List ℕ) (c : Cursor) (d : Decl) (row at : ℕ) (p : Plac
           rows = rw s at (f .rows);
           names = omega (arith, long, simp (length-append, length-append) at (rw s at (f .names)));
           host = a .0;
-          member = a .1 }
+          member = a .1;
+        }
 
     pub one-fits : {m : Member} {c′ : Cursor} → p ≡ One m c′ → OneFits d row at m
     unfolding namesOf
@@ -98,7 +100,8 @@ module _ (book type : List ℕ) (c : Cursor) (d : Decl) (row at : ℕ) (p : Plac
         record {
           rows = rw s at (f .rows);
           names = omega (arith, long, simp length-append at (rw s at (f .names)));
-          member = rw (← e, q) at (all-fit c d (f .ty)) }
+          member = rw (← e, q) at (all-fit c d (f .ty));
+        }
 
   pub next-hosted : {h m : Member} {c′ : Cursor} (k : ℕ) → p ≡ Hosted h m c′ → k ≡ length host
       → Next c′ (row + 2) (at + k + d .name .long) ≡ storedOne type c d row at

@@ -19,7 +19,7 @@ use Rattle.types.specs.declared.store.Stored.{Stored}
 use Rattle.types.specs.declared.store.Stored.the-variants.{Next, Stop}
 use Rattle.types.specs.Defs.{Part, nameIn}
 use Rattle.types.specs.Digits.{hostName, bitHostName}
-use Rattle.types.specs.Entries.{Found}
+use Rattle.types.specs.Entries.{declAt, declsFrom, Found}
 use Rattle.types.specs.Tables.{TyFits, memberRow}
 use Rattle.types.specs.Layout.{placed, isBool, alignUp, sharedBits, Able}
 
@@ -213,3 +213,18 @@ pub record Fits (book type : List ℕ) (c : Cursor) (d : Decl) (row at : ℕ) : 
   pub ty : TyFits (d .ty)
   pub rows : row + length (oneParts book type c d) ≤ 2000
   pub names : at + length (namesOf (oneParts book type c d)) ≤ 32768
+
+-- the names of declared members, as the book has them
+abbrev pub namedIn : List ℕ → Decl → List ℕ
+namedIn book d = nameIn book (d .name)
+
+-- n declared members can be stored from a cursor on, from a row and a place on
+pub record Storable (types book tys type : List ℕ) (at n : ℕ) (c : Cursor) (row place : ℕ) : Type 0 where
+  pub found : Found book tys at n
+  pub passed : ℕ
+  pub few : passed + n ≤ 131072
+  pub far : Far passed c 0
+  pub inside : (k : ℕ) → k < n
+      → declAt types book tys at k .name .at + declAt types book tys at k .name .long ≤ length book
+  pub rows : row + length (partsFrom (namedIn book) (hostName type) c (declsFrom types book tys at 0 n)) ≤ 2000
+  pub names : place + length (namesOf (partsFrom (namedIn book) (hostName type) c (declsFrom types book tys at 0 n))) ≤ 32768

@@ -6,10 +6,13 @@ ghost use lib.ListN.{length};
 ghost use lib.Seq.{sets};
 ghost use Rattle.types.specs.Digits.{hostName};
 ghost use Rattle.types.specs.Structs.{namesOf, rowsOf, named, oneParts, storedOne, Fits};
+ghost use Rattle.types.specs.Structs.{partsFrom, namedIn, Storable};
+ghost use Rattle.types.specs.Entries.{declsFrom};
 ghost use Rattle.types.specs.Tables.{TyFits};
 use crate::digits::host_long;
 use crate::digits::put_bytes;
 use crate::digits::put_host_name;
+use crate::entries::decl_at;
 use crate::layout::Cursor;
 use crate::layout::Decl;
 use crate::layout::Placed;
@@ -18,6 +21,7 @@ use crate::member::Member;
 use crate::member::Span;
 use crate::tables::MemberTable;
 use crate::tables::NameTable;
+use crate::tables::TypeTable;
 use crate::tables::put_member;
 
 // A member's row, and its name among the names.
@@ -125,5 +129,49 @@ fn store_one(
         }
         Placed::AccessWrong => Stored::Stop,
         Placed::TooFar => Stored::Stop,
+    }
+}
+
+// The rows and the names of n declared members of a type with that name: from a row and from a place
+// among the names on, and from a cursor on.
+pub fn store(
+    types: &TypeTable,
+    book: &[u8],
+    tys: &[u16],
+    at: usize,
+    n: usize,
+    name: &[u8],
+    from: Cursor,
+    members: &mut MemberTable,
+    row: usize,
+    names: &mut NameTable,
+    place: usize,
+)
+    requires { ⌜ Storable (now types) (now book) (now tys) (now name) at n from row place ⌝ }
+    ensures rows { λ _. ⌜ now (members .exit) ≡ sets (now (members .entry)) (8 * row)
+        (rowsOf place (partsFrom (namedIn (now (book .entry))) (hostName (now (name .entry))) from
+        (declsFrom (now (types .entry)) (now (book .entry)) (now (tys .entry)) at 0 n))) ⌝ }
+    ensures names { λ _. ⌜ now (names .exit) ≡ sets (now (names .entry)) place
+        (namesOf (partsFrom (namedIn (now (book .entry))) (hostName (now (name .entry))) from
+        (declsFrom (now (types .entry)) (now (book .entry)) (now (tys .entry)) at 0 n))) ⌝ }
+{
+    let mut c = from;
+    let mut next_row = row;
+    let mut next_place = place;
+    let mut j: usize = 0;
+    while j < n {
+        let d = decl_at(types, book, tys, at, j);
+        let one = store_one(book, name, c, d, members, next_row, names, next_place);
+        match one {
+            Stored::Next(next, r, p) => {
+                c = next;
+                next_row = r;
+                next_place = p;
+            }
+            Stored::Stop => {
+                return;
+            }
+        }
+        j += 1;
     }
 }

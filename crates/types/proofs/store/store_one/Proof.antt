@@ -75,9 +75,10 @@ part-put-part-end c = search needs
 
 put-part-requires : tie.Need-put-part-requires
 put-part-requires c κs =
-    let p = c .before .before .before .before .before .before .before in
-    (omega (arith, two p .rows),
-    (omega (arith, two p .names, c .before .before .before .put-host .ensures .0, long (p .before .before)), two p .member))
+    let p = c .before .before .before .before .before .before .before in (
+      omega (arith, two p .rows),
+      (omega (arith, two p .names, c .before .before .before .put-host .ensures .0, long (p .before .before)), two p .member),
+    )
 
 add-t25 : tie.Need-add-t25
 add-t25 c = omega (arith, two (c .before .before .before .before .before .before .before .before) .rows)
@@ -124,46 +125,58 @@ returns c =
     let placed = p .before .before in
     let a = placed .before .before .before .before .before .before .args in
     let e = placed .place .ensures in
-    let k = host .put-host .ensures .0 in
-    (rw (placed .before .wide2 .ensures)
-    (next-hosted (a .book .now) (a .name .now) (a .c) (a .d) (a .row) (a .at) _ e _ (p .p .given .1) k),
-    (rw (c .put-part .ensures .0, host .put-host .ensures .1 .0, name placed)
-    (rows-hosted (a .book .now) (a .name .now) (a .c) (a .d) (a .row) (a .at) _ e (a .members .now) _ (p .p .given .1) k),
-    rw (c .put-part .ensures .1, host .put-host .ensures .1 .1, name placed)
-    (names-hosted (a .book .now) (a .name .now) (a .c) (a .d) (a .row) (a .at) _ e (a .names .now) _ (p .p .given .1) k)))
+    let k = host .put-host .ensures .0 in (
+      rw (placed .before .wide2 .ensures)
+          (next-hosted (a .book .now) (a .name .now) (a .c) (a .d) (a .row) (a .at) _ e _ (p .p .given .1) k),
+      (
+        rw (c .put-part .ensures .0, host .put-host .ensures .1 .0, name placed)
+            (rows-hosted (a .book .now) (a .name .now) (a .c) (a .d) (a .row) (a .at) _ e (a .members .now) _ (p .p .given .1) k),
+        rw (c .put-part .ensures .1, host .put-host .ensures .1 .1, name placed)
+            (names-hosted (a .book .now) (a .name .now) (a .c) (a .d) (a .row) (a .at) _ e (a .names .now) _ (p .p .given .1) k),
+      ),
+    )
 
 returns-2 : tie.Need-returns-2
 returns-2 c =
     let p = c .before .before .before .before .before in
     let placed = p .before .before in
     let a = placed .before .before .before .before .before .before .args in
-    let e = placed .place .ensures in
-    (rw (placed .before .wide2 .ensures)
-    (next-alone (a .book .now) (a .name .now) (a .c) (a .d) (a .row) (a .at) _ e (p .p2 .given .1)),
-    (rw (c .put-part2 .ensures .0, name placed)
-    (rows-alone (a .book .now) (a .name .now) (a .c) (a .d) (a .row) (a .at) _ e (a .members .now) (p .p2 .given .1)),
-    rw (c .put-part2 .ensures .1, name placed)
-    (names-alone (a .book .now) (a .name .now) (a .c) (a .d) (a .row) (a .at) _ e (a .names .now) (p .p2 .given .1))))
+    let e = placed .place .ensures in (
+      rw (placed .before .wide2 .ensures)
+          (next-alone (a .book .now) (a .name .now) (a .c) (a .d) (a .row) (a .at) _ e (p .p2 .given .1)),
+      (
+        rw (c .put-part2 .ensures .0, name placed)
+            (rows-alone (a .book .now) (a .name .now) (a .c) (a .d) (a .row) (a .at) _ e (a .members .now) (p .p2 .given .1)),
+        rw (c .put-part2 .ensures .1, name placed)
+            (names-alone (a .book .now) (a .name .now) (a .c) (a .d) (a .row) (a .at) _ e (a .names .now) (p .p2 .given .1)),
+      ),
+    )
 
 returns-3 : tie.Need-returns-3
 returns-3 c =
     let placed = c .before .before in
     let a = placed .before .before .before .before .before .before .args in
     let e = placed .place .ensures in
-    let q = c .enum-told .given .1 in
-    (stop-access (a .book .now) (a .name .now) (a .c) (a .d) (a .row) (a .at) _ e q,
-    (rows-kept (a .book .now) (a .name .now) (a .c) (a .d) (a .row) (a .at) _ e (a .members .now) (inl q),
-    names-kept (a .book .now) (a .name .now) (a .c) (a .d) (a .row) (a .at) _ e (a .names .now) (inl q)))
+    let q = c .enum-told .given .1 in (
+      stop-access (a .book .now) (a .name .now) (a .c) (a .d) (a .row) (a .at) _ e q,
+      (
+        rows-kept (a .book .now) (a .name .now) (a .c) (a .d) (a .row) (a .at) _ e (a .members .now) (inl q),
+        names-kept (a .book .now) (a .name .now) (a .c) (a .d) (a .row) (a .at) _ e (a .names .now) (inl q),
+      ),
+    )
 
 returns-4 : tie.Need-returns-4
 returns-4 c =
     let placed = c .before .before in
     let a = placed .before .before .before .before .before .before .args in
     let e = placed .place .ensures in
-    let q = c .enum-told2 .given .1 in
-    (stop-far (a .book .now) (a .name .now) (a .c) (a .d) (a .row) (a .at) _ e q,
-    (rows-kept (a .book .now) (a .name .now) (a .c) (a .d) (a .row) (a .at) _ e (a .members .now) (inr q),
-    names-kept (a .book .now) (a .name .now) (a .c) (a .d) (a .row) (a .at) _ e (a .names .now) (inr q)))
+    let q = c .enum-told2 .given .1 in (
+      stop-far (a .book .now) (a .name .now) (a .c) (a .d) (a .row) (a .at) _ e q,
+      (
+        rows-kept (a .book .now) (a .name .now) (a .c) (a .d) (a .row) (a .at) _ e (a .members .now) (inr q),
+        names-kept (a .book .now) (a .name .now) (a .c) (a .d) (a .row) (a .at) _ e (a .names .now) (inr q),
+      ),
+    )
 
 pub store-one-spec : {M : Type 1} → statement M
 store-one-spec =
