@@ -10,7 +10,7 @@ use lib.ListN.{length, take, length-append, length-take}
 use lib.Seq.{sets, length-take-le}
 use Rattle.words.proofs.Lists.{sets-append, take-least}
 use Rattle.types.specs.declared.digits.Digits.{Digits}
-use Rattle.types.specs.Digits.{digitsIn, digits, tenZ, hostName, Spelled}
+use Rattle.types.specs.Digits.{digitsIn, digits, tenZ, hostName, bitHost, bitHostName, Spelled, TwoDigits}
 
 abbrev pub digitOf : ℕ → ℕ
 digitOf x = 48 + x % 10
@@ -124,3 +124,28 @@ digits-most (suc n) x =
 pub host-most : (name : List ℕ) (k : ℕ) → length (hostName name k) ≤ 40
 unfolding hostName digits
 host-most name k = simp (length-append, length-take) (omega (arith, digits-most 20 k))
+
+-- ---- an AOI's hosts
+
+module _ (x : ℕ) where
+  pub host-short : x < 10 → bitHost ++ (48 ∷ digitOf x ∷ []) ≡ bitHostName x
+  unfolding bitHostName
+  host-short h =
+      let e : x % 10 ≡ x = omega arith in
+      simp (lt-ltb x 10 h, e)
+
+  pub host-digits : 10 ≤ x → bitHost ++ digits x ≡ bitHostName x
+  unfolding bitHostName
+  host-digits h = simp (le-ltb x 10 h)
+
+module _ (i : ℕ) (d : Digits) (s : TwoDigits i d) where
+  tail-long : length (take (d .long) (d .bytes)) ≡ d .long
+  tail-long = length-take-le (d .long) (d .bytes) (s .room)
+
+  pub bit-host-long : 9 + d .long ≡ length (bitHostName i)
+  bit-host-long = rw (← s .is) (simp length-append (omega (arith, tail-long)))
+
+  -- two writes are one name
+  pub bit-host-put : (t : List ℕ) (at : ℕ)
+      → sets (sets t at bitHost) (at + 9) (take (d .long) (d .bytes)) ≡ sets t at (bitHostName i)
+  bit-host-put t at = rw (← s .is) (sym (sets-append t at bitHost (take (d .long) (d .bytes))))

@@ -1,4 +1,5 @@
 -- Laws over the definitions of crate `types`, a file for each idea.
+pub mod AoiLaws
 pub mod AtomicLaws
 pub mod MeasureLaws
 pub mod Measuring
@@ -11,7 +12,11 @@ pub mod PlaceLaws
 pub mod FreeLaws
 pub mod LaidLaws
 pub mod BoundLaws
+pub mod SinkLaws
 pub mod StoreLaws
 pub mod Storing
 pub mod StoreOneLaws
 pub mod TableLaws
+pub mod TemplateLaws
+pub mod WalkLaws
+pub mod WasteLaws

@@ -2,27 +2,34 @@
 -- string, and the fold of one byte.
 use Prim.Native.Nat.{ℕ, _+_, _/_, min}
 use mathlib.Core.Path.{_≡_, refl}
-use mathlib.Core.Bool.{false, cond}
-use mathlib.Core.List.{List, [], _∷_, getLast?}
+use mathlib.Core.Bool.{Bool, true, false, cond}
+use mathlib.Core.List.{List, [], _∷_, _++_, getLast?}
 use mathlib.Core.Option.{Option, none, some}
 use lib.ListN.{length, replicate}
 use Rattle.types.specs.declared.atomic.Atomic.{Atomic as AtomicType}
-use Rattle.types.specs.declared.atomic.Atomic.the-variants.{Bool as BOOL, SInt, DWord}
+use Rattle.types.specs.declared.atomic.Atomic.the-variants.{Bool as BOOL, SInt, Int, DWord}
 use Rattle.types.specs.declared.layout.Cursor.{Cursor}
 use Rattle.types.specs.declared.layout.Decl.{Decl}
 use Rattle.types.specs.declared.layout.Placed.{Placed}
 use Rattle.types.specs.declared.measure.Measured.{Measured}
 use Rattle.types.specs.declared.measure.Measured.the-variants.{Laid, AccessWrong, TooFar}
+use Rattle.types.specs.declared.member.Bit.{Bit}
+use Rattle.types.specs.declared.member.Bit.the-variants.{None, At}
 use Rattle.types.specs.declared.member.Member.{Member}
+use Rattle.types.specs.declared.member.StructKind.the-variants.{Udt}
 use Rattle.types.specs.declared.member.Ty.the-variants.{Atomic}
-use Rattle.types.specs.Atomic.{sizeOf}
-use Rattle.types.specs.Defs.{Part}
+use Rattle.words.specs.Words.{bytesOf}
+use Rattle.types.specs.Atomic.{codeOf, sizeOf}
+use Rattle.types.specs.Defs.{Part, Def}
 use Rattle.types.specs.Digits.{hostName}
 use Rattle.types.specs.Handle.{foldFrom}
 use Rattle.types.specs.Layout.{accessOk, isBool, alignUp, times, boolAt, otherAt, opened, nextBit, closed}
 use Rattle.types.specs.Layout.{startOf, endOf, placeBool, placeOther, placed}
 use Rattle.types.specs.Structs.{partsFrom, measured, sizeAt, udtStart, udtParts, bools, aoiHosts, hostParts}
 use Rattle.types.specs.Structs.{aoiParts, stringSize}
+use Rattle.types.specs.Template.{infoBytes, infos, userId, shownName, memberNames, padding, memberIds}
+use Rattle.types.specs.Template.{frontOf, templateOf}
+use Rattle.types.specs.Waste.{visibleBits, wasteOf}
 
 -- ---- declared members, and what is asked of their layout
 
@@ -162,3 +169,33 @@ string-size = refl
 pub zero-byte : foldFrom 0x1D0F (0 ∷ []) ≡ 0xE1C5
 unfolding foldFrom
 zero-byte = refl
+
+-- ---- the structure Chan (Good BOOL, Live BOOL, Level INT) of the program's example
+
+abbrev chanMember : AtomicType → ℕ → Bit → Bool → Member
+chanMember a offset bit hidden =
+    record { ty = Atomic a; count = 0; offset = offset; bit = bit; hidden = hidden; local = false; access = 0 }
+
+abbrev chan : Def
+chan =
+    record {
+      name = 67 ∷ 104 ∷ 97 ∷ 110 ∷ [];
+      id = 256;
+      handle = 0;
+      size = 4;
+      kind = Udt;
+      parts = record { name = replicate 10 90 ++ (67 ∷ 104 ∷ 97 ∷ 110 ∷ 48 ∷ []); member = chanMember SInt 0 None true }
+          ∷ record { name = 71 ∷ 111 ∷ 111 ∷ 100 ∷ []; member = chanMember BOOL 0 (At 0) false }
+          ∷ record { name = 76 ∷ 105 ∷ 118 ∷ 101 ∷ []; member = chanMember BOOL 0 (At 1) false }
+          ∷ record { name = 76 ∷ 101 ∷ 118 ∷ 101 ∷ 108 ∷ []; member = chanMember Int 2 None false }
+          ∷ [];
+    }
+
+-- no structure is embedded, so no id and no size matters
+pub chan-template : (ids : ℕ → ℕ) → length (templateOf ids chan) ≡ 80
+unfolding templateOf frontOf infos infoBytes bytesOf userId shownName memberNames padding memberIds codeOf
+chan-template ids = refl
+
+pub chan-waste : (sizes : ℕ → ℕ) → wasteOf sizes chan ≡ 14
+unfolding wasteOf visibleBits sizeOf times
+chan-waste sizes = refl

@@ -41,3 +41,9 @@ pub record Spelled (x : ℕ) (r : Digits) : Type 0 where
 pub record HostLong (name : List ℕ) (k r : ℕ) : Type 0 where
   pub is : r ≡ length (hostName name k)
   pub most : r ≤ 26
+
+-- two or more digits, as code has them
+pub record TwoDigits (x : ℕ) (r : Digits) : Type 0 where
+  pub is : bitHost ++ take (r .long) (r .bytes) ≡ bitHostName x
+  pub room : r .long ≤ length (r .bytes)
+  pub most : r .long ≤ 6

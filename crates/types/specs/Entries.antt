@@ -13,8 +13,8 @@ use Rattle.types.specs.declared.member.Ty.{Ty}
 use Rattle.types.specs.declared.member.Ty.the-variants.{Atomic, Struct}
 use Rattle.types.specs.Atomic.{sizeOf}
 use Rattle.types.specs.Layout.{isBool}
-use Rattle.types.specs.Tables.{TyFits, tyOf, typeAt}
-use Rattle.types.specs.Waste.{sizeIn}
+use Rattle.types.specs.Tables.{TyFits, tyOf}
+use Rattle.types.specs.Waste.{sizeIn, sizesIn}
 
 -- BOOL with dim above 0 becomes ceil(dim / 32) DWORDs
 unfoldable pub boolArray : Ty → ℕ → Bool
@@ -47,10 +47,6 @@ plain sizes ty count name local access =
 -- a declared member of a type that was found
 unfoldable pub resolved : (ℕ → ℕ) → Ty → ℕ → Span → Bool → ℕ → Decl
 resolved sizes ty dim name local access = plain sizes (storedTy ty dim) (storedCount ty dim) name local access
-
--- the sizes of the structures in a table
-abbrev pub sizesIn : List ℕ → ℕ → ℕ
-sizesIn types n = typeAt types n .size
 
 -- the j-th entry of 16 bytes: name place u32, name length u8, type name length u8, local u8, access u8, dim u32, type name place
 -- u32; its type is the j-th of those found

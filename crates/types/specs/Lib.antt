@@ -7,7 +7,9 @@ pub mod Handle
 pub mod Laid
 pub mod Layout
 pub mod Names
+pub mod Pieces
 pub mod Refusal
+pub mod Sink
 pub mod Structs
 pub mod Tables
 pub mod Template

@@ -1,9 +1,11 @@
 -- Whole layouts (document 01, "Layout"): a UDT's and an AOI's parts from their declared members, a string's and the predefined
 -- types' parts, and their sizes.
 use Prim.Native.Nat.{ℕ, zero, suc, _+_, _-_, _*_, _/_, _%_, _^_, _<_, _≤_}
+use mathlib.Core.Path.{_≡_}
 use mathlib.Core.Bool.{Bool, true, false, cond}
 use mathlib.Core.List.{List, [], _∷_, _++_}
 use lib.ListN.{length}
+use lib.Seq.{sets}
 use Rattle.types.specs.declared.atomic.Atomic.the-variants.{Bool as BOOL, SInt, DInt}
 use Rattle.types.specs.declared.layout.Cursor.{Cursor}
 use Rattle.types.specs.declared.layout.Decl.{Decl}
@@ -228,3 +230,19 @@ pub record Storable (types book tys type : List ℕ) (at n : ℕ) (c : Cursor) (
       → declAt types book tys at k .name .at + declAt types book tys at k .name .long ≤ length book
   pub rows : row + length (partsFrom (namedIn book) (hostName type) c (declsFrom types book tys at 0 n)) ≤ 2000
   pub names : place + length (namesOf (partsFrom (namedIn book) (hostName type) c (declsFrom types book tys at 0 n))) ≤ 32768
+
+-- ---- what an AOI's functions answer
+
+pub record OneIf (b : Bool) (r : ℕ) : Type 0 where
+  pub is : r ≡ cond b 1 0
+  pub most : r ≤ 1
+
+pub record BoolsCounted (n : ℕ) (ds : List Decl) (r : ℕ) : Type 0 where
+  pub is : r ≡ bools ds
+  pub most : r ≤ n
+
+-- a host's row and name are stored, and its name's length is answered
+pub record HostPut (i row at : ℕ) (m₀ t₀ m t : List ℕ) (r : ℕ) : Type 0 where
+  pub long : r ≡ length (bitHostName i)
+  pub rows : m ≡ sets m₀ (8 * row) (rowsOf at (named (bitHostName i) (bitHostAt i) ∷ []))
+  pub names : t ≡ sets t₀ at (namesOf (named (bitHostName i) (bitHostAt i) ∷ []))

@@ -1,20 +1,27 @@
--- Templates (document 01, "Template and handle"): a template's bytes, its length in a controller's words, and the handle.
+-- Templates (document 01, "Template and handle"): a template's bytes, its length in a controller's words, and what a
+-- caller who asks for one gets.
 use Prim.Native.Nat.{ℕ, zero, suc, _+_, _-_, _*_, _/_, _%_}
-use mathlib.Core.Bool.{Bool, cond, _&&_}
+use mathlib.Core.Path.{_≡_}
+use mathlib.Core.Bool.{Bool, false, cond, not, _&&_}
 use mathlib.Core.List.{List, [], _∷_, _++_}
-use lib.Dec.{leb}
+use lib.Dec.{eqb, leb, ltb}
 use lib.ListN.{length, replicate}
+use lib.Seq.{sets}
 use Rattle.words.specs.Words.{bytesOf}
 use Rattle.types.specs.declared.member.Bit.{Bit}
 use Rattle.types.specs.declared.member.Bit.the-variants.{None, At}
 use Rattle.types.specs.declared.member.Member.{Member}
+use Rattle.types.specs.declared.member.StructDef.{StructDef}
 use Rattle.types.specs.declared.member.StructKind.{StructKind}
 use Rattle.types.specs.declared.member.StructKind.the-variants.{Udt, Predefined, Str, Aoi}
 use Rattle.types.specs.declared.member.Ty.{Ty}
 use Rattle.types.specs.declared.member.Ty.the-variants.{Atomic, Struct}
+use Rattle.types.specs.declared.refusal.Refusal.the-variants.{NoSuchType, NoRoom}
+use Rattle.types.specs.declared.templates.Wrote.{Wrote}
+use Rattle.types.specs.declared.templates.Wrote.the-variants.{Length, Refused}
 use Rattle.types.specs.Atomic.{codeOf}
-use Rattle.types.specs.Defs.{Part, Def}
-use Rattle.types.specs.Handle.{handleOf}
+use Rattle.types.specs.Defs.{Part, Def, defOf}
+use Rattle.types.specs.Tables.{typeAt}
 
 -- bit number, else the low 16 bits of the count
 abbrev pub infoOf : Bit → ℕ → ℕ
@@ -25,6 +32,10 @@ infoOf (At k) count = k
 abbrev pub typeIn : (ℕ → ℕ) → Ty → ℕ
 typeIn ids (Atomic a) = codeOf a
 typeIn ids (Struct n) = 0x8000 + ids n
+
+-- the ids of the structures in a table, by their numbers
+abbrev pub idsIn : List ℕ → ℕ → ℕ
+idsIn types n = typeAt types n .id
 
 -- info u16, type u16, offset u32
 unfoldable pub infoBytes : (ℕ → ℕ) → Member → List ℕ
@@ -76,6 +87,32 @@ templateOf ids d =
     frontOf ids d
     ++ cond (userId (d .id)) (padding (length (frontOf ids d)) ++ memberIds 0 (length (d .parts))) []
 
+-- the template of the structure in some rows
+abbrev pub templateIn : List ℕ → List ℕ → List ℕ → StructDef → List ℕ
+templateIn types members names d = templateOf (idsIn types) (defOf members names d)
+
 -- ceil((length + 23) / 4)
 unfoldable pub objectSize : ℕ → ℕ
 objectSize n = (n + 23 + 3) / 4
+
+-- a structure of the table has a template; an atomic has none
+abbrev pub hasTemplate : List ℕ → Ty → Bool
+hasTemplate types (Atomic a) = false
+hasTemplate types (Struct n) = ltb n 200 && not (eqb (typeAt types n .id) 0)
+
+abbrev pub templateFor : List ℕ → List ℕ → List ℕ → Ty → List ℕ
+templateFor types members names (Atomic a) = []
+templateFor types members names (Struct n) = templateIn types members names (typeAt types n)
+
+-- the length of a template t that there is, or not, in a buffer; and what the buffer then holds
+unfoldable pub templateAnswer : Bool → List ℕ → List ℕ → Wrote
+templateAnswer there t out =
+    cond there (cond (leb (length t) (length out)) (Length (length t)) (Refused NoRoom)) (Refused NoSuchType)
+
+unfoldable pub templateLeaves : Bool → List ℕ → List ℕ → List ℕ
+templateLeaves there t out = cond (there && leb (length t) (length out)) (sets out 0 t) out
+
+-- what a caller who asks for a type's template gets
+pub record Answered (types members names : List ℕ) (ty : Ty) (out : List ℕ) (r : Wrote) (left : List ℕ) : Type 0 where
+  pub is : r ≡ templateAnswer (hasTemplate types ty) (templateFor types members names ty) out
+  pub bytes : left ≡ templateLeaves (hasTemplate types ty) (templateFor types members names ty) out

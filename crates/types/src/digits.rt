@@ -4,7 +4,7 @@ ghost use mathlib.Core.Path.{_≡_};
 ghost use Prim.Native.Nat.{_+_, _<_, _≤_, _%_, min};
 ghost use lib.ListN.{length};
 ghost use lib.Seq.{sets};
-ghost use Rattle.types.specs.Digits.{Spelled, HostLong, hostName, bitHostName};
+ghost use Rattle.types.specs.Digits.{Spelled, HostLong, TwoDigits, hostName};
 use crate::tables::NameTable;
 
 // A number's digits: the first `long` of these bytes.
@@ -110,4 +110,18 @@ pub fn put_host_name(names: &mut NameTable, at: usize, name: &[u8], k: u32)
     put_bytes(names, at, b"ZZZZZZZZZZ");
     put_bytes(names, at + 10, &name[..n]);
     put_bytes(names, at + 10 + n, &bytes[..long]);
+}
+
+// A number's digits, two or more.
+pub fn two_digits(x: u32) -> Digits
+    requires { ⌜ x < 1000000 ⌝ }
+    ensures { λ r. ⌜ TwoDigits x r ⌝ }
+{
+    if x < 10 {
+        return Digits {
+            bytes: [b'0', digit(x), 0, 0, 0, 0],
+            long: 2,
+        };
+    }
+    spell(x)
 }

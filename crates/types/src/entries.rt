@@ -2,7 +2,8 @@
 // as a declaration that a layout can place.
 ghost use mathlib.Core.Path.{_≡_};
 ghost use Prim.Native.Nat.{_+_, min};
-ghost use Rattle.types.specs.Entries.{plain as plainOf, resolved as resolvedOf, sizesIn, declAt, Found};
+ghost use Rattle.types.specs.Entries.{plain as plainOf, resolved as resolvedOf, declAt, Found};
+ghost use Rattle.types.specs.Waste.{sizesIn};
 ghost use Rattle.types.specs.Tables.{TyFits};
 use crate::atomic::Atomic;
 use crate::layout::Decl;

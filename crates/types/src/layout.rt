@@ -60,7 +60,7 @@ fn wide(x: u32) -> u64
 }
 
 // How many elements a count stands for: 0 is one.
-fn elements(count: u32) -> u64
+pub fn elements(count: u32) -> u64
     ensures { λ r. ⌜ Times count r ⌝ }
 {
     if count == 0 {

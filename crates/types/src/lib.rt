@@ -1,5 +1,6 @@
 // Types and layouts (document 01's first crate): the atomic types, names, refusals, rows of the lent
 // tables, and the leaves that layouts and templates are made of.
+mod aoi;
 mod atomic;
 mod digits;
 mod entries;
@@ -8,9 +9,13 @@ mod layout;
 mod measure;
 mod member;
 mod names;
+mod pieces;
 mod refusal;
+mod sink;
 mod store;
 mod tables;
+mod templates;
+mod waste_bits;
 
 pub use atomic::Atomic;
 pub use atomic::AtomicRow;
@@ -42,4 +47,11 @@ pub use tables::name_at;
 pub use tables::put_member;
 pub use tables::put_type;
 pub use tables::type_at;
+pub use templates::Wrote;
+pub use templates::object_definition_size;
+pub use templates::template;
+pub use templates::template_handle;
+pub use templates::template_len;
+pub use templates::write_template;
+pub use waste_bits::waste;
 pub use words::set_bit;

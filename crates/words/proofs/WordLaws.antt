@@ -39,7 +39,7 @@ mod-step : (n x : ℕ) → x % 256 ^ suc n ≡ x % 256 + 256 * (x / 256 % 256 ^ 
 mod-step n x = rw pow-suc (omega (arith, mod-mul x {m = 256 ^ n} {c = 256} (power-pos n) (omega arith)))
 
 -- the bytes of a number are those of its low end
-bytes-low : (n x : ℕ) → bytesOf n (x % 256 ^ n) ≡ bytesOf n x
+pub bytes-low : (n x : ℕ) → bytesOf n (x % 256 ^ n) ≡ bytesOf n x
 unfolding bytesOf
 bytes-low zero x = refl
 bytes-low (suc n) x =

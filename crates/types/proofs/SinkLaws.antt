@@ -1,0 +1,128 @@
+-- Laws of a sink (document 01, "Template and handle"): what comes in two pieces came as one, and what is left of a
+-- whole while its pieces come one after the other.
+use Prim.Native.Nat.{ℕ, suc, _+_, _≤_, _<_}
+use native.Mathlib.Nat.{add-zero}
+use native.Mathlib.Numerals.{add-one}
+use native.Mathlib.Omega.{arith}
+use mathlib.Core.Path.{_≡_, refl, sym, ap, _∙_}
+use mathlib.Core.Bool.{Bool, true, false, cond}
+use mathlib.Core.List.{List, [], _++_}
+use lib.ListN.{length, getD, set, drop, length-append, length-set, drop-of-length-le}
+use lib.Seq.{sets, length-sets, drop-cons}
+use Rattle.words.proofs.Lists.{sets-append}
+use Rattle.types.specs.declared.sink.Sink.{Sink}
+use Rattle.types.specs.Handle.{foldFrom}
+use Rattle.types.specs.Sink.{Room, Emitted}
+use Rattle.types.proofs.HandleLaws.{fold-append}
+
+-- ---- copying
+
+-- the first i bytes of s are stored at a place of what was first, and the others are left
+pub record Copying (first : List ℕ) (at : ℕ) (s out : List ℕ) (i : ℕ) : Type 0 where
+  pub inside : i ≤ length s
+  pub long : length out ≡ length first
+  pub left : sets first at s ≡ sets out (at + i) (drop i s)
+
+pub copy-start : (out : List ℕ) (at : ℕ) (s : List ℕ) → Copying out at s out 0
+copy-start out at s = record { inside = omega arith; long = refl; left = rw add-zero }
+
+pub copy-on : {first out s : List ℕ} {at i : ℕ} → Copying first at s out i → i < length s
+    → Copying first at s (set out (at + i) (getD s i 0)) (i + 1)
+copy-on {first} {out} {s} {at} {i} w h =
+    let e : at + (i + 1) ≡ suc (at + i) = omega arith in
+    record {
+      inside = omega arith;
+      long = length-set out (at + i) (getD s i 0) ∙ w .long;
+      left = w .left ∙ rw (e, add-one i, drop-cons s i 0 h);
+    }
+
+pub copy-done : {first out s : List ℕ} {at i : ℕ} → Copying first at s out i → length s ≤ i → out ≡ sets first at s
+copy-done {first} {out} {s} {at} {i} w h = sym (w .left ∙ rw (drop-of-length-le s h))
+
+-- ---- pieces
+
+pub wrote : (s : List ℕ) (k : Sink) (out : List ℕ) (fold : ℕ) → k .writes ≡ true → fold ≡ foldFrom (k .fold) s
+    → Emitted s k out (record { at = k .at + length s; fold = fold; writes = true }) (sets out (k .at) s)
+wrote s k out fold w f = record { at = refl; fold = f; writes = sym w; bytes = rw w }
+
+pub none-came : (k : Sink) (out : List ℕ) → Emitted [] k out k out
+unfolding foldFrom
+none-came k out = record { at = omega arith; fold = refl; writes = refl; bytes = same (k .writes) out }
+  where
+    same : (b : Bool) (o : List ℕ) → o ≡ cond b o o
+    same true o = refl
+    same false o = refl
+
+bytes-append : (b c : Bool) (at next : ℕ) (s t out left last : List ℕ) → c ≡ b → next ≡ at + length s
+    → left ≡ cond b (sets out at s) out → last ≡ cond c (sets left next t) left
+    → last ≡ cond b (sets out at (s ++ t)) out
+bytes-append true c at next s t out left last p q f g = g ∙ rw (p, q, f) (sym (sets-append out at s t))
+bytes-append false c at next s t out left last p q f g = g ∙ rw (p, f)
+
+-- two pieces are one
+pub came-both : {s t : List ℕ} {k m r : Sink} {out left last : List ℕ}
+    → Emitted s k out m left → Emitted t m left r last → Emitted (s ++ t) k out r last
+came-both {s} {t} {k} {m} {r} {out} {left} {last} a b =
+    record {
+      at = omega (arith, a .at, b .at, length-append s t);
+      fold = b .fold ∙ rw (a .fold) (sym (fold-append (k .fold) s t));
+      writes = b .writes ∙ a .writes;
+      bytes = bytes-append (k .writes) (m .writes) (k .at) (m .at) s t out left last
+          (a .writes) (a .at) (a .bytes) (b .bytes);
+    }
+
+pub long-kept : {s : List ℕ} {k r : Sink} {out left : List ℕ} → Emitted s k out r left → length left ≡ length out
+long-kept {s} {k} {r} {out} {left} e = ap length (e .bytes) ∙ same (k .writes)
+  where
+    same : (b : Bool) → length (cond b (sets out (k .at) s) out) ≡ length out
+    same true = length-sets out (k .at) s
+    same false = refl
+
+-- ---- a whole, piece by piece
+
+-- of a whole that comes to the sink k at out, the rest is left to come to the sink m at left
+pub record Left (whole : List ℕ) (k : Sink) (out rest : List ℕ) (m : Sink) (left : List ℕ) : Type 0 where
+  pub long : length left ≡ length out
+  pub room : Room rest m left
+  pub then : (r : Sink) (last : List ℕ) → Emitted rest m left r last → Emitted whole k out r last
+
+pub left-all : {s : List ℕ} {k : Sink} {out : List ℕ} → Room s k out → Left s k out s k out
+left-all h = record { long = refl; room = h; then = λ r last e. e }
+
+-- the next piece fits
+pub left-room : {whole rest : List ℕ} {k m : Sink} {out left : List ℕ} (s t : List ℕ) → rest ≡ s ++ t
+    → Left whole k out rest m left → Room s m left
+left-room {whole} {rest} {k} {m} {out} {left} s t e l =
+    let n : length rest ≡ length s + length t = ap length e ∙ length-append s t in
+    record { small = omega (arith, l .room .small, n); room = λ w. omega (arith, l .room .room w, n) }
+
+-- the next piece came
+pub left-on : {whole rest s : List ℕ} {k m r : Sink} {out left last : List ℕ} (t : List ℕ) → rest ≡ s ++ t
+    → Left whole k out rest m left → Emitted s m left r last → Left whole k out t r last
+left-on {whole} {rest} {s} {k} {m} {r} {out} {left} {last} t e l h =
+    let n : length rest ≡ length s + length t = ap length e ∙ length-append s t in
+    record {
+      long = long-kept h ∙ l .long;
+      room = record {
+        small = omega (arith, l .room .small, n, h .at);
+        room = λ w. omega (arith, l .room .room (sym (h .writes) ∙ w), n, h .at, long-kept h);
+      };
+      then = λ x y f. l .then x y (rw e (came-both h f));
+    }
+
+-- nothing is left
+pub left-none : {whole rest : List ℕ} {k m : Sink} {out left : List ℕ} → rest ≡ [] → Left whole k out rest m left
+    → Emitted whole k out m left
+left-none {whole} {rest} {k} {m} {out} {left} e l = l .then m left (rw e (none-came m left))
+
+-- ---- a loop over the pieces
+
+-- before turn i of n, the i-th of the rests is left of a whole
+pub record Turn (whole : List ℕ) (rests : ℕ → List ℕ) (n : ℕ) (k : Sink) (out : List ℕ)
+    (i : ℕ) (m : Sink) (left : List ℕ) : Type 0 where
+  pub inside : i ≤ n
+  pub rest : Left whole k out (rests i) m left
+
+pub turn-first : {whole : List ℕ} {k : Sink} {out : List ℕ} (rests : ℕ → List ℕ) (n : ℕ) → whole ≡ rests 0
+    → Room whole k out → Turn whole rests n k out 0 k out
+turn-first {whole} {k} {out} rests n e h = record { inside = omega arith; rest = rw (← e) (left-all h) }

@@ -1,0 +1,237 @@
+-- Laws of a template's pieces (document 01, "Template and handle"): a piece's first part and the rest, as the functions
+-- send them, and how long each piece can be.
+use Prim.Native.Nat.{ℕ, zero, suc, _+_, _-_, _*_, _/_, _%_, _≤_, _<_}
+use native.Mathlib.Nat.{add-zero}
+use native.Mathlib.Omega.{arith}
+use mathlib.Core.Path.{_≡_, refl, ap, _∙_}
+use mathlib.Core.Bool.{Bool, true, false, cond}
+use mathlib.Core.List.{List, [], _∷_, _++_}
+use borrow.Author.Tests.{le-leb, lt-leb}
+use lib.Dec.{leb}
+use lib.ListN.{length, replicate, take, drop, length-append, length-replicate, length-take}
+use lib.Seq.{sets}
+use Rattle.words.specs.Words.{bytesOf, part}
+use Rattle.words.proofs.WordLaws.{length-bytes, bytes-low}
+use Rattle.types.specs.declared.member.Member.{Member}
+use Rattle.types.specs.declared.member.Span.{Span}
+use Rattle.types.specs.declared.member.StructDef.{StructDef}
+use Rattle.types.specs.declared.member.StructKind.{StructKind}
+use Rattle.types.specs.declared.member.StructKind.the-variants.{Udt, Predefined, Str, Aoi}
+use Rattle.types.specs.declared.sink.Sink.{Sink}
+use Rattle.types.specs.Defs.{Part, partAt, partsAt, nameIn, Readable}
+use Rattle.types.specs.Pieces.{shownIn}
+use Rattle.types.specs.Sink.{Emitted}
+use Rattle.types.specs.Tables.{TyFits, memberAt, nameAt}
+use Rattle.types.specs.Template.{infoOf, typeIn, infoBytes, infos, userId, semicolonN, asciiString82, shownName}
+use Rattle.types.specs.Template.{memberNames, padding, memberIds}
+use Rattle.types.proofs.SinkLaws.{Left, left-on}
+
+-- ---- one member
+
+-- three stores in eight bytes are a member's info
+pub info-bytes : (ids : ℕ → ℕ) (m : Member) {x y : ℕ} → x ≡ infoOf (m .bit) (m .count) → y ≡ typeIn ids (m .ty) % 65536
+    → sets (sets (sets (replicate 8 0) 0 (bytesOf 2 x)) 2 (bytesOf 2 y)) 4 (bytesOf 4 (m .offset)) ≡ infoBytes ids m
+unfolding infoBytes
+info-bytes ids m p q =
+    rw (p, q, bytes-low 2 (typeIn ids (m .ty))) (whole (infoOf (m .bit) (m .count)) (typeIn ids (m .ty)) (m .offset))
+  where
+    whole : (a b c : ℕ) → sets (sets (sets (replicate 8 0) 0 (bytesOf 2 a)) 2 (bytesOf 2 b)) 4 (bytesOf 4 c)
+        ≡ bytesOf 2 a ++ (bytesOf 2 b ++ bytesOf 4 c)
+    whole a b c = unfold bytesOf in refl
+
+-- a store of two bytes
+pub two-bytes : (x : ℕ) → sets (replicate 2 0) 0 (bytesOf 2 (x % 65536)) ≡ bytesOf 2 x
+two-bytes x = whole (x % 65536) ∙ bytes-low 2 x
+  where
+    whole : (a : ℕ) → sets (replicate 2 0) 0 (bytesOf 2 a) ≡ bytesOf 2 a
+    whole a = unfold bytesOf in refl
+
+-- ---- a row of a structure
+
+-- row i of the n rows of a structure that can be read
+module _ {members : List ℕ} {d : StructDef} {first n i : ℕ} (p : first ≡ d .first) (q : n ≡ d .count) (h : i < n)
+    (r : Readable members d) where
+  pub row-inside : first + i < 2000
+  row-inside = omega (arith, r .rows)
+
+  pub row-name : (names : List ℕ) → length names ≡ 32768
+      → nameAt members (first + i) .at + nameAt members (first + i) .long ≤ length names
+  row-name names e = rw (p, e) (r .names i (omega arith))
+
+  pub row-type : TyFits (memberAt members (first + i) .ty)
+  row-type = rw p (r .types i (omega arith))
+
+-- ---- the first of what is left
+
+module _ (members names : List ℕ) (first n i : ℕ) (h : i < n) where
+  pub parts-on : partsAt members names (first + i) (n - i)
+      ≡ partAt members names (first + i) ∷ partsAt members names (first + (i + 1)) (n - (i + 1))
+  unfolding partsAt
+  parts-on =
+      let e : n - i ≡ suc (n - (i + 1)) = omega arith in
+      let f : first + i + 1 ≡ first + (i + 1) = omega arith in
+      rw (e, f)
+
+  pub infos-on : (ids : ℕ → ℕ) → infos ids (partsAt members names (first + i) (n - i))
+      ≡ infoBytes ids (memberAt members (first + i))
+      ++ infos ids (partsAt members names (first + (i + 1)) (n - (i + 1)))
+  unfolding infos partAt
+  infos-on ids = rw parts-on
+
+  pub names-on : memberNames (partsAt members names (first + i) (n - i))
+      ≡ nameIn names (nameAt members (first + i))
+      ++ (0 ∷ memberNames (partsAt members names (first + (i + 1)) (n - (i + 1))))
+  unfolding memberNames partAt
+  names-on = rw parts-on
+
+  -- after a name its 0 is left
+  pub name-came : {whole out left last : List ℕ} {k m r : Sink} {s : Span} → s ≡ nameAt members (first + i)
+      → Left whole k out (memberNames (partsAt members names (first + i) (n - i))) m left
+      → Emitted (nameIn names s) m left r last
+      → Left whole k out (0 ∷ memberNames (partsAt members names (first + (i + 1)) (n - (i + 1)))) r last
+  name-came e l c = left-on _ names-on l (rw e at c)
+
+pub ids-on : (n i : ℕ) → i < n → memberIds i (n - i) ≡ bytesOf 2 (0xE000 + i) ++ memberIds (i + 1) (n - (i + 1))
+unfolding memberIds
+ids-on n i h =
+    let e : n - i ≡ suc (n - (i + 1)) = omega arith in
+    rw e
+
+-- ---- nothing is left
+
+pub parts-off : (members names : List ℕ) (row n i : ℕ) → n ≤ i → partsAt members names row (n - i) ≡ []
+unfolding partsAt
+parts-off members names row n i h =
+    let e : n - i ≡ 0 = omega arith in
+    rw e
+
+pub infos-off : (ids : ℕ → ℕ) (members names : List ℕ) (row n i : ℕ) → n ≤ i
+    → infos ids (partsAt members names row (n - i)) ≡ []
+unfolding infos
+infos-off ids members names row n i h = rw (parts-off members names row n i h)
+
+pub names-off : (members names : List ℕ) (row n i : ℕ) → n ≤ i → memberNames (partsAt members names row (n - i)) ≡ []
+unfolding memberNames
+names-off members names row n i h = rw (parts-off members names row n i h)
+
+pub ids-off : (n i : ℕ) → n ≤ i → memberIds i (n - i) ≡ []
+unfolding memberIds
+ids-off n i h =
+    let e : n - i ≡ 0 = omega arith in
+    rw e
+
+-- ---- what a structure's rows give
+
+-- no name matters to the infos
+pub infos-any : (ids : ℕ → ℕ) (members names other : List ℕ) (row n : ℕ)
+    → infos ids (partsAt members names row n) ≡ infos ids (partsAt members other row n)
+unfolding infos partsAt partAt
+infos-any ids members names other row zero = refl
+infos-any ids members names other row (suc n) =
+    ap (λ (l : List ℕ). infoBytes ids (memberAt members row) ++ l) (infos-any ids members names other (row + 1) n)
+
+-- the part of the table that a name's place and length give
+pub table-part : (names : List ℕ) (s : Span) {from long : ℕ} → from ≡ s .at → long ≡ s .long
+    → take (from + long - from) (drop from names) ≡ nameIn names s
+unfolding part
+table-part names s {from} {long} p q =
+    let e : from + long - from ≡ long = omega arith in
+    rw (e, p, q)
+
+-- zeros to a multiple of 4 are at most three
+few-zeros : (n : ℕ) → n < 4 → take {A = ℕ} n (replicate 3 0) ≡ replicate n 0
+few-zeros zero h = refl
+few-zeros (suc zero) h = refl
+few-zeros (suc (suc zero)) h = refl
+few-zeros (suc (suc (suc zero))) h = refl
+few-zeros (suc (suc (suc (suc n)))) h = absurd (omega arith)
+
+pub zeros-padding : (n : ℕ) → take {A = ℕ} ((n + 3) / 4 * 4 - n) (replicate 3 0) ≡ padding n
+unfolding padding
+zeros-padding n = few-zeros ((n + 3) / 4 * 4 - n) (omega arith)
+
+pub padding-count : (n : ℕ) → length (padding n) ≡ (n + 3) / 4 * 4 - n
+unfolding padding
+padding-count n = length-replicate ((n + 3) / 4 * 4 - n) 0
+
+-- ---- the shown name
+
+module _ (names : List ℕ) (d : StructDef) where
+  pub shown-udt : d .kind ≡ Udt → shownIn names d ≡ nameIn names (d .name) ++ semicolonN
+  unfolding shownName
+  shown-udt e = rw e
+
+  pub shown-bare : d .kind ≡ Predefined → shownIn names d ≡ nameIn names (d .name)
+  unfolding shownName
+  shown-bare e = rw e
+
+  pub shown-aoi : d .kind ≡ Aoi → shownIn names d ≡ nameIn names (d .name) ++ semicolonN
+  unfolding shownName
+  shown-aoi e = rw e
+
+  module _ (e : d .kind ≡ Str) {user : Bool} (p : user ≡ userId (d .id)) where
+    pub shown-string : user ≡ true → shownIn names d ≡ nameIn names (d .name) ++ semicolonN
+    unfolding shownName
+    shown-string q = rw (e, ← p, q)
+
+    pub shown-ascii : user ≡ false → shownIn names d ≡ asciiString82
+    unfolding shownName
+    shown-ascii q = rw (e, ← p, q)
+
+-- ---- ids of a book's types
+
+pub id-below : (id : ℕ) → id < 0x100 → false ≡ userId id
+unfolding userId
+id-below id h = simp (lt-leb 0x100 id h)
+
+pub id-within : (id : ℕ) → 0x100 ≤ id → leb id 0xEFF ≡ userId id
+unfolding userId
+id-within id h = simp (le-leb 0x100 id h)
+
+-- ---- how long a template can be
+
+pub parts-long : (members names : List ℕ) (row n : ℕ) → length (partsAt members names row n) ≡ n
+unfolding partsAt
+parts-long members names row zero = refl
+parts-long members names row (suc n) = ap suc (parts-long members names (row + 1) n)
+
+pub name-long : (names : List ℕ) (at n : ℕ) → length (part names at n) ≤ n
+unfolding part
+name-long names at n = simp length-take (omega arith)
+
+pub infos-long : (ids : ℕ → ℕ) (ps : List Part) → length (infos ids ps) ≡ 8 * length ps
+unfolding infos infoBytes
+infos-long ids [] = refl
+infos-long ids (p ∷ ps) = simp (length-append, length-bytes) (omega (arith, infos-long ids ps))
+
+pub ids-long : (i n : ℕ) → length (memberIds i n) ≡ 2 * n
+unfolding memberIds
+ids-long i zero = refl
+ids-long i (suc n) = simp (length-append, length-bytes) (omega (arith, ids-long (i + 1) n))
+
+pub padding-long : (n : ℕ) → length (padding n) ≤ 3
+padding-long n = omega (arith, padding-count n)
+
+pub shown-long : (k : StructKind) (id : ℕ) (s : List ℕ) → length (shownName k id s) ≤ length s + 13
+unfolding shownName
+shown-long Udt id s = simp length-append (omega arith)
+shown-long Predefined id s = omega arith
+shown-long Str id s = by-id (userId id)
+  where
+    by-id : (b : Bool) → length (cond b (s ++ semicolonN) asciiString82) ≤ length s + 13
+    by-id true = simp length-append (omega arith)
+    by-id false = omega arith
+shown-long Aoi id s = simp length-append (omega arith)
+
+pub names-long : (members names : List ℕ) (row n : ℕ) → ((k : ℕ) → k < n → nameAt members (row + k) .long ≤ 32768)
+    → length (memberNames (partsAt members names row n)) ≤ 32769 * n
+unfolding memberNames partsAt partAt
+names-long members names row zero h = omega arith
+names-long members names row (suc n) h =
+    let here : nameAt members row .long ≤ 32768 = rw add-zero at (h 0 (omega arith)) in
+    let rest : length (memberNames (partsAt members names (row + 1) n)) ≤ 32769 * n =
+    names-long members names (row + 1) n
+    (λ k l.
+    let e : row + 1 + k ≡ row + (k + 1) = omega arith in
+    rw e (h (k + 1) (omega arith))) in
+    simp length-append (omega (arith, here, rest, name-long names (nameAt members row .at) (nameAt members row .long)))

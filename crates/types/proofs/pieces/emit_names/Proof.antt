@@ -1,0 +1,141 @@
+-- `types::emit_names` meets its contract. The invariant: the names of the rows from the next on are left.
+use native.Mathlib.Omega.{arith}
+use borrow.Author.Needs.{needs}
+use Prim.Native.Nat.{_+_, _-_}
+use native.Mathlib.Nat.{add-zero, sub-zero}
+use mathlib.Core.Path.{refl}
+use mathlib.Core.List.{[], _∷_}
+use Rattle.types.specs.Pieces.{namesFrom}
+use Rattle.types.proofs.SinkLaws.{Turn, turn-first, left-room, left-on, left-none}
+use Rattle.types.proofs.TemplateLaws.{row-inside, row-name, names-on, names-off, name-came}
+use Rattle.types.proofs.pieces.emit_names.Statement.{statement}
+use Rattle.types.proofs.pieces.emit_names.Tie as tie
+
+abbrev Inv-loop : tie.InvT-loop
+Inv-loop members names out₀ first n k₀ i₀ t11 out k i =
+    Turn (namesFrom members names first n) (λ j. namesFrom members names (first + j) (n - j)) n k₀ out₀ i k out
+
+abbrev μ-loop : tie.MeasureT-loop
+μ-loop members names out₀ first n k₀ i₀ t11 out k i = n - i
+
+wide-requires : tie.Need-wide-requires Inv-loop μ-loop
+wide-requires c κs = search needs
+
+wide-requires-2 : tie.Need-wide-requires-2 Inv-loop μ-loop
+wide-requires-2 c κs = search needs
+
+loop-holds : tie.Need-loop-holds Inv-loop μ-loop
+loop-holds c =
+    let at-start = c .before .before .before .before in
+    let a = at-start .args in
+    let first = c .before .wide in
+    let n = c .wide2 in
+    turn-first (λ j. namesFrom (a .members .now) (a .names .now) (first .result + j) (n .result - j)) (n .result)
+    (rw (add-zero, sub-zero)) (rw (first .ensures, n .ensures) (at-start .pre .room))
+
+add-name-at : tie.Need-add-name-at Inv-loop μ-loop
+add-name-at c =
+    let at-n = c .before .before in
+    let at-first = at-n .before in
+    let at-start = at-first .before .before .before in
+    let first = at-first .wide .ensures in
+    let inside = row-inside first (at-n .wide2 .ensures) (c .loop-test .taken) (at-start .pre .rows) in
+    omega arith
+
+name-at-requires : tie.Need-name-at-requires Inv-loop μ-loop
+name-at-requires c κs =
+    let at-n = c .before .before in
+    let at-first = at-n .before in
+    let at-start = at-first .before .before .before in
+    let first = at-first .wide .ensures in
+    row-inside first (at-n .wide2 .ensures) (c .loop-test .taken) (at-start .pre .rows)
+
+emit-name-requires : tie.Need-emit-name-requires Inv-loop μ-loop
+emit-name-requires c κs =
+    let turn = c .before .before in
+    let at-loop = turn .before in
+    let at-n = at-loop .before in
+    let at-first = at-n .before in
+    let at-start = at-first .before .before .before in
+    let a = at-start .args in
+    let l = at-loop .loop in
+    let first = at-first .wide in
+    let n = at-n .wide2 in
+    let inside = turn .loop-test .taken in
+    let is = names-on (a .members .now) (a .names .now) (first .result) (n .result) (l .i) inside in
+    rw (c .before .name-at .ensures) (
+      row-name (first .ensures) (n .ensures) inside (at-start .pre .rows) (a .names .now) (at-start .pre .table),
+      left-room _ _ is (l .inv .rest),
+    )
+
+slice-aggregate-emit : tie.Need-slice-aggregate-emit Inv-loop μ-loop
+slice-aggregate-emit c = search needs
+
+emit-requires : tie.Need-emit-requires Inv-loop μ-loop
+emit-requires c κs =
+    let at-emit-name = c .before .before .before .before in
+    let at-name-at = at-emit-name .before .before in
+    let turn = at-name-at .before in
+    let at-loop = turn .before in
+    let at-n = at-loop .before in
+    let at-first = at-n .before in
+    let at-start = at-first .before .before .before in
+    let a = at-start .args in
+    let l = at-loop .loop in
+    let named = name-came (a .members .now) (a .names .now) (at-first .wide .result) (at-n .wide2 .result) (l .i)
+    (turn .loop-test .taken) (at-name-at .name-at .ensures) (l .inv .rest) (at-emit-name .emit-name .ensures) in
+    left-room (0 ∷ []) _ refl named
+
+add-i : tie.Need-add-i Inv-loop μ-loop
+add-i c = search needs
+
+loop-less : tie.Need-loop-less Inv-loop μ-loop
+loop-less c = search needs
+
+loop-again : tie.Need-loop-again Inv-loop μ-loop
+loop-again c =
+    let at-emit = c .before .before in
+    let at-emit-name = at-emit .before .before .before .before .before in
+    let at-name-at = at-emit-name .before .before in
+    let turn = at-name-at .before in
+    let at-loop = turn .before in
+    let at-n = at-loop .before in
+    let at-first = at-n .before in
+    let at-start = at-first .before .before .before in
+    let a = at-start .args in
+    let l = at-loop .loop in
+    let named = name-came (a .members .now) (a .names .now) (at-first .wide .result) (at-n .wide2 .result) (l .i)
+    (turn .loop-test .taken) (at-name-at .name-at .ensures) (l .inv .rest) (at-emit-name .emit-name .ensures) in
+    record { inside = omega arith; rest = left-on _ refl named (at-emit .emit .ensures) }
+
+same-length : tie.Need-same-length Inv-loop μ-loop
+same-length c = omega arith
+
+returns : tie.Need-returns Inv-loop μ-loop
+returns c =
+    let at-n = c .before .before in
+    let at-first = at-n .before in
+    let l = c .before .loop in
+    let n = at-n .wide2 in
+    rw (at-first .wide .ensures, n .ensures)
+    at (left-none (names-off _ _ _ (n .result) (l .i) (omega arith)) (l .inv .rest))
+
+pub emit-names-spec : {M : Type 1} → statement M
+emit-names-spec =
+    tie.close
+    (tie.spec
+    Inv-loop
+    μ-loop
+    wide-requires
+    wide-requires-2
+    loop-holds
+    add-name-at
+    name-at-requires
+    emit-name-requires
+    slice-aggregate-emit
+    emit-requires
+    add-i
+    loop-less
+    loop-again
+    same-length
+    returns)

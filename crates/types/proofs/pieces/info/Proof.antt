@@ -1,0 +1,72 @@
+-- `types::info` meets its contract: three stores are the info.
+use borrow.Author.Needs.{needs}
+use Prim.Native.Nat.{ℕ, _%_}
+use mathlib.Core.Path.{ap, _∙_}
+use Rattle.types.specs.Template.{idsIn, infoBytes}
+use Rattle.types.proofs.TemplateLaws.{info-bytes}
+use Rattle.types.proofs.pieces.info.Statement.{statement}
+use Rattle.types.proofs.pieces.info.Tie as tie
+
+member-at-requires : tie.Need-member-at-requires
+member-at-requires c κs = search needs
+
+slice-aggregate-store16 : tie.Need-slice-aggregate-store16
+slice-aggregate-store16 c = search needs
+
+info-of-requires : tie.Need-info-of-requires
+info-of-requires c κs = search needs
+
+store16-requires : tie.Need-store16-requires
+store16-requires c κs = search needs
+
+slice-aggregate-store16-2 : tie.Need-slice-aggregate-store16-2
+slice-aggregate-store16-2 c = search needs
+
+type-in-requires : tie.Need-type-in-requires
+type-in-requires c κs =
+    let at-member-at = c .before .before .before .before .before in
+    let at-start = at-member-at .before in
+    rw (at-member-at .member-at .ensures) (at-start .pre .1)
+
+low16-requires : tie.Need-low16-requires
+low16-requires c κs = search needs
+
+store16-requires-2 : tie.Need-store16-requires-2
+store16-requires-2 c κs = search needs
+
+slice-aggregate-store32 : tie.Need-slice-aggregate-store32
+slice-aggregate-store32 c = search needs
+
+store32-requires : tie.Need-store32-requires
+store32-requires c κs = search needs
+
+returns : tie.Need-returns
+returns c =
+    let at-store162 = c .before .before .before .before in
+    let at-low16 = at-store162 .before in
+    let at-type-in = at-low16 .before in
+    let at-store16 = at-type-in .before .before .before in
+    let at-info-of = at-store16 .before in
+    let at-member-at = at-info-of .before .before in
+    let at-start = at-member-at .before in
+    let m = at-member-at .member-at in
+    let ids = idsIn (at-start .args .types .now) in
+    let ty = at-low16 .low16 .ensures ∙ ap (λ (x : ℕ). x % 65536) (at-type-in .type-in .ensures) in
+    rw (c .before .store32 .ensures, at-store162 .store162 .ensures, at-store16 .store16 .ensures)
+    (info-bytes ids (m .result) (at-info-of .info-of .ensures) ty ∙ ap (infoBytes ids) (m .ensures))
+
+pub info-spec : {M : Type 1} → statement M
+info-spec =
+    tie.close
+    (tie.spec
+    member-at-requires
+    slice-aggregate-store16
+    info-of-requires
+    store16-requires
+    slice-aggregate-store16-2
+    type-in-requires
+    low16-requires
+    store16-requires-2
+    slice-aggregate-store32
+    store32-requires
+    returns)

@@ -1,0 +1,41 @@
+-- `types::size_in` meets its contract.
+use borrow.Author.Needs.{needs}
+use Rattle.types.proofs.waste_bits.size_in.Statement.{statement}
+use Rattle.types.proofs.waste_bits.size_in.Tie as tie
+
+enum-known-ty : tie.Need-enum-known-ty
+enum-known-ty c = search needs
+
+size-requires : tie.Need-size-requires
+size-requires c κs = search needs
+
+cast-result : tie.Need-cast-result
+cast-result c = search needs
+
+enum-known-ty-2 : tie.Need-enum-known-ty-2
+enum-known-ty-2 c = search needs
+
+type-at-requires : tie.Need-type-at-requires
+type-at-requires c κs = rw (c .before .ty2 .given .1) at (c .before .before .before .pre)
+
+wide-requires : tie.Need-wide-requires
+wide-requires c κs = search needs
+
+returns : tie.Need-returns
+returns c = rw (c .before .before .ty .given .1) (c .size .ensures)
+
+returns-2 : tie.Need-returns-2
+returns-2 c = rw (c .before .before .before .ty2 .given .1, c .wide .ensures, c .before .type-at .ensures)
+
+pub size-in-spec : {M : Type 1} → statement M
+size-in-spec =
+    tie.close
+    (tie.spec
+    enum-known-ty
+    size-requires
+    cast-result
+    enum-known-ty-2
+    type-at-requires
+    wide-requires
+    returns
+    returns-2)

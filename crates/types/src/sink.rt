@@ -1,0 +1,50 @@
+// Where a template's bytes go (document 01, "Template and handle"): a sink counts them, folds them for
+// the handle and, if it writes, stores them. So one walk gives a template, its length and its handle.
+ghost use mathlib.Core.Path.{_≡_};
+ghost use Prim.Native.Nat.{_+_, _≤_};
+ghost use lib.ListN.{length};
+ghost use lib.Seq.{sets};
+ghost use Rattle.types.specs.Sink.{Room, Emitted};
+use crate::handle::fold_handle;
+
+// How many bytes came, the fold over them, and whether they are stored.
+pub struct Sink {
+    pub at: usize,
+    pub fold: u16,
+    pub writes: bool,
+}
+
+// Stores bytes at a place; the others are kept.
+fn copy(out: &mut [u8], at: usize, s: &[u8])
+    requires { ⌜ at + length (now s) ≤ length (now out) ⌝ }
+    ensures { λ _. ⌜ now (out .exit) ≡ sets (now (out .entry)) at (now (s .entry)) ⌝ }
+{
+    let mut i: usize = 0;
+    while i < s.len() {
+        out[at + i] = s[i];
+        i += 1;
+    }
+}
+
+// Some more bytes come.
+pub fn emit(s: &[u8], sink: Sink, out: &mut [u8]) -> Sink
+    requires { ⌜ Room (now s) sink (now out) ⌝ }
+    ensures { λ r. ⌜ Emitted (now (s .entry)) sink (now (out .entry)) r (now (out .exit)) ⌝ }
+{
+    let at = sink.at;
+    let writes = sink.writes;
+    let fold = fold_handle(sink.fold, s);
+    if writes {
+        copy(out, at, s);
+        return Sink {
+            at: at + s.len(),
+            fold,
+            writes: true,
+        };
+    }
+    Sink {
+        at: at + s.len(),
+        fold,
+        writes: false,
+    }
+}

@@ -1,0 +1,199 @@
+// Templates (document 01, "Template and handle"): a structure's template is walked once, piece by piece,
+// for its length, for its handle, and to write it.
+ghost use mathlib.Core.Path.{_≡_};
+ghost use Prim.Native.Nat.{_≤_, _<_};
+ghost use lib.ListN.{length};
+ghost use lib.Seq.{sets};
+ghost use Rattle.types.specs.Defs.{Readable, AllReadable};
+ghost use Rattle.types.specs.Handle.{handleOf};
+ghost use Rattle.types.specs.Pieces.{Walkable, Walked, frontIn};
+ghost use Rattle.types.specs.Sink.{Emitted};
+ghost use Rattle.types.specs.Template.{objectSize, templateIn, Answered};
+use crate::handle::START;
+use crate::handle::finish_handle;
+use crate::member::StructDef;
+use crate::member::Ty;
+use crate::pieces::emit_ids;
+use crate::pieces::emit_infos;
+use crate::pieces::emit_names;
+use crate::pieces::emit_padding;
+use crate::pieces::emit_shown;
+use crate::pieces::user_id;
+use crate::refusal::Refusal;
+use crate::sink::Sink;
+use crate::sink::emit;
+use crate::tables::MemberTable;
+use crate::tables::NameTable;
+use crate::tables::TYPES;
+use crate::tables::TypeTable;
+use crate::tables::type_at;
+
+// A template's length, or why there is none.
+pub enum Wrote {
+    Length(u32),
+    Refused(Refusal),
+}
+
+// What every template has.
+fn emit_front(
+    types: &TypeTable,
+    members: &MemberTable,
+    names: &[u8],
+    d: StructDef,
+    sink: Sink,
+    out: &mut [u8],
+) -> Sink
+    requires { ⌜ Walkable (now members) (now names) d (frontIn (now types) (now members) (now names) d)
+        sink (now out) ⌝ }
+    ensures { λ r. ⌜ Emitted (frontIn (now (types .entry)) (now (members .entry)) (now (names .entry)) d)
+        sink (now (out .entry)) r (now (out .exit)) ⌝ }
+{
+    let k1 = emit_infos(types, members, d, sink, out);
+    let k2 = emit_shown(names, d, k1, out);
+    let k3 = emit(b"\0", k2, out);
+    emit_names(members, names, d, k3, out)
+}
+
+// The whole template, for ids 0x100..0xEFF with padding and member ids.
+fn walk(
+    types: &TypeTable,
+    members: &MemberTable,
+    names: &[u8],
+    d: StructDef,
+    sink: Sink,
+    out: &mut [u8],
+) -> Sink
+    requires { ⌜ (sink .at ≡ 0)
+        × Walkable (now members) (now names) d (templateIn (now types) (now members) (now names) d) sink (now out) ⌝ }
+    ensures { λ r. ⌜ Emitted (templateIn (now (types .entry)) (now (members .entry)) (now (names .entry)) d)
+        sink (now (out .entry)) r (now (out .exit)) ⌝ }
+{
+    let k1 = emit_front(types, members, names, d, sink, out);
+    let user = user_id(d.id);
+    if user {
+        let k2 = emit_padding(k1, out);
+        return emit_ids(d.count, k2, out);
+    }
+    k1
+}
+
+// The walk that stores nothing.
+fn measure(types: &TypeTable, members: &MemberTable, names: &NameTable, d: StructDef) -> Sink
+    requires { ⌜ Readable (now members) d ⌝ }
+    ensures { λ r. ⌜ Walked (templateIn (now (types .entry)) (now (members .entry)) (now (names .entry)) d) r ⌝ }
+{
+    let mut none = [0u8; 1];
+    let start = Sink {
+        at: 0,
+        fold: START,
+        writes: false,
+    };
+    walk(types, members, names, d, start, &mut none)
+}
+
+// The length of a structure's template.
+pub fn template_len(
+    types: &TypeTable,
+    members: &MemberTable,
+    names: &NameTable,
+    d: StructDef,
+) -> u32
+    requires { ⌜ Readable (now members) d ⌝ }
+    ensures { λ r. ⌜ r ≡ length (templateIn (now (types .entry)) (now (members .entry)) (now (names .entry)) d) ⌝ }
+{
+    let sink = measure(types, members, names, d);
+    sink.at as u32
+}
+
+// The handle of a structure's template.
+pub fn template_handle(
+    types: &TypeTable,
+    members: &MemberTable,
+    names: &NameTable,
+    d: StructDef,
+) -> u16
+    requires { ⌜ Readable (now members) d ⌝ }
+    ensures { λ r. ⌜ r ≡ handleOf (templateIn (now (types .entry)) (now (members .entry)) (now (names .entry)) d) ⌝ }
+{
+    let sink = measure(types, members, names, d);
+    finish_handle(sink.fold)
+}
+
+// Stores a structure's template; the bytes past it are kept.
+pub fn write_template(
+    types: &TypeTable,
+    members: &MemberTable,
+    names: &NameTable,
+    d: StructDef,
+    out: &mut [u8],
+)
+    requires { ⌜ Readable (now members) d
+        × (length (templateIn (now types) (now members) (now names) d) ≤ length (now out)) ⌝ }
+    ensures { λ _. ⌜ now (out .exit)
+        ≡ sets (now (out .entry)) 0 (templateIn (now (types .entry)) (now (members .entry)) (now (names .entry)) d) ⌝ }
+{
+    let start = Sink {
+        at: 0,
+        fold: START,
+        writes: true,
+    };
+    walk(types, members, names, d, start, out);
+}
+
+// The object definition size of a template of n bytes.
+pub fn object_definition_size(n: u32) -> u32
+    requires { ⌜ n < 0x8000_0000 ⌝ }
+    ensures { λ r. ⌜ r ≡ objectSize n ⌝ }
+{
+    (n + 23 + 3) / 4
+}
+
+// The template of the structure with a number.
+fn struct_template(
+    types: &TypeTable,
+    members: &MemberTable,
+    names: &NameTable,
+    n: usize,
+    out: &mut [u8],
+) -> Wrote
+    requires { ⌜ AllReadable (now types) (now members) ⌝ }
+    ensures { λ r. ⌜ Answered (now (types .entry)) (now (members .entry)) (now (names .entry))
+        (Ty.Struct n) (now (out .entry)) r (now (out .exit)) ⌝ }
+{
+    if TYPES <= n {
+        return Wrote::Refused(Refusal::NoSuchType);
+    }
+    let d = type_at(types, n);
+    let id = d.id;
+    if id == 0 {
+        return Wrote::Refused(Refusal::NoSuchType);
+    }
+    let long = template_len(types, members, names, d);
+    if out.len() < long as usize {
+        return Wrote::Refused(Refusal::NoRoom);
+    }
+    write_template(types, members, names, d, out);
+    Wrote::Length(long)
+}
+
+// The template of a type, stored from the buffer's start on: its length; or a refusal, and nothing stored.
+pub fn template(
+    types: &TypeTable,
+    members: &MemberTable,
+    names: &NameTable,
+    ty: Ty,
+    out: &mut [u8],
+) -> Wrote
+    requires { ⌜ AllReadable (now types) (now members) ⌝ }
+    ensures { λ r. ⌜ Answered (now (types .entry)) (now (members .entry)) (now (names .entry))
+        ty (now (out .entry)) r (now (out .exit)) ⌝ }
+{
+    match ty {
+        Ty::Atomic(_) => {
+            return Wrote::Refused(Refusal::NoSuchType);
+        }
+        Ty::Struct(n) => {
+            return struct_template(types, members, names, n, out);
+        }
+    }
+}

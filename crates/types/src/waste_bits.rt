@@ -1,0 +1,86 @@
+// Waste (document 01, "Template and handle", added): a structure's size in bits less the bits of its
+// visible members.
+ghost use mathlib.Core.Path.{_≡_};
+ghost use Prim.Native.Nat.{ℕ};
+ghost use mathlib.Core.List.{List};
+ghost use Rattle.types.specs.Tables.{TyFits};
+ghost use Rattle.types.specs.Waste.{sizeIn, sizesIn, Fitting, SeenBits, Countable, wasteIn};
+use crate::layout::elements;
+use crate::member::Bit;
+use crate::member::Member;
+use crate::member::StructDef;
+use crate::member::Ty;
+use crate::tables::MemberTable;
+use crate::tables::TypeTable;
+use crate::tables::member_at;
+use crate::tables::type_at;
+
+fn wide(x: u32) -> u64
+    ensures { λ r. ⌜ r ≡ x ⌝ }
+{
+    x as u64
+}
+
+fn row(x: u32) -> usize
+    ensures { λ r. ⌜ r ≡ x ⌝ }
+{
+    x as usize
+}
+
+// The bytes of a type.
+fn size_in(types: &TypeTable, ty: Ty) -> u64
+    requires { ⌜ TyFits ty ⌝ }
+    ensures { λ r. ⌜ r ≡ sizeIn (sizesIn (now (types .entry))) ty ⌝ }
+{
+    match ty {
+        Ty::Atomic(a) => a.size() as u64,
+        Ty::Struct(n) => {
+            let d = type_at(types, n);
+            wide(d.size)
+        }
+    }
+}
+
+// The bits of a member that is visible, 0 for a hidden one.
+fn seen_bits(types: &TypeTable, m: Member) -> u64
+    requires { ⌜ Fitting (now types) m ⌝ }
+    ensures { λ r. ⌜ SeenBits (now (types .entry)) m r ⌝ }
+{
+    let hidden = m.hidden;
+    let bit = m.bit;
+    let ty = m.ty;
+    if hidden {
+        return 0;
+    }
+    match bit {
+        Bit::None => {
+            let size = size_in(types, ty);
+            let n = elements(m.count);
+            return 8 * (size * n);
+        }
+        Bit::At(_) => {
+            return 1;
+        }
+    }
+}
+
+// The waste of a structure, in bits; no name matters to it.
+pub fn waste(types: &TypeTable, members: &MemberTable, d: StructDef) -> u64
+    requires { ⌜ Countable (now types) (now members) d ⌝ }
+    ensures { λ r. ⌜ ((names : List ℕ) → r ≡ wasteIn (now (types .entry)) (now (members .entry)) names d) ⌝ }
+{
+    let first = row(d.first);
+    let n = row(d.count);
+    let total = 8 * wide(d.size);
+    let mut bits: u64 = 0;
+    let mut i: usize = 0;
+    while i < n {
+        let m = member_at(members, first + i);
+        bits += seen_bits(types, m);
+        i += 1;
+    }
+    if total < bits {
+        return 0;
+    }
+    total - bits
+}
