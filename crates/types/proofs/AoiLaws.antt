@@ -5,13 +5,16 @@ use native.Mathlib.Omega.{arith}
 use mathlib.Core.Path.{_≡_, refl, sym, ap, _∙_}
 use mathlib.Core.Bool.{Bool, cond}
 use mathlib.Core.List.{List, [], _∷_}
-use lib.ListN.{length}
+use lib.ListN.{length, length-append}
 use lib.Seq.{sets}
 use Rattle.types.specs.declared.layout.Decl.{Decl}
 use Rattle.types.specs.Entries.{declAt, declsFrom, Found}
 use Rattle.types.specs.Layout.{isBool}
-use Rattle.types.specs.Structs.{bools, BoolsCounted, OneIf}
+use Rattle.types.specs.Defs.{Part}
+use Rattle.types.specs.Digits.{bitHostName}
+use Rattle.types.specs.Structs.{named, namesOf, rowsOf, bools, bitHostAt, hostParts, BoolsCounted, OneIf, HostPut, Put}
 use Rattle.types.proofs.EntryLaws.{decls-cons, decls-none}
+use Rattle.types.proofs.StoreLaws.{one-name, names-append, rows-then, names-then}
 
 -- what counting keeps
 pub record Counting (types book tys : List ℕ) (at n count j : ℕ) : Type 0 where
@@ -47,3 +50,89 @@ module _ {types book tys : List ℕ} {at n count j : ℕ} (c : Counting types bo
         most = omega (arith, c .most, o .most);
         same = omega (arith, g, rw (decls-cons types book tys at n j l) at (c .same));
       }
+
+-- ---- hosts
+
+hosts-cons : (h i : ℕ) → i < h → hostParts i (h - i) ≡ named (bitHostName i) (bitHostAt i) ∷ hostParts (i + 1) (h - (i + 1))
+unfolding hostParts
+hosts-cons h i l =
+    let e : h - i ≡ suc (h - (i + 1)) = omega arith in
+    rw e
+
+hosts-none : (h i : ℕ) → h ≤ i → hostParts i (h - i) ≡ []
+unfolding hostParts
+hosts-none h i l =
+    let e : h - i ≡ 0 = omega arith in
+    rw e
+
+-- what storing the hosts keeps: all stand once those that are left are stored after the others
+pub record Hosting (h row place : ℕ) (m₀ t₀ m t : List ℕ) (at i : ℕ) : Type 0 where
+  pub done : i ≤ h
+  pub room : row + h ≤ 2000
+  pub bytes : at + length (namesOf (hostParts i (h - i))) ≤ 32768
+  pub next : place + length (namesOf (hostParts 0 h)) ≡ at + length (namesOf (hostParts i (h - i)))
+  pub rows : sets m₀ (8 * row) (rowsOf place (hostParts 0 h)) ≡ sets m (8 * (row + i)) (rowsOf at (hostParts i (h - i)))
+  pub names : sets t₀ place (namesOf (hostParts 0 h)) ≡ sets t at (namesOf (hostParts i (h - i)))
+
+pub hosts-start : (h row place : ℕ) (m t : List ℕ) → row + h ≤ 2000 → place + length (namesOf (hostParts 0 h)) ≤ 32768
+    → Hosting h row place m t m t place 0
+hosts-start h row place m t r b =
+    record {
+      done = omega arith;
+      room = r;
+      bytes = rw sub-zero b;
+      next = rw sub-zero;
+      rows = rw (sub-zero, add-zero);
+      names = rw sub-zero;
+    }
+
+module _ {h row place at i : ℕ} {m₀ t₀ m t : List ℕ} (s : Hosting h row place m₀ t₀ m t at i) where
+  pub hosts-done : h ≤ i → Put (hostParts 0 h) row place m₀ t₀ m t at
+  unfolding namesOf rowsOf
+  hosts-done l =
+      let e = hosts-none h i l in
+      record {
+        next = sym (rw e at (s .next) ∙ add-zero at);
+        rows = sym (rw e at (s .rows));
+        names = sym (rw e at (s .names));
+      }
+
+  abbrev host : Part
+  host = named (bitHostName i) (bitHostAt i)
+
+  module _ (l : i < h) where
+    pub host-room : at + length (bitHostName i) ≤ 32768
+    unfolding namesOf
+    host-room = omega (arith, simp length-append at (rw (hosts-cons h i l) at (s .bytes)))
+
+    pub host-on : {m′ t′ : List ℕ} {r : ℕ} → HostPut i (row + i) at m t m′ t′ r
+        → Hosting h row place m₀ t₀ m′ t′ (at + r) (i + 1)
+    host-on {m′} {t′} {r} p =
+        let e = hosts-cons h i l in
+        let rest = hostParts (i + 1) (h - (i + 1)) in
+        let f : length (namesOf (host ∷ [])) ≡ r = sym (ap length (one-name (bitHostName i) (bitHostAt i))) ∙ sym (p .long) in
+        let g : row + i + 1 ≡ row + (i + 1) = omega arith in
+        let k : length (namesOf (host ∷ rest)) ≡ r + length (namesOf rest) =
+        ap length (names-append (host ∷ []) rest) ∙ length-append (namesOf (host ∷ [])) (namesOf rest) ∙ ap (_+ length (namesOf rest)) f in
+        record {
+          done = omega arith;
+          room = s .room;
+          bytes = omega (arith, k, rw e at (s .bytes));
+          next = omega (arith, k, rw e at (s .next));
+          rows = rw e at (s .rows) ∙ rows-then m (row + i) at (host ∷ []) rest ∙ rw (p .rows, f, g);
+          names = rw e at (s .names) ∙ names-then t at (host ∷ []) rest ∙ rw (p .names, f);
+        }
+
+-- two parts, one after the other
+pub two-put : (a b : Part) (row place : ℕ) {m₀ t₀ m₁ t₁ m t : List ℕ} {r : ℕ}
+    → r ≡ place + length (namesOf (a ∷ b ∷ []))
+    → m₁ ≡ sets m₀ (8 * row) (rowsOf place (a ∷ [])) → t₁ ≡ sets t₀ place (namesOf (a ∷ []))
+    → (at : ℕ) → at ≡ place + length (namesOf (a ∷ []))
+    → m ≡ sets m₁ (8 * (row + 1)) (rowsOf at (b ∷ [])) → t ≡ sets t₁ at (namesOf (b ∷ []))
+    → Put (a ∷ b ∷ []) row place m₀ t₀ m t r
+two-put a b row place {m₀} {t₀} n p q at e u v =
+    record {
+      next = n;
+      rows = rw (u, p, e) (sym (rows-then m₀ row place (a ∷ []) (b ∷ [])));
+      names = rw (v, q, e) (sym (names-then t₀ place (a ∷ []) (b ∷ [])));
+    }

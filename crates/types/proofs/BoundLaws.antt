@@ -61,7 +61,7 @@ module _ (name : Decl → List ℕ) (host : ℕ → List ℕ) (e : Cursor) (n′
       })
       q
 
-hosts-count : (k h : ℕ) → length (hostParts k h) ≡ h
+pub hosts-count : (k h : ℕ) → length (hostParts k h) ≡ h
 unfolding hostParts
 hosts-count k zero = refl
 hosts-count k (suc h) = ap suc (hosts-count (k + 1) h)

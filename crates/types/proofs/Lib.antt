@@ -1,5 +1,6 @@
 -- Laws over the definitions of crate `types`, a file for each idea.
 pub mod AoiLaws
+pub mod AoiStoreLaws
 pub mod AtomicLaws
 pub mod MeasureLaws
 pub mod Measuring

@@ -110,11 +110,12 @@ enableOut = 69 ∷ 110 ∷ 97 ∷ 98 ∷ 108 ∷ 101 ∷ 79 ∷ 117 ∷ 116 ∷ 
 abbrev pub aoiStart : ℕ → Cursor
 aoiStart h = record { offset = 4 * h; host = Shared 2; members = h + 2 }
 
+abbrev pub enableParts : List Part
+enableParts = named enableIn (enableAt 0) ∷ named enableOut (enableAt 1) ∷ []
+
 unfoldable pub aoiParts : (Decl → List ℕ) → List ℕ → List Decl → List Part
 aoiParts name type ds =
-    hostParts 0 (aoiHosts ds)
-    ++ (named enableIn (enableAt 0) ∷ named enableOut (enableAt 1)
-    ∷ partsFrom name (hostName type) (aoiStart (aoiHosts ds)) ds)
+    hostParts 0 (aoiHosts ds) ++ (enableParts ++ partsFrom name (hostName type) (aoiStart (aoiHosts ds)) ds)
 
 -- ---- strings
 
@@ -246,3 +247,19 @@ pub record HostPut (i row at : ℕ) (m₀ t₀ m t : List ℕ) (r : ℕ) : Type 
   pub long : r ≡ length (bitHostName i)
   pub rows : m ≡ sets m₀ (8 * row) (rowsOf at (named (bitHostName i) (bitHostAt i) ∷ []))
   pub names : t ≡ sets t₀ at (namesOf (named (bitHostName i) (bitHostAt i) ∷ []))
+
+-- some parts are stored from a row and a place on, and the place after their names is answered
+pub record Put (ps : List Part) (row place : ℕ) (m₀ t₀ m t : List ℕ) (r : ℕ) : Type 0 where
+  pub next : r ≡ place + length (namesOf ps)
+  pub rows : m ≡ sets m₀ (8 * row) (rowsOf place ps)
+  pub names : t ≡ sets t₀ place (namesOf ps)
+
+-- an AOI of n declared members and h hosts can be stored from a row and a place on
+pub record StorableAoi (types book tys type : List ℕ) (at n h row place : ℕ) : Type 0 where
+  pub found : Found book tys at n
+  pub few : n ≤ 65536
+  pub hosts : h ≡ aoiHosts (declsFrom types book tys at 0 n)
+  pub inside : (k : ℕ) → k < n
+      → declAt types book tys at k .name .at + declAt types book tys at k .name .long ≤ length book
+  pub rows : row + length (aoiParts (namedIn book) type (declsFrom types book tys at 0 n)) ≤ 2000
+  pub names : place + length (namesOf (aoiParts (namedIn book) type (declsFrom types book tys at 0 n))) ≤ 32768

@@ -7,16 +7,21 @@ ghost use lib.ListN.{length};
 ghost use lib.Seq.{sets};
 ghost use Rattle.types.specs.Digits.{TwoDigits, bitHostName};
 ghost use Rattle.types.specs.Entries.{declsFrom, Found};
-ghost use Rattle.types.specs.Structs.{namesOf, rowsOf, named, bools, BoolsCounted, OneIf, bitHostAt, HostPut};
+ghost use Rattle.types.specs.Structs.{namesOf, rowsOf, named, bools, BoolsCounted, OneIf, HostPut};
+ghost use Rattle.types.specs.Structs.{hostParts, enableAt, enableParts, aoiStart, aoiParts, namedIn, Put, StorableAoi};
 use crate::atomic::Atomic;
 use crate::digits::put_bytes;
 use crate::digits::two_digits;
 use crate::entries::decl_at;
+use crate::layout::Cursor;
+use crate::layout::Host;
 use crate::layout::is_bool;
 use crate::member::Bit;
 use crate::member::Member;
 use crate::member::Span;
 use crate::member::Ty;
+use crate::store::put_part;
+use crate::store::store;
 use crate::tables::MemberTable;
 use crate::tables::NameTable;
 use crate::tables::TypeTable;
@@ -90,4 +95,114 @@ fn put_bit_host(
         },
     );
     9 + long
+}
+
+fn wide(x: u32) -> usize
+    ensures { λ r. ⌜ r ≡ x ⌝ }
+{
+    x as usize
+}
+
+// The rows and names of all h hosts; answers the place after their names.
+fn put_hosts(
+    members: &mut MemberTable,
+    row: usize,
+    names: &mut NameTable,
+    place: usize,
+    h: u32,
+) -> usize
+    requires { ⌜ (row + h ≤ 2000) × (place + length (namesOf (hostParts 0 h)) ≤ 32768) ⌝ }
+    ensures { λ r. ⌜ Put (hostParts 0 h) row place (now (members .entry)) (now (names .entry))
+        (now (members .exit)) (now (names .exit)) r ⌝ }
+{
+    let mut at = place;
+    let mut i: u32 = 0;
+    while i < h {
+        let next = row + wide(i);
+        let long = put_bit_host(members, next, names, at, i);
+        at += long;
+        i += 1;
+    }
+    at
+}
+
+// EnableIn and EnableOut are the first two BOOLs, with access 2.
+fn enable(bit: u8) -> Member
+    ensures { λ r. ⌜ r ≡ enableAt bit ⌝ }
+{
+    Member {
+        ty: Ty::Atomic(Atomic::Bool),
+        count: 0,
+        offset: 0,
+        bit: Bit::At(bit),
+        hidden: false,
+        local: false,
+        access: 2,
+    }
+}
+
+// Their rows and names; answers the place after their names.
+fn put_enables(members: &mut MemberTable, row: usize, names: &mut NameTable, place: usize) -> usize
+    requires { ⌜ (row + 2 ≤ 2000) × (place + 17 ≤ 32768) ⌝ }
+    ensures { λ r. ⌜ Put enableParts row place (now (members .entry)) (now (names .entry))
+        (now (members .exit)) (now (names .exit)) r ⌝ }
+{
+    let first = enable(0);
+    let second = enable(1);
+    put_part(members, row, names, place, b"EnableIn", first);
+    put_part(members, row + 1, names, place + 8, b"EnableOut", second);
+    place + 17
+}
+
+// Where the declared members begin: after h hosts, with two BOOLs placed.
+pub fn aoi_start(h: u32) -> Cursor
+    requires { ⌜ h ≤ 131072 ⌝ }
+    ensures { λ r. ⌜ r ≡ aoiStart h ⌝ }
+{
+    Cursor {
+        offset: 4 * h,
+        host: Host::Shared(2),
+        members: h + 2,
+    }
+}
+
+// The rows and the names of an AOI's parts: its h hosts, EnableIn and EnableOut, and the n declared members.
+pub fn store_aoi(
+    types: &TypeTable,
+    book: &[u8],
+    tys: &[u16],
+    at: usize,
+    n: usize,
+    name: &[u8],
+    h: u32,
+    members: &mut MemberTable,
+    row: usize,
+    names: &mut NameTable,
+    place: usize,
+)
+    requires { ⌜ StorableAoi (now types) (now book) (now tys) (now name) at n h row place ⌝ }
+    ensures rows { λ _. ⌜ now (members .exit) ≡ sets (now (members .entry)) (8 * row)
+        (rowsOf place (aoiParts (namedIn (now (book .entry))) (now (name .entry))
+        (declsFrom (now (types .entry)) (now (book .entry)) (now (tys .entry)) at 0 n))) ⌝ }
+    ensures names { λ _. ⌜ now (names .exit) ≡ sets (now (names .entry)) place
+        (namesOf (aoiParts (namedIn (now (book .entry))) (now (name .entry))
+        (declsFrom (now (types .entry)) (now (book .entry)) (now (tys .entry)) at 0 n))) ⌝ }
+{
+    let after = wide(h);
+    let second = put_hosts(members, row, names, place, h);
+    let third = put_enables(members, row + after, names, second);
+    let from = aoi_start(h);
+    store(
+        types,
+        book,
+        tys,
+        at,
+        n,
+        name,
+        from,
+        members,
+        row + after + 2,
+        names,
+        third,
+    );
 }
