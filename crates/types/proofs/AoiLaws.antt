@@ -12,7 +12,8 @@ use Rattle.types.specs.Entries.{declAt, declsFrom, Found}
 use Rattle.types.specs.Layout.{isBool}
 use Rattle.types.specs.Defs.{Part}
 use Rattle.types.specs.Digits.{bitHostName}
-use Rattle.types.specs.Structs.{named, namesOf, rowsOf, bools, bitHostAt, hostParts, BoolsCounted, OneIf, HostPut, Put}
+use Rattle.types.specs.Structs.{named, namesOf, rowsOf, bools, bitHostAt, hostParts}
+use Rattle.types.specs.Structs.{BoolsCounted, OneIf, HostPut, Put, BitHostLong, HostsLong}
 use Rattle.types.proofs.EntryLaws.{decls-cons, decls-none}
 use Rattle.types.proofs.StoreLaws.{one-name, names-append, rows-then, names-then}
 
@@ -136,3 +137,34 @@ two-put a b row place {m₀} {t₀} n p q at e u v =
       rows = rw (u, p, e) (sym (rows-then m₀ row place (a ∷ []) (b ∷ [])));
       names = rw (v, q, e) (sym (names-then t₀ place (a ∷ []) (b ∷ [])));
     }
+
+-- ---- the hosts' names
+
+-- what adding up their lengths keeps
+pub record Adding (h long i : ℕ) : Type 0 where
+  pub done : i ≤ h
+  pub few : h ≤ 131072
+  pub most : long ≤ 15 * i
+  pub same : length (namesOf (hostParts 0 h)) ≡ long + length (namesOf (hostParts i (h - i)))
+
+pub adding-start : (h : ℕ) → h ≤ 131072 → Adding h 0 0
+adding-start h l = record { done = omega arith; few = l; most = omega arith; same = rw (sub-zero, zero-add) }
+
+module _ {h long i : ℕ} (s : Adding h long i) where
+  pub adding-done : h ≤ i → HostsLong h long
+  unfolding namesOf
+  adding-done l =
+      record {
+        is = sym (rw (hosts-none h i l) at (s .same) ∙ add-zero long);
+        most = omega (arith, s .most, s .done);
+      }
+
+  pub adding-on : i < h → {r : ℕ} → BitHostLong i r → Adding h (long + r) (i + 1)
+  unfolding namesOf
+  adding-on l b =
+      record {
+        done = omega arith;
+        few = s .few;
+        most = omega (arith, s .most, b .most);
+        same = omega (arith, b .is, simp length-append at (rw (hosts-cons h i l) at (s .same)));
+      }

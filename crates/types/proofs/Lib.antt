@@ -7,6 +7,7 @@ pub mod Measuring
 pub mod NameLaws
 pub mod DigitLaws
 pub mod EntryLaws
+pub mod FixedLaws
 pub mod HandleLaws
 pub mod LayoutLaws
 pub mod PlaceLaws

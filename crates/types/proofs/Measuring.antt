@@ -1,5 +1,5 @@
 -- What the first pass of a layout keeps from one member to the next: the whole measures as what is left does from here.
-use Prim.Native.Nat.{ℕ, _+_, _-_, _<_, _≤_}
+use Prim.Native.Nat.{ℕ, _+_, _-_, _*_, _<_, _≤_}
 use native.Mathlib.Nat.{add-zero, sub-zero}
 use native.Mathlib.Omega.{arith}
 use mathlib.Core.Path.{_≡_, refl, sym, ap, _∙_}
@@ -10,7 +10,7 @@ use Rattle.types.specs.declared.measure.Measured.{Measured}
 use Rattle.types.specs.declared.measure.Measured.the-variants.{Laid, AccessWrong, TooFar}
 use Rattle.types.specs.Digits.{hostName}
 use Rattle.types.specs.Entries.{declAt, declsFrom, Found}
-use Rattle.types.specs.Structs.{measureOne, measured, Far, Near, Measurable}
+use Rattle.types.specs.Structs.{measureOne, measured, udtStart, aoiStart, Far, Near, Measurable}
 use Rattle.types.proofs.DigitLaws.{host-most}
 use Rattle.types.proofs.EntryLaws.{decls-cons, decls-none, found-first, decl-fair}
 use Rattle.types.proofs.MeasureLaws.{measured-on, measured-access, measured-far, measured-done, far-on, near}
@@ -73,3 +73,23 @@ module _ {types book tys name : List ℕ} {at n n₀ names j : ℕ} {c₀ c : Cu
                 (host-most name (c .members)) (sym e ∙ q));
             same = split ∙ measured-on (hostName name) c names _ _ (sym e ∙ q);
           }
+
+-- any members of a book can be measured from the start of a UDT, and after the hosts of an AOI
+pub from-start : {book tys : List ℕ} {at n : ℕ} → Found book tys at n → n ≤ 65536 → Measurable book tys at n udtStart 0
+from-start f l =
+    record {
+      found = f;
+      passed = 0;
+      few = omega arith;
+      far = record { offset = omega arith; members = omega arith; bits = omega arith; names = omega arith };
+    }
+
+pub from-hosts : {book tys : List ℕ} {at n h long : ℕ} → Found book tys at n → n ≤ 65536 → h ≤ 2050 → long ≤ 15 * h
+    → Measurable book tys at n (aoiStart h) (long + 17)
+from-hosts f l k m =
+    record {
+      found = f;
+      passed = 2052;
+      few = omega arith;
+      far = record { offset = omega arith; members = omega arith; bits = omega arith; names = omega arith };
+    }

@@ -6,6 +6,7 @@ use mathlib.Core.Bool.{Bool, true, false, cond}
 use mathlib.Core.List.{List, [], _∷_, _++_}
 use lib.ListN.{length}
 use lib.Seq.{sets}
+use Rattle.words.specs.Words.{part}
 use Rattle.types.specs.declared.atomic.Atomic.the-variants.{Bool as BOOL, SInt, DInt}
 use Rattle.types.specs.declared.layout.Cursor.{Cursor}
 use Rattle.types.specs.declared.layout.Decl.{Decl}
@@ -161,6 +162,41 @@ unfoldable pub controlParts : List ℕ → List ℕ → List (List ℕ) → List
 controlParts one two bits =
     named (67 ∷ 84 ∷ 76 ∷ []) ctlAt ∷ named one (dintAt 4) ∷ named two (dintAt 8) ∷ statusParts 0 bits
 
+-- the n names of two bytes each, from the i-th on
+unfoldable pub pairs : List ℕ → ℕ → ℕ → List (List ℕ)
+pairs s i zero = []
+pairs s i (suc n) = part s (2 * i) 2 ∷ pairs s (i + 1) n
+
+-- TIMER: PRE ACC, EN TT DN
+unfoldable pub timerParts : List Part
+timerParts =
+    controlParts (80 ∷ 82 ∷ 69 ∷ []) (65 ∷ 67 ∷ 67 ∷ [])
+    ((69 ∷ 78 ∷ []) ∷ (84 ∷ 84 ∷ []) ∷ (68 ∷ 78 ∷ []) ∷ [])
+
+-- COUNTER: PRE ACC, CU CD DN OV UN
+unfoldable pub counterParts : List Part
+counterParts =
+    controlParts (80 ∷ 82 ∷ 69 ∷ []) (65 ∷ 67 ∷ 67 ∷ [])
+    ((67 ∷ 85 ∷ []) ∷ (67 ∷ 68 ∷ []) ∷ (68 ∷ 78 ∷ []) ∷ (79 ∷ 86 ∷ []) ∷ (85 ∷ 78 ∷ []) ∷ [])
+
+-- CONTROL: LEN POS, EN EU DN EM ER UL IN FD
+unfoldable pub controlTypeParts : List Part
+controlTypeParts =
+    controlParts (76 ∷ 69 ∷ 78 ∷ []) (80 ∷ 79 ∷ 83 ∷ [])
+    ((69 ∷ 78 ∷ []) ∷ (69 ∷ 85 ∷ []) ∷ (68 ∷ 78 ∷ []) ∷ (69 ∷ 77 ∷ [])
+    ∷ (69 ∷ 82 ∷ []) ∷ (85 ∷ 76 ∷ []) ∷ (73 ∷ 78 ∷ []) ∷ (70 ∷ 68 ∷ []) ∷ [])
+
+-- what the names of status bits, two bytes each, ask of the tables from a row and a place on; and those of a control
+-- type, whose two words have three bytes each
+pub record BitsFit (bits : List ℕ) (row place : ℕ) : Type 0 where
+  pub few : length bits / 2 ≤ 32
+  pub rows : row + length bits / 2 ≤ 2000
+  pub names : place + length bits ≤ 32768
+
+pub record ControlFits (words bits : List ℕ) (row place : ℕ) : Type 0 where
+  pub long : length words ≡ 6
+  pub fit : BitsFit bits (row + 3) (place + 9)
+
 -- ---- one member of a measured layout
 
 unfoldable pub measureOne : (ℕ → List ℕ) → Cursor → ℕ → Decl → Measured
@@ -263,3 +299,16 @@ pub record StorableAoi (types book tys type : List ℕ) (at n h row place : ℕ)
       → declAt types book tys at k .name .at + declAt types book tys at k .name .long ≤ length book
   pub rows : row + length (aoiParts (namedIn book) type (declsFrom types book tys at 0 n)) ≤ 2000
   pub names : place + length (namesOf (aoiParts (namedIn book) type (declsFrom types book tys at 0 n))) ≤ 32768
+
+-- an AOI's declared members, after the hosts' names and the 17 bytes of EnableIn and EnableOut
+unfoldable pub measuredAoi : List ℕ → List Decl → Measured
+measuredAoi type ds =
+    measured (hostName type) (aoiStart (aoiHosts ds)) (length (namesOf (hostParts 0 (aoiHosts ds))) + 17) ds
+
+pub record BitHostLong (i r : ℕ) : Type 0 where
+  pub is : r ≡ length (bitHostName i)
+  pub most : r ≤ 15
+
+pub record HostsLong (h r : ℕ) : Type 0 where
+  pub is : r ≡ length (namesOf (hostParts 0 h))
+  pub most : r ≤ 15 * h

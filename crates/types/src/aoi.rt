@@ -9,6 +9,7 @@ ghost use Rattle.types.specs.Digits.{TwoDigits, bitHostName};
 ghost use Rattle.types.specs.Entries.{declsFrom, Found};
 ghost use Rattle.types.specs.Structs.{namesOf, rowsOf, named, bools, BoolsCounted, OneIf, HostPut};
 ghost use Rattle.types.specs.Structs.{hostParts, enableAt, enableParts, aoiStart, aoiParts, namedIn, Put, StorableAoi};
+ghost use Rattle.types.specs.Structs.{measuredAoi, BitHostLong, HostsLong};
 use crate::atomic::Atomic;
 use crate::digits::put_bytes;
 use crate::digits::two_digits;
@@ -16,6 +17,8 @@ use crate::entries::decl_at;
 use crate::layout::Cursor;
 use crate::layout::Host;
 use crate::layout::is_bool;
+use crate::measure::Measured;
+use crate::measure::measure;
 use crate::member::Bit;
 use crate::member::Member;
 use crate::member::Span;
@@ -205,4 +208,47 @@ pub fn store_aoi(
         names,
         third,
     );
+}
+
+// How long a host's name is.
+fn bit_host_long(i: u32) -> u32
+    requires { ⌜ i < 1000000 ⌝ }
+    ensures { λ r. ⌜ BitHostLong i r ⌝ }
+{
+    let d = two_digits(i);
+    (9 + d.long) as u32
+}
+
+// How long the names of h hosts are.
+fn hosts_long(h: u32) -> u32
+    requires { ⌜ h ≤ 131072 ⌝ }
+    ensures { λ r. ⌜ HostsLong h r ⌝ }
+{
+    let mut long: u32 = 0;
+    let mut i: u32 = 0;
+    while i < h {
+        long += bit_host_long(i);
+        i += 1;
+    }
+    long
+}
+
+// How far an AOI's n declared members come, after its hosts, EnableIn and EnableOut.
+pub fn measure_aoi(
+    types: &TypeTable,
+    book: &[u8],
+    tys: &[u16],
+    at: usize,
+    n: usize,
+    name: &[u8],
+) -> Measured
+    requires { ⌜ Found (now book) (now tys) at n × (n ≤ 65536) ⌝ }
+    ensures { λ r. ⌜ r ≡ measuredAoi (now (name .entry))
+        (declsFrom (now (types .entry)) (now (book .entry)) (now (tys .entry)) at 0 n) ⌝ }
+{
+    let bools = count_bools(types, book, tys, at, n);
+    let h = hosts_for(bools);
+    let long = hosts_long(h);
+    let from = aoi_start(h);
+    measure(types, book, tys, at, n, name, from, long + 17)
 }

@@ -103,7 +103,7 @@ pub fn is_bool(ty: Ty) -> bool
 }
 
 // The lowest multiple of `align` from x on.
-fn align_up(x: u32, align: u32) -> u32
+pub fn align_up(x: u32, align: u32) -> u32
     requires { ⌜ Aligned x align ⌝ }
     ensures { λ r. ⌜ r ≡ alignUp x align ⌝ }
 {

@@ -4,6 +4,7 @@ mod aoi;
 mod atomic;
 mod digits;
 mod entries;
+mod fixed;
 mod handle;
 mod layout;
 mod measure;
@@ -15,6 +16,7 @@ mod sink;
 mod store;
 mod tables;
 mod templates;
+mod udt;
 mod waste_bits;
 
 pub use atomic::Atomic;

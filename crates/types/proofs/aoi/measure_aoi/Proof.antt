@@ -1,0 +1,53 @@
+-- `types::measure_aoi` meets its contract.
+use native.Mathlib.Omega.{arith}
+use borrow.Author.Needs.{needs}
+use mathlib.Core.Path.{_≡_, sym, ap, _∙_}
+use Rattle.types.specs.Entries.{declsFrom}
+use Rattle.types.specs.Structs.{aoiHosts, measuredAoi}
+use Rattle.types.proofs.Measuring.{from-hosts}
+use Rattle.types.proofs.aoi.measure_aoi.Statement.{statement}
+use Rattle.types.proofs.aoi.measure_aoi.Tie as tie
+
+count-bools-requires : tie.Need-count-bools-requires
+count-bools-requires c κs = search needs
+
+hosts-for-requires : tie.Need-hosts-for-requires
+hosts-for-requires c κs = search needs
+
+hosts-long-requires : tie.Need-hosts-long-requires
+hosts-long-requires c κs = search needs
+
+aoi-start-requires : tie.Need-aoi-start-requires
+aoi-start-requires c κs = search needs
+
+add-measure : tie.Need-add-measure
+add-measure c = search needs
+
+measure-requires : tie.Need-measure-requires
+measure-requires c κs =
+    let hosts = c .before .before in
+    let start = hosts .before .before .before .before .before in
+    rw (c .aoi-start .ensures)
+    (from-hosts (start .pre .0) (start .pre .1) (omega (arith, hosts .hosts-for .ensures, hosts .before .count-bools .ensures .most))
+    (c .before .hosts-long .ensures .most))
+
+returns : tie.Need-returns
+unfolding measuredAoi aoiHosts
+returns c =
+    let start = c .before in
+    let hosts = start .before .before in
+    c .measure .ensures
+    ∙ rw (start .aoi-start .ensures, start .before .hosts-long .ensures .is, hosts .hosts-for .ensures,
+    hosts .before .count-bools .ensures .is)
+
+pub measure-aoi-spec : {M : Type 1} → statement M
+measure-aoi-spec =
+    tie.close
+    (tie.spec
+    count-bools-requires
+    hosts-for-requires
+    hosts-long-requires
+    aoi-start-requires
+    add-measure
+    measure-requires
+    returns)

@@ -1,0 +1,88 @@
+// UDTs (document 01, "Layout"): from offset 0 with no host open; the size is rounded up to 4.
+ghost use mathlib.Core.Path.{_≡_};
+ghost use Prim.Native.Nat.{_*_, _^_, _≤_};
+ghost use lib.Seq.{sets};
+ghost use Rattle.types.specs.Digits.{hostName};
+ghost use Rattle.types.specs.Entries.{declsFrom, Found};
+ghost use Rattle.types.specs.Structs.{namesOf, rowsOf, namedIn, sizeAt, udtStart, udtParts, measured, Storable};
+use crate::layout::Cursor;
+use crate::layout::Host;
+use crate::layout::align_up;
+use crate::measure::Measured;
+use crate::measure::measure;
+use crate::store::store;
+use crate::tables::MemberTable;
+use crate::tables::NameTable;
+use crate::tables::TypeTable;
+
+// The size of what was laid out so far.
+pub fn size_at(c: Cursor) -> u32
+    requires { ⌜ c .offset ≤ 2 ^ 27 ⌝ }
+    ensures { λ r. ⌜ r ≡ sizeAt c ⌝ }
+{
+    align_up(c.offset, 4)
+}
+
+fn udt_start() -> Cursor
+    ensures { λ r. ⌜ r ≡ udtStart ⌝ }
+{
+    Cursor {
+        offset: 0,
+        host: Host::Closed,
+        members: 0,
+    }
+}
+
+// How far a UDT's n declared members come.
+pub fn measure_udt(
+    types: &TypeTable,
+    book: &[u8],
+    tys: &[u16],
+    at: usize,
+    n: usize,
+    name: &[u8],
+) -> Measured
+    requires { ⌜ Found (now book) (now tys) at n × (n ≤ 65536) ⌝ }
+    ensures { λ r. ⌜ r ≡ measured (hostName (now (name .entry))) udtStart 0
+        (declsFrom (now (types .entry)) (now (book .entry)) (now (tys .entry)) at 0 n) ⌝ }
+{
+    let from = udt_start();
+    measure(types, book, tys, at, n, name, from, 0)
+}
+
+// The rows and the names of a UDT's n declared members.
+pub fn store_udt(
+    types: &TypeTable,
+    book: &[u8],
+    tys: &[u16],
+    at: usize,
+    n: usize,
+    name: &[u8],
+    members: &mut MemberTable,
+    row: usize,
+    names: &mut NameTable,
+    place: usize,
+)
+    requires { ⌜ Storable (now types) (now book) (now tys) (now name) at n udtStart row place ⌝ }
+    ensures rows { λ _. ⌜ now (members .exit) ≡ sets (now (members .entry)) (8 * row)
+        (rowsOf place (udtParts (namedIn (now (book .entry))) (now (name .entry))
+        (declsFrom (now (types .entry)) (now (book .entry)) (now (tys .entry)) at 0 n))) ⌝ }
+    ensures names { λ _. ⌜ now (names .exit) ≡ sets (now (names .entry)) place
+        (namesOf (udtParts (namedIn (now (book .entry))) (now (name .entry))
+        (declsFrom (now (types .entry)) (now (book .entry)) (now (tys .entry)) at 0 n))) ⌝ }
+{
+    let from = udt_start();
+    store(
+        types,
+        book,
+        tys,
+        at,
+        n,
+        name,
+        from,
+        members,
+        row,
+        names,
+        place,
+    );
+}
