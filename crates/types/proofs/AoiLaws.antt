@@ -38,7 +38,8 @@ module _ {types book tys : List ℕ} {at n count j : ℕ} (c : Counting types bo
         most = omega (arith, c .most, c .done);
       }
 
-  pub count-on : j < n → (d : Decl) (b : Bool) → d ≡ declAt types book tys at j → b ≡ isBool (d .ty) → {r : ℕ} → OneIf b r
+  pub count-on : j < n → (d : Decl) (b : Bool) → d ≡ declAt types book tys at j → b ≡ isBool (d .ty) → {r : ℕ}
+      → OneIf b r
       → Counting types book tys at n (count + r) (j + 1)
   unfolding bools
   count-on l d b e f {r} o =
@@ -54,7 +55,8 @@ module _ {types book tys : List ℕ} {at n count j : ℕ} (c : Counting types bo
 
 -- ---- hosts
 
-hosts-cons : (h i : ℕ) → i < h → hostParts i (h - i) ≡ named (bitHostName i) (bitHostAt i) ∷ hostParts (i + 1) (h - (i + 1))
+hosts-cons : (h i : ℕ) → i < h
+    → hostParts i (h - i) ≡ named (bitHostName i) (bitHostAt i) ∷ hostParts (i + 1) (h - (i + 1))
 unfolding hostParts
 hosts-cons h i l =
     let e : h - i ≡ suc (h - (i + 1)) = omega arith in
@@ -111,10 +113,12 @@ module _ {h row place at i : ℕ} {m₀ t₀ m t : List ℕ} (s : Hosting h row 
     host-on {m′} {t′} {r} p =
         let e = hosts-cons h i l in
         let rest = hostParts (i + 1) (h - (i + 1)) in
-        let f : length (namesOf (host ∷ [])) ≡ r = sym (ap length (one-name (bitHostName i) (bitHostAt i))) ∙ sym (p .long) in
+        let f : length (namesOf (host ∷ [])) ≡ r =
+        sym (ap length (one-name (bitHostName i) (bitHostAt i))) ∙ sym (p .long) in
         let g : row + i + 1 ≡ row + (i + 1) = omega arith in
         let k : length (namesOf (host ∷ rest)) ≡ r + length (namesOf rest) =
-        ap length (names-append (host ∷ []) rest) ∙ length-append (namesOf (host ∷ [])) (namesOf rest) ∙ ap (_+ length (namesOf rest)) f in
+        ap length (names-append (host ∷ []) rest) ∙ length-append (namesOf (host ∷ [])) (namesOf rest) ∙ ap
+        (_+ length (namesOf rest)) f in
         record {
           done = omega arith;
           room = s .room;

@@ -1,4 +1,5 @@
--- Laws of a stored AOI: its hosts, EnableIn and EnableOut, and its declared members have room one after the other, and are
+-- Laws of a stored AOI: its hosts, EnableIn and EnableOut, and its declared members have room one after the other,
+-- and are
 -- its parts.
 use Prim.Native.Nat.{ℕ, _+_, _*_, _≤_}
 use native.Mathlib.Omega.{arith}
@@ -9,62 +10,64 @@ use lib.Seq.{sets}
 use Rattle.types.specs.Defs.{Part}
 use Rattle.types.specs.Digits.{hostName}
 use Rattle.types.specs.Entries.{declsFrom, Found}
-use Rattle.types.specs.Structs.{namesOf, rowsOf, partsFrom, namedIn, hostParts, enableParts, aoiStart, aoiHosts, aoiParts}
+use Rattle.types.specs.Structs.{namesOf, rowsOf, partsFrom, namedIn, hostParts, enableParts, aoiStart, aoiHosts}
+use Rattle.types.specs.Structs.{aoiParts}
 use Rattle.types.specs.Structs.{Far, Put, Storable, StorableAoi}
 use Rattle.types.proofs.StoreLaws.{names-append, rows-then, names-then}
 use Rattle.types.proofs.BoundLaws.{hosts-count}
 
-module _ {types book tys type : List ℕ} {at n h row place : ℕ} (s : StorableAoi types book tys type at n h row place) where
-  abbrev rest : List Part
-  rest = partsFrom (namedIn book) (hostName type) (aoiStart h) (declsFrom types book tys at 0 n)
+module _ {types book tys type : List ℕ} {at n h row place : ℕ} (s : StorableAoi types book tys type at n h row place)
+  where
+    abbrev rest : List Part
+    rest = partsFrom (namedIn book) (hostName type) (aoiStart h) (declsFrom types book tys at 0 n)
 
-  parts : aoiParts (namedIn book) type (declsFrom types book tys at 0 n) ≡ hostParts 0 h ++ (enableParts ++ rest)
-  unfolding aoiParts
-  parts = rw (s .hosts)
+    parts : aoiParts (namedIn book) type (declsFrom types book tys at 0 n) ≡ hostParts 0 h ++ (enableParts ++ rest)
+    unfolding aoiParts
+    parts = rw (s .hosts)
 
-  -- how many rows and bytes of names the three take
-  pub rows-room : row + (h + (2 + length rest)) ≤ 2000
-  rows-room = omega (arith, hosts-count 0 h, simp (length-append, length-append) at (rw parts at (s .rows)))
+    -- how many rows and bytes of names the three take
+    pub rows-room : row + (h + (2 + length rest)) ≤ 2000
+    rows-room = omega (arith, hosts-count 0 h, simp (length-append, length-append) at (rw parts at (s .rows)))
 
-  pub names-room : place + (length (namesOf (hostParts 0 h)) + (17 + length (namesOf rest))) ≤ 32768
-  unfolding namesOf
-  names-room =
-      omega (arith, simp (names-append, length-append, names-append, length-append) at (rw parts at (s .names)))
-
-  pub rest-storable : (at₂ : ℕ) → at₂ ≡ place + length (namesOf (hostParts 0 h)) + 17
-      → Storable types book tys type at n (aoiStart h) (row + h + 2) at₂
-  rest-storable at₂ e =
-      record {
-        found = s .found;
-        passed = 2000;
-        few = omega (arith, s .few);
-        far = record {
-          offset = omega (arith, rows-room);
-          members = omega (arith, rows-room);
-          bits = omega arith;
-          names = omega arith;
-        };
-        inside = s .inside;
-        rows = omega (arith, rows-room);
-        names = omega (arith, e, names-room);
-      }
-
-  module _ {m₀ t₀ m₁ t₁ m₂ t₂ : List ℕ} {p₁ p₂ : ℕ} (a : Put (hostParts 0 h) row place m₀ t₀ m₁ t₁ p₁)
-      (b : Put enableParts (row + h) p₁ m₁ t₁ m₂ t₂ p₂) where
-    pub third : p₂ ≡ place + length (namesOf (hostParts 0 h)) + 17
+    pub names-room : place + (length (namesOf (hostParts 0 h)) + (17 + length (namesOf rest))) ≤ 32768
     unfolding namesOf
-    third = b .next ∙ rw (a .next)
+    names-room =
+        omega (arith, simp (names-append, length-append, names-append, length-append) at (rw parts at (s .names)))
 
-    -- the hosts, EnableIn and EnableOut, and the declared members, one after the other, are all parts
-    pub all-rows : {m : List ℕ} → m ≡ sets m₂ (8 * (row + h + 2)) (rowsOf p₂ rest)
-        → m ≡ sets m₀ (8 * row) (rowsOf place (aoiParts (namedIn book) type (declsFrom types book tys at 0 n)))
-    all-rows u =
-        rw (u, b .rows, a .rows, parts, b .next, a .next)
-        (sym (rows-then m₀ row place (hostParts 0 h) (enableParts ++ rest)
-        ∙ rw (hosts-count 0 h) (rows-then _ (row + h) _ enableParts rest)))
+    pub rest-storable : (at₂ : ℕ) → at₂ ≡ place + length (namesOf (hostParts 0 h)) + 17
+        → Storable types book tys type at n (aoiStart h) (row + h + 2) at₂
+    rest-storable at₂ e =
+        record {
+          found = s .found;
+          passed = 2000;
+          few = omega (arith, s .few);
+          far = record {
+            offset = omega (arith, rows-room);
+            members = omega (arith, rows-room);
+            bits = omega arith;
+            names = omega arith;
+          };
+          inside = s .inside;
+          rows = omega (arith, rows-room);
+          names = omega (arith, e, names-room);
+        }
 
-    pub all-names : {t : List ℕ} → t ≡ sets t₂ p₂ (namesOf rest)
-        → t ≡ sets t₀ place (namesOf (aoiParts (namedIn book) type (declsFrom types book tys at 0 n)))
-    all-names u =
-        rw (u, b .names, a .names, parts, b .next, a .next)
-        (sym (names-then t₀ place (hostParts 0 h) (enableParts ++ rest) ∙ names-then _ _ enableParts rest))
+    module _ {m₀ t₀ m₁ t₁ m₂ t₂ : List ℕ} {p₁ p₂ : ℕ} (a : Put (hostParts 0 h) row place m₀ t₀ m₁ t₁ p₁)
+        (b : Put enableParts (row + h) p₁ m₁ t₁ m₂ t₂ p₂) where
+      pub third : p₂ ≡ place + length (namesOf (hostParts 0 h)) + 17
+      unfolding namesOf
+      third = b .next ∙ rw (a .next)
+
+      -- the hosts, EnableIn and EnableOut, and the declared members, one after the other, are all parts
+      pub all-rows : {m : List ℕ} → m ≡ sets m₂ (8 * (row + h + 2)) (rowsOf p₂ rest)
+          → m ≡ sets m₀ (8 * row) (rowsOf place (aoiParts (namedIn book) type (declsFrom types book tys at 0 n)))
+      all-rows u =
+          rw (u, b .rows, a .rows, parts, b .next, a .next)
+          (sym (rows-then m₀ row place (hostParts 0 h) (enableParts ++ rest)
+          ∙ rw (hosts-count 0 h) (rows-then _ (row + h) _ enableParts rest)))
+
+      pub all-names : {t : List ℕ} → t ≡ sets t₂ p₂ (namesOf rest)
+          → t ≡ sets t₀ place (namesOf (aoiParts (namedIn book) type (declsFrom types book tys at 0 n)))
+      all-names u =
+          rw (u, b .names, a .names, parts, b .next, a .next)
+          (sym (names-then t₀ place (hostParts 0 h) (enableParts ++ rest) ∙ names-then _ _ enableParts rest))

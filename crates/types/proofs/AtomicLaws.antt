@@ -1,4 +1,5 @@
--- Laws of the atomic types: places and atomics name each other; the code's table is the definition's rows; a search over
+-- Laws of the atomic types: places and atomics name each other; the code's table is the definition's rows; a search
+-- over
 -- the fifteen goes one after the other.
 use Prim.Native.Nat.{ℕ, zero, suc, _+_, _≤_, _<_}
 use native.Mathlib.Nat.{not-suc-le-zero, le-of-suc-le-suc}
@@ -12,7 +13,8 @@ use lib.Dec.{lit<}
 use lib.ListN.{length, getD, take, drop, length-append, List·getD-eq-default}
 use lib.Seq.{drop-cons, take-append-seam}
 use Rattle.types.specs.declared.atomic.Atomic.{Atomic}
-use Rattle.types.specs.declared.atomic.Atomic.the-variants.{Bool as BOOL, SInt, Int, DInt, LInt, USInt, UInt, UDInt}
+use Rattle.types.specs.declared.atomic.Atomic.the-variants.{Bool as BOOL, SInt, Int, DInt, LInt, USInt, UInt}
+use Rattle.types.specs.declared.atomic.Atomic.the-variants.{UDInt}
 use Rattle.types.specs.declared.atomic.Atomic.the-variants.{ULInt, Real, LReal, Byte, Word, DWord, LWord}
 use Rattle.types.specs.declared.atomic.AtomicRow.{AtomicRow}
 use Rattle.types.specs.declared.atomic.FoundAtomic.the-variants.{Is, Nothing}
@@ -47,7 +49,8 @@ getD-rows (a ∷ l) zero d h = refl
 getD-rows (a ∷ l) (suc i) d h = getD-rows l i d (le-of-suc-le-suc h)
 
 -- a table that is the definition's rows has, at each place, that atomic's row
-pub table-row : (t : List AtomicRow) (i : ℕ) (d : AtomicRow) → t ≡ rowsOf atomics → i < 15 → getD t i d ≡ rowOf (atomicAt i)
+pub table-row : (t : List AtomicRow) (i : ℕ) (d : AtomicRow) → t ≡ rowsOf atomics → i < 15
+    → getD t i d ≡ rowOf (atomicAt i)
 unfolding atomicAt rowsOf
 table-row t i d e h = rw (e, rowsOf) (getD-rows atomics i d h)
 

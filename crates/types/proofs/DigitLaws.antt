@@ -52,7 +52,8 @@ five n x h k =
 
 six : (n x : ℕ) → 100000 ≤ x → x < 1000000
     → digitsIn (suc (suc (suc (suc (suc (suc n)))))) x
-    ≡ digitOf (x / 100000) ∷ digitOf (x / 10000) ∷ digitOf (x / 1000) ∷ digitOf (x / 100) ∷ digitOf (x / 10) ∷ digitOf x ∷ []
+    ≡ digitOf (x / 100000) ∷ digitOf (x / 10000) ∷ digitOf (x / 1000) ∷ digitOf (x / 100) ∷ digitOf (x / 10) ∷
+    digitOf x ∷ []
 six n x h k =
     let e : x / 10 / 10 ≡ x / 100 = omega arith in
     let f : x / 10 / 100 ≡ x / 1000 = omega arith in
@@ -73,7 +74,8 @@ module _ (x : ℕ) where
   unfolding digits
   digits-3 h k = sym (three 17 x h k)
 
-  pub digits-4 : 1000 ≤ x → x < 10000 → digitOf (x / 1000) ∷ digitOf (x / 100) ∷ digitOf (x / 10) ∷ digitOf x ∷ [] ≡ digits x
+  pub digits-4 : 1000 ≤ x → x < 10000
+      → digitOf (x / 1000) ∷ digitOf (x / 100) ∷ digitOf (x / 10) ∷ digitOf x ∷ [] ≡ digits x
   unfolding digits
   digits-4 h k = sym (four 16 x h k)
 
@@ -83,7 +85,8 @@ module _ (x : ℕ) where
   digits-5 h k = sym (five 15 x h k)
 
   pub digits-6 : 100000 ≤ x → x < 1000000
-      → digitOf (x / 100000) ∷ digitOf (x / 10000) ∷ digitOf (x / 1000) ∷ digitOf (x / 100) ∷ digitOf (x / 10) ∷ digitOf x ∷ []
+      → digitOf (x / 100000) ∷ digitOf (x / 10000) ∷ digitOf (x / 1000) ∷ digitOf (x / 100) ∷ digitOf (x / 10) ∷
+      digitOf x ∷ []
       ≡ digits x
   unfolding digits
   digits-6 h k = sym (six 14 x h k)
@@ -100,7 +103,8 @@ module _ (name : List ℕ) (k n : ℕ) (d : Digits) (s : Spelled k d) (e : n ≡
 
   -- three writes are one name
   pub host-put : (t : List ℕ) (at : ℕ)
-      → sets (sets (sets t at tenZ) (at + 10) (take n name)) (at + 10 + n) (take (d .long) (d .bytes)) ≡ sets t at (hostName name k)
+      → sets (sets (sets t at tenZ) (at + 10) (take n name)) (at + 10 + n) (take (d .long) (d .bytes))
+      ≡ sets t at (hostName name k)
   unfolding hostName
   host-put t at =
       let f : take n name ≡ take 10 name = ap (λ (m : ℕ). take m name) e ∙ take-least 10 name in

@@ -10,7 +10,8 @@ use lib.ListN.{getD}
 use Rattle.words.specs.Words.{Bytes, wordAt}
 use Rattle.words.proofs.WordLaws.{word-below}
 use Rattle.types.specs.declared.atomic.Atomic.{Atomic as Kind}
-use Rattle.types.specs.declared.atomic.Atomic.the-variants.{Bool as BOOL, SInt, Int, DInt, LInt, USInt, UInt, UDInt}
+use Rattle.types.specs.declared.atomic.Atomic.the-variants.{Bool as BOOL, SInt, Int, DInt, LInt, USInt, UInt}
+use Rattle.types.specs.declared.atomic.Atomic.the-variants.{UDInt}
 use Rattle.types.specs.declared.atomic.Atomic.the-variants.{ULInt, Real, LReal, Byte, Word, DWord, LWord}
 use Rattle.types.specs.declared.layout.Decl.{Decl}
 use Rattle.types.specs.declared.member.Span.{Span}
@@ -20,10 +21,12 @@ use Rattle.types.specs.Atomic.{sizeOf}
 use Rattle.types.specs.Layout.{isBool}
 use Rattle.types.specs.Structs.{Fair}
 use Rattle.types.specs.Tables.{TyFits, tyOf}
-use Rattle.types.specs.Entries.{boolArray, storedTy, storedCount, alignIn, plain, resolved, declAt, declsFrom, Found}
+use Rattle.types.specs.Entries.{boolArray, storedTy, storedCount, alignIn, plain, resolved, declAt, declsFrom}
+use Rattle.types.specs.Entries.{Found}
 
 module _ (sizes : ℕ → ℕ) (ty : Ty) (dim : ℕ) (name : Span) (local : Bool) (access : ℕ) where
-  pub one-bool : isBool ty ≡ true → dim ≡ 0 → plain sizes ty dim name local access ≡ resolved sizes ty dim name local access
+  pub one-bool : isBool ty ≡ true → dim ≡ 0
+      → plain sizes ty dim name local access ≡ resolved sizes ty dim name local access
   unfolding resolved storedTy storedCount boolArray
   one-bool b e = simp (b, eq-eqb dim 0 e)
 
@@ -40,7 +43,8 @@ module _ (sizes : ℕ → ℕ) (ty : Ty) (dim : ℕ) (name : Span) (local : Bool
 
 -- the first of the declared members that are left, and those after it
 pub decls-cons : (types book tys : List ℕ) (at n j : ℕ) → j < n
-    → declsFrom types book tys at j (n - j) ≡ declAt types book tys at j ∷ declsFrom types book tys at (j + 1) (n - (j + 1))
+    → declsFrom types book tys at j (n - j)
+    ≡ declAt types book tys at j ∷ declsFrom types book tys at (j + 1) (n - (j + 1))
 unfolding declsFrom
 decls-cons types book tys at n j l =
     let e : n - j ≡ suc (n - (j + 1)) = omega arith in
@@ -100,6 +104,7 @@ stored-fits t dim f = go (boolArray t dim)
     go true = tt
     go false = f
 
-pub decl-ty : (types book tys : List ℕ) (at n j : ℕ) → j < n → Found book tys at n → TyFits (declAt types book tys at j .ty)
+pub decl-ty : (types book tys : List ℕ) (at n j : ℕ) → j < n → Found book tys at n
+    → TyFits (declAt types book tys at j .ty)
 unfolding declAt resolved
 decl-ty types book tys at n j l f = stored-fits (tyOf (getD tys j 0)) _ (f .types j l)

@@ -1,4 +1,5 @@
--- Laws of the handle's fold: one byte of what is left, and a fold over two pieces is the fold of the second from the first.
+-- Laws of the handle's fold: one byte of what is left, and a fold over two pieces is the fold of the second from the
+-- first.
 use Prim.Native.Nat.{ℕ, _+_, _≤_, _<_}
 use native.Mathlib.Numerals.{add-one}
 use mathlib.Core.Path.{_≡_, refl, _∙_}
@@ -8,7 +9,8 @@ use lib.ListN.{length, getD, drop, drop-of-length-le}
 use lib.Seq.{drop-cons}
 use Rattle.types.specs.Handle.{turnOf, foldFrom, notZero}
 
-pub fold-on : (h i : ℕ) (s : List ℕ) → i < length s → foldFrom h (drop i s) ≡ foldFrom (turnOf h (getD s i 0)) (drop (i + 1) s)
+pub fold-on : (h i : ℕ) (s : List ℕ) → i < length s
+    → foldFrom h (drop i s) ≡ foldFrom (turnOf h (getD s i 0)) (drop (i + 1) s)
 unfolding foldFrom
 fold-on h i s l = rw (add-one, drop-cons s i 0)
 

@@ -26,7 +26,8 @@ times-same n e = simp (ne-eqb n 0 e)
 
 -- a product of two words of 32 bits leaves room in 64 for a third to be added
 pub product-most : {a b : ℕ} → a < 2 ^ 32 → b < 2 ^ 32 → a * b ≤ 0xFFFF_FFFE_0000_0001
-product-most {a} {b} h k = mul-le-mul {n₁ = a} {m₁ = b} {n₂ = 0xFFFF_FFFF} {m₂ = 0xFFFF_FFFF} (omega arith) (omega arith)
+product-most {a} {b} h k =
+    mul-le-mul {n₁ = a} {m₁ = b} {n₂ = 0xFFFF_FFFF} {m₂ = 0xFFFF_FFFF} (omega arith) (omega arith)
 
 module _ (offset size count end : ℕ) (e : end ≡ offset + size * times count) where
   pub end-at : end ≤ most → At end ≡ memberEnd offset size count
@@ -65,7 +66,8 @@ at-go true e o f q =
     ap f z
 at-go false e o f q = cc
 
-module _ (c : Cursor) (d : Decl) (at : ℕ) (end : End) (s : at ≡ startOf c d) (e : end ≡ memberEnd at (d .size) (d .count)) where
+module _ (c : Cursor) (d : Decl) (at : ℕ) (end : End) (s : at ≡ startOf c d)
+    (e : end ≡ memberEnd at (d .size) (d .count)) where
   ends : memberEnd (startOf c d) (d .size) (d .count) ≡ end
   ends = rw (← s) (sym e)
 
@@ -79,7 +81,8 @@ module _ (c : Cursor) (d : Decl) (at : ℕ) (end : End) (s : at ≡ startOf c d)
   other-at o h q k =
       rw (s, k)
       (at-go (leb (startOf c d + d .size * times (d .count)) most) _ o
-      (λ (x : ℕ). One (otherAt d (startOf c d)) (record { offset = x; host = closed (c .host); members = c .members + 1 }))
+      (λ (x : ℕ). One (otherAt d (startOf c d))
+      (record { offset = x; host = closed (c .host); members = c .members + 1 }))
       (ends ∙ q))
 
 module _ (c : Cursor) (d : Decl) where

@@ -1,4 +1,5 @@
--- Laws of the first pass of a layout: the ways out of one member, the members that are left, and how far a cursor can have
+-- Laws of the first pass of a layout: the ways out of one member, the members that are left, and how far a cursor can
+-- have
 -- come.
 use Prim.Native.Nat.{ℕ, _+_, _≤_}
 use native.Mathlib.Omega.{arith}
@@ -67,7 +68,8 @@ module _ (host : ℕ → List ℕ) (c : Cursor) (n : ℕ) (d : Decl) (ds : List 
   far AccessWrong a b rest q = cc
   far TooFar a b rest q = refl
 
-  pub measured-on : {c′ : Cursor} {n′ : ℕ} → measureOne host c n d ≡ Laid c′ n′ → measured host c n (d ∷ ds) ≡ measured host c′ n′ ds
+  pub measured-on : {c′ : Cursor} {n′ : ℕ} → measureOne host c n d ≡ Laid c′ n′
+      → measured host c n (d ∷ ds) ≡ measured host c′ n′ ds
   unfolding measureOne measured
   measured-on q = next (placed c d) _ _ (λ x y. measured host x y ds) q
 
@@ -108,7 +110,8 @@ pub far-on : (host : ℕ → List ℕ) (k : ℕ) (c : Cursor) (n : ℕ) (d : Dec
 unfolding measureOne opened nextBit
 far-on host k c n d {c′} {n′} f a h =
     place-cases
-    (λ p. thenMeasure p (length (host (c .members))) (d .name .long) n (λ x y. Laid x y) ≡ Laid c′ n′ → Far (k + 1) c′ n′)
+    (λ p. thenMeasure p (length (host (c .members))) (d .name .long) n (λ x y. Laid x y) ≡ Laid c′ n′ → Far (k + 1)
+    c′ n′)
     c d
     (record {
       wrong = λ w q. never q refl;

@@ -15,7 +15,8 @@ use Rattle.types.proofs.DigitLaws.{host-most}
 use Rattle.types.proofs.EntryLaws.{decls-cons, decls-none, found-first, decl-fair}
 use Rattle.types.proofs.MeasureLaws.{measured-on, measured-access, measured-far, measured-done, far-on, near}
 
-pub record Measuring (types book tys name : List ℕ) (at n : ℕ) (c₀ : Cursor) (n₀ : ℕ) (c : Cursor) (names j : ℕ) : Type 0 where
+pub record Measuring (types book tys name : List ℕ) (at n : ℕ) (c₀ : Cursor) (n₀ : ℕ) (c : Cursor) (names j : ℕ) :
+    Type 0 where
   pub passed : ℕ
   pub few : passed + n ≤ 131072
   pub done : j ≤ n
@@ -50,7 +51,8 @@ module _ {types book tys name : List ℕ} {at n n₀ names j : ℕ} {c₀ c : Cu
 
     -- the whole measures as this member and those after it
     split : measured (hostName name) c₀ n₀ (declsFrom types book tys at 0 n)
-        ≡ measured (hostName name) c names (declAt types book tys at j ∷ declsFrom types book tys at (j + 1) (n - (j + 1)))
+        ≡ measured (hostName name) c names
+        (declAt types book tys at j ∷ declsFrom types book tys at (j + 1) (n - (j + 1)))
     split = m .same ∙ ap (measured (hostName name) c names) (decls-cons types book tys at n j l)
 
     module _ (one : Measured) (e : one ≡ measureOne (hostName name) c names (declAt types book tys at j)) where

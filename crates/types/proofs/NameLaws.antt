@@ -49,7 +49,8 @@ same-long (x ∷ xs) (y ∷ ys) n =
     and-off (eqb (lowerOf x) (lowerOf y)) (sameName xs ys) (same-long xs ys (λ e. n (ap suc e)))
 
 -- the test says that the small letters are equal, and is passed where they are
-same-head : (u v : ℕ) (xs ys : List ℕ) → (sameName xs ys ≡ true → map lowerOf xs ≡ map lowerOf ys) → (b : Bool) → eqb u v ≡ b
+same-head : (u v : ℕ) (xs ys : List ℕ) → (sameName xs ys ≡ true → map lowerOf xs ≡ map lowerOf ys) → (b : Bool)
+    → eqb u v ≡ b
     → (b && sameName xs ys) ≡ true → _≡_ {A = List ℕ} (u ∷ map lowerOf xs) (v ∷ map lowerOf ys)
 same-head u v xs ys rest true p q =
     let h : u ≡ v = eqb-true _ _ p in

@@ -1,4 +1,5 @@
--- Laws of stored parts: the rows and names of one part and of parts one after the other, and of the parts that are left.
+-- Laws of stored parts: the rows and names of one part and of parts one after the other, and of the parts that are
+-- left.
 use Prim.Native.Nat.{ℕ, _+_, _*_, _<_, _≤_}
 use native.Mathlib.Omega.{arith}
 use mathlib.Core.Path.{_≡_, refl, sym, ap, _∙_}

@@ -108,7 +108,8 @@ module _ (book type : List ℕ) (c : Cursor) (d : Decl) (row at : ℕ) (p : Plac
   unfolding storedOne
   next-hosted k q l = rw (← e, q, l)
 
-  pub next-alone : {m : Member} {c′ : Cursor} → p ≡ One m c′ → Next c′ (row + 1) (at + d .name .long) ≡ storedOne type c d row at
+  pub next-alone : {m : Member} {c′ : Cursor} → p ≡ One m c′
+      → Next c′ (row + 1) (at + d .name .long) ≡ storedOne type c d row at
   unfolding storedOne
   next-alone q = rw (← e, q)
 
@@ -155,7 +156,8 @@ module _ (book type : List ℕ) (c : Cursor) (d : Decl) (row at : ℕ) (p : Plac
   refused : (p ≡ AccessWrong) ⊎ (p ≡ TooFar) → oneParts book type c d ≡ []
   refused w = ⊎-elim access far w
 
-  pub rows-kept : (t : List ℕ) → (p ≡ AccessWrong) ⊎ (p ≡ TooFar) → t ≡ sets t (8 * row) (rowsOf at (oneParts book type c d))
+  pub rows-kept : (t : List ℕ) → (p ≡ AccessWrong) ⊎ (p ≡ TooFar)
+      → t ≡ sets t (8 * row) (rowsOf at (oneParts book type c d))
   unfolding rowsOf
   rows-kept t w = rw (refused w)
 
@@ -163,6 +165,7 @@ module _ (book type : List ℕ) (c : Cursor) (d : Decl) (row at : ℕ) (p : Plac
   unfolding namesOf
   names-kept t w = rw (refused w)
 
-pub lent-long : (book : List ℕ) (s : Span) (start long : ℕ) → start ≡ s .at → long ≡ s .long → s .at + s .long ≤ length book
+pub lent-long : (book : List ℕ) (s : Span) (start long : ℕ) → start ≡ s .at → long ≡ s .long
+    → s .at + s .long ≤ length book
     → length (take (start + long - start) (drop start book)) ≡ s .long
 lent-long book s start long p q h = ap length (lent-name book s start long p q) ∙ length-part book (s .at) (s .long) h

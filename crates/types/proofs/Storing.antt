@@ -1,4 +1,5 @@
--- What the second pass of a layout keeps from one member to the next: all rows and names stand once those that are left are
+-- What the second pass of a layout keeps from one member to the next: all rows and names stand once those that are
+-- left are
 -- stored after the others.
 use Prim.Native.Nat.{ℕ, _+_, _-_, _*_, _<_, _≤_}
 use native.Mathlib.Nat.{add-zero, sub-zero}
@@ -90,8 +91,10 @@ pub record Storing (types book tys type : List ℕ) (at n : ℕ) (c₀ : Cursor)
   pub room : row + length (partsFrom (namedIn book) (hostName type) c (declsFrom types book tys at j (n - j))) ≤ 2000
   pub bytes : place
       + length (namesOf (partsFrom (namedIn book) (hostName type) c (declsFrom types book tys at j (n - j)))) ≤ 32768
-  pub rows : sets m₀ (8 * row₀) (rowsOf place₀ (partsFrom (namedIn book) (hostName type) c₀ (declsFrom types book tys at 0 n)))
-      ≡ sets m (8 * row) (rowsOf place (partsFrom (namedIn book) (hostName type) c (declsFrom types book tys at j (n - j))))
+  pub rows : sets m₀ (8 * row₀) (rowsOf place₀
+      (partsFrom (namedIn book) (hostName type) c₀ (declsFrom types book tys at 0 n)))
+      ≡ sets m (8 * row) (rowsOf place
+      (partsFrom (namedIn book) (hostName type) c (declsFrom types book tys at j (n - j))))
   pub names : sets t₀ place₀ (namesOf (partsFrom (namedIn book) (hostName type) c₀ (declsFrom types book tys at 0 n)))
       ≡ sets t place (namesOf (partsFrom (namedIn book) (hostName type) c (declsFrom types book tys at j (n - j))))
 
@@ -167,7 +170,13 @@ module _ {types book tys type m₀ t₀ m t : List ℕ} {at n row₀ place₀ ro
           near = near (s .passed + j) c 0 d (omega (arith, s .few)) (s .far) (decl-fair types book tys at j b);
           name = s .inside j l;
           ty = decl-ty types book tys at n j l (s .found);
-          rows = omega (arith, rw split at (s .room), least (placed c d) (hostName type (c .members)) (namedIn book d) rest);
+          rows =
+              omega (
+                arith,
+                rw split at (s .room),
+                least (placed c d) (hostName type (c .members)) (namedIn book d)
+                    rest,
+              );
           names = omega (
             arith,
             rw split at (s .bytes),
@@ -200,7 +209,8 @@ module _ {types book tys type m₀ t₀ m t : List ℕ} {at n row₀ place₀ ro
       unfolding storedOne oneParts
       moved q =
           rw split
-          (moves (placed c d) (hostName type (c .members)) (namedIn book d) (d .name .long) (sym long) rest row place (sym e ∙ q))
+          (moves (placed c d) (hostName type (c .members)) (namedIn book d) (d .name .long) (sym long) rest row place
+          (sym e ∙ q))
 
       farther : {c′ : Cursor} {row′ place′ : ℕ} → one ≡ Next c′ row′ place′ → Far (s .passed + (j + 1)) c′ 0
       unfolding storedOne measureOne

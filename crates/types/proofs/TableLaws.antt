@@ -23,7 +23,8 @@ use Rattle.types.specs.declared.member.StructKind.{StructKind}
 use Rattle.types.specs.declared.member.StructKind.the-variants.{Udt, Predefined, Str, Aoi}
 use Rattle.types.specs.declared.member.StructDef.{StructDef}
 use Rattle.types.specs.Atomic.{numOf, atomicAt}
-use Rattle.types.specs.Tables.{tyWord, tyOf, bitWord, bitOf, flagsOf, kindWord, kindOf, memberRow, memberAt, nameAt, typeRow, typeAt}
+use Rattle.types.specs.Tables.{tyWord, tyOf, bitWord, bitOf, flagsOf, kindWord, kindOf, memberRow, memberAt}
+use Rattle.types.specs.Tables.{nameAt, typeRow, typeAt}
 use Rattle.types.proofs.AtomicLaws.{at-num, num-below}
 
 -- ---- words
@@ -99,7 +100,8 @@ stored t i a b c d e f g h l =
 
 -- another row has the words that it had
 beside : (t row : List ℕ) (i j : ℕ) → length row ≡ 8 → j ≢ i
-    → Eight (sets t (8 * i) row) j (getD t (8 * j) 0) (getD t (8 * j + 1) 0) (getD t (8 * j + 2) 0) (getD t (8 * j + 3) 0)
+    → Eight (sets t (8 * i) row) j (getD t (8 * j) 0) (getD t (8 * j + 1) 0) (getD t (8 * j + 2) 0)
+    (getD t (8 * j + 3) 0)
     (getD t (8 * j + 4) 0) (getD t (8 * j + 5) 0) (getD t (8 * j + 6) 0) (getD t (8 * j + 7) 0)
 beside t row i j w n =
     let at : (k : ℕ) → k < 8 → getD (sets t (8 * i) row) (8 * j + k) 0 ≡ getD t (8 * j + k) 0 =
@@ -127,7 +129,8 @@ pub record Storable (m : Member) : Type 0 where
   pub access : m .access < 256
 
 member-words : (t : List ℕ) (i : ℕ) (n : Span) (m : Member) → 8 * i + 8 ≤ length t
-    → Eight (sets t (8 * i) (memberRow n m)) i (n .at) (n .long) (tyWord (m .ty)) (m .count) (m .offset) (bitWord (m .bit))
+    → Eight (sets t (8 * i) (memberRow n m)) i (n .at) (n .long) (tyWord (m .ty)) (m .count) (m .offset)
+    (bitWord (m .bit))
     (flagsOf (m .hidden) (m .local)) (m .access)
 unfolding memberRow
 member-words t i n m h = stored t i _ _ _ _ _ _ _ _ h
@@ -143,7 +146,21 @@ unfolding memberAt
 member-back t i n m h s =
     let w = member-words t i n m h in
     let a : m .access % 256 ≡ m .access = omega (arith, s .access) in
-    simp (w .w0, w .w1, w .w2, w .w3, w .w4, w .w5, w .w6, w .w7, ty-back, bit-back (m .bit) (s .bit), hidden-back, local-back, a)
+    simp (
+      w .w0,
+      w .w1,
+      w .w2,
+      w .w3,
+      w .w4,
+      w .w5,
+      w .w6,
+      w .w7,
+      ty-back,
+      bit-back (m .bit) (s .bit),
+      hidden-back,
+      local-back,
+      a,
+    )
 
 pub name-back : (t : List ℕ) (i : ℕ) (n : Span) (m : Member) → 8 * i + 8 ≤ length t
     → nameAt (sets t (8 * i) (memberRow n m)) i ≡ n
@@ -153,7 +170,8 @@ name-back t i n m h =
     simp (w .w0, w .w1)
 
 -- and the other members stay
-pub member-beside : (t : List ℕ) (i j : ℕ) (n : Span) (m : Member) → j ≢ i → memberAt (sets t (8 * i) (memberRow n m)) j ≡ memberAt t j
+pub member-beside : (t : List ℕ) (i j : ℕ) (n : Span) (m : Member) → j ≢ i
+    → memberAt (sets t (8 * i) (memberRow n m)) j ≡ memberAt t j
 unfolding memberAt
 member-beside t i j n m d =
     let w = beside t (memberRow n m) i j (member-long n m) d in
@@ -174,7 +192,8 @@ pub record TypeStorable (d : StructDef) : Type 0 where
   pub handle : d .handle < 65536
 
 type-words : (t : List ℕ) (i : ℕ) (d : StructDef) → 8 * i + 8 ≤ length t
-    → Eight (sets t (8 * i) (typeRow d)) i (d .name .at) (d .name .long) (d .id) (d .handle) (d .size) (kindWord (d .kind)) (d .first) (d .count)
+    → Eight (sets t (8 * i) (typeRow d)) i (d .name .at) (d .name .long) (d .id) (d .handle) (d .size)
+    (kindWord (d .kind)) (d .first) (d .count)
 unfolding typeRow
 type-words t i d h = stored t i _ _ _ _ _ _ _ _ h
 

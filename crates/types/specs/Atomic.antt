@@ -1,4 +1,5 @@
--- The atomic types (document 01, "Atomic types"): codes, sizes and names in the document's order, and the atomic of a name
+-- The atomic types (document 01, "Atomic types"): codes, sizes and names in the document's order, and the atomic of a
+-- name
 -- or of a code.
 use Prim.Native.Nat.{ℕ, _-_, _<_}
 use mathlib.Core.Path.{_≡_}
@@ -7,7 +8,8 @@ use mathlib.Core.List.{List, [], _∷_, _++_, map}
 use lib.Dec.{eqb, leb}
 use lib.ListN.{length, getD, replicate}
 use Rattle.types.specs.declared.atomic.Atomic.{Atomic}
-use Rattle.types.specs.declared.atomic.Atomic.the-variants.{Bool as BOOL, SInt, Int, DInt, LInt, USInt, UInt, UDInt}
+use Rattle.types.specs.declared.atomic.Atomic.the-variants.{Bool as BOOL, SInt, Int, DInt, LInt, USInt, UInt}
+use Rattle.types.specs.declared.atomic.Atomic.the-variants.{UDInt}
 use Rattle.types.specs.declared.atomic.Atomic.the-variants.{ULInt, Real, LReal, Byte, Word, DWord, LWord}
 use Rattle.types.specs.declared.atomic.AtomicRow.{AtomicRow}
 use Rattle.types.specs.declared.atomic.FoundAtomic.{FoundAtomic}

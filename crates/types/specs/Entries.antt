@@ -1,4 +1,5 @@
--- Declared members whose types were found (document 01, "Declaration book" and "Layout"): a book's entry as a declaration, and
+-- Declared members whose types were found (document 01, "Declaration book" and "Layout"): a book's entry as a
+-- declaration, and
 -- those of one type, in order.
 use Prim.Native.Nat.{ℕ, zero, suc, _+_, _*_, _/_, _<_, _≤_, min}
 use mathlib.Core.Bool.{Bool, cond, not, _&&_}
@@ -48,7 +49,8 @@ plain sizes ty count name local access =
 unfoldable pub resolved : (ℕ → ℕ) → Ty → ℕ → Span → Bool → ℕ → Decl
 resolved sizes ty dim name local access = plain sizes (storedTy ty dim) (storedCount ty dim) name local access
 
--- the j-th entry of 16 bytes: name place u32, name length u8, type name length u8, local u8, access u8, dim u32, type name place
+-- the j-th entry of 16 bytes: name place u32, name length u8, type name length u8, local u8, access u8, dim u32, type
+-- name place
 -- u32; its type is the j-th of those found
 unfoldable pub declAt : List ℕ → List ℕ → List ℕ → ℕ → ℕ → Decl
 declAt types book tys at j =

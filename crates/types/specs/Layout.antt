@@ -54,12 +54,30 @@ hostAt o = record { ty = Atomic SInt; count = 0; offset = o; bit = None; hidden 
 -- a declared BOOL at a bit
 abbrev pub boolAt : Decl → ℕ → ℕ → Member
 boolAt d byte bit =
-    record { ty = Atomic BOOL; count = 0; offset = byte; bit = At bit; hidden = false; local = d .local; access = d .access }
+    record {
+      ty = Atomic BOOL;
+      count = 0;
+      offset = byte;
+      bit = At bit;
+      hidden = false;
+      local = d .local;
+      access = d
+          .access;
+    }
 
 -- any other declared member at an offset
 abbrev pub otherAt : Decl → ℕ → Member
 otherAt d o =
-    record { ty = d .ty; count = d .count; offset = o; bit = None; hidden = false; local = d .local; access = d .access }
+    record {
+      ty = d .ty;
+      count = d .count;
+      offset = o;
+      bit = None;
+      hidden = false;
+      local = d .local;
+      access = d
+          .access;
+    }
 
 -- a hidden host opens at the current offset, which grows by 1, and the BOOL takes its bit 0
 unfoldable pub opened : Cursor → Decl → Placed
@@ -72,7 +90,8 @@ unfoldable pub nextBit : Cursor → Decl → ℕ → ℕ → Host → Placed
 nextBit c d byte bit host =
     One (boolAt d byte bit) (record { offset = c .offset; host = host; members = c .members + 1 })
 
--- a BOOL takes the next bit of the open host; with no host, or eight used, a host opens. In an AOI the i-th BOOL is at byte
+-- a BOOL takes the next bit of the open host; with no host, or eight used, a host opens. In an AOI the i-th BOOL is
+-- at byte
 -- 4 * floor(i / 32) + floor((i mod 32) / 8), bit i mod 8
 unfoldable pub placeBool : Host → Cursor → Decl → Placed
 placeBool Closed c d = opened c d

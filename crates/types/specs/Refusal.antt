@@ -1,11 +1,14 @@
 -- Refusals (document 01, "Refusal numbers"): the number and the place of each case.
 use Prim.Native.Nat.{ℕ}
 use Rattle.types.specs.declared.refusal.Refusal.{Refusal}
-use Rattle.types.specs.declared.refusal.Refusal.the-variants.{BookMalformed, NameOutsideRule, NameKnown, IdOutsideRange}
-use Rattle.types.specs.declared.refusal.Refusal.the-variants.{IdInUse, NoIdFree, StringWrong, MemberTwice, LocalOutsideAoi}
+use Rattle.types.specs.declared.refusal.Refusal.the-variants.{BookMalformed, NameOutsideRule, NameKnown}
+use Rattle.types.specs.declared.refusal.Refusal.the-variants.{IdOutsideRange}
+use Rattle.types.specs.declared.refusal.Refusal.the-variants.{IdInUse, NoIdFree, StringWrong, MemberTwice}
+use Rattle.types.specs.declared.refusal.Refusal.the-variants.{LocalOutsideAoi}
 use Rattle.types.specs.declared.refusal.Refusal.the-variants.{TypesUnknown, AccessWrong, MemberTooFar, TablesFull}
 use Rattle.types.specs.declared.refusal.Refusal.the-variants.{ImageLength, NoSuchType, NoRoom, StreamMalformed}
-use Rattle.types.specs.declared.refusal.Refusal.the-variants.{EntryMisfit, NumberOutOfRange, PastLastPlace, TextTooLong}
+use Rattle.types.specs.declared.refusal.Refusal.the-variants.{EntryMisfit, NumberOutOfRange, PastLastPlace}
+use Rattle.types.specs.declared.refusal.Refusal.the-variants.{TextTooLong}
 use Rattle.types.specs.declared.refusal.Refusal.the-variants.{PredefinedIds, LengthsWrong, TagTooLarge}
 
 abbrev pub numberOf : Refusal → ℕ

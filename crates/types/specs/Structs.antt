@@ -1,4 +1,5 @@
--- Whole layouts (document 01, "Layout"): a UDT's and an AOI's parts from their declared members, a string's and the predefined
+-- Whole layouts (document 01, "Layout"): a UDT's and an AOI's parts from their declared members, a string's and the
+-- predefined
 -- types' parts, and their sizes.
 use Prim.Native.Nat.{ℕ, zero, suc, _+_, _-_, _*_, _/_, _%_, _^_, _<_, _≤_}
 use mathlib.Core.Path.{_≡_}
@@ -99,7 +100,8 @@ hostParts i (suc n) = named (bitHostName i) (bitHostAt i) ∷ hostParts (i + 1) 
 
 -- EnableIn and EnableOut are the first two BOOLs, with access 2
 abbrev pub enableAt : ℕ → Member
-enableAt bit = record { ty = Atomic BOOL; count = 0; offset = 0; bit = At bit; hidden = false; local = false; access = 2 }
+enableAt bit =
+    record { ty = Atomic BOOL; count = 0; offset = 0; bit = At bit; hidden = false; local = false; access = 2 }
 
 abbrev pub enableIn : List ℕ
 enableIn = 69 ∷ 110 ∷ 97 ∷ 98 ∷ 108 ∷ 101 ∷ 73 ∷ 110 ∷ []
@@ -266,7 +268,8 @@ pub record Storable (types book tys type : List ℕ) (at n : ℕ) (c : Cursor) (
   pub inside : (k : ℕ) → k < n
       → declAt types book tys at k .name .at + declAt types book tys at k .name .long ≤ length book
   pub rows : row + length (partsFrom (namedIn book) (hostName type) c (declsFrom types book tys at 0 n)) ≤ 2000
-  pub names : place + length (namesOf (partsFrom (namedIn book) (hostName type) c (declsFrom types book tys at 0 n))) ≤ 32768
+  pub names : place + length (namesOf (partsFrom (namedIn book) (hostName type) c (declsFrom types book tys at 0 n)))
+      ≤ 32768
 
 -- ---- what an AOI's functions answer
 

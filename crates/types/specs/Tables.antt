@@ -52,7 +52,8 @@ kindOf w = cond (eqb w 1) Predefined (cond (eqb w 2) Str (cond (eqb w 3) Aoi Udt
 -- a member's row: where its name stands, and the member
 unfoldable pub memberRow : Span → Member → List ℕ
 memberRow s m =
-    s .at ∷ s .long ∷ tyWord (m .ty) ∷ m .count ∷ m .offset ∷ bitWord (m .bit) ∷ flagsOf (m .hidden) (m .local) ∷ m .access ∷ []
+    s .at ∷ s .long ∷ tyWord (m .ty) ∷ m .count ∷ m .offset ∷ bitWord (m .bit) ∷ flagsOf (m .hidden) (m .local) ∷ m
+    .access ∷ []
 
 unfoldable pub nameAt : List ℕ → ℕ → Span
 nameAt t row = record { at = getD t (8 * row) 0; long = getD t (8 * row + 1) 0 }

@@ -8,7 +8,8 @@ ghost use lib.Seq.{sets};
 ghost use Rattle.types.specs.Digits.{TwoDigits, bitHostName};
 ghost use Rattle.types.specs.Entries.{declsFrom, Found};
 ghost use Rattle.types.specs.Structs.{namesOf, rowsOf, named, bools, BoolsCounted, OneIf, HostPut};
-ghost use Rattle.types.specs.Structs.{hostParts, enableAt, enableParts, aoiStart, aoiParts, namedIn, Put, StorableAoi};
+ghost use Rattle.types.specs.Structs.{hostParts, enableAt, enableParts, aoiStart, aoiParts, namedIn};
+ghost use Rattle.types.specs.Structs.{Put, StorableAoi};
 ghost use Rattle.types.specs.Structs.{measuredAoi, BitHostLong, HostsLong};
 use crate::atomic::Atomic;
 use crate::digits::put_bytes;
@@ -73,7 +74,8 @@ fn put_bit_host(
     i: u32,
 ) -> usize
     requires { ⌜ (row < 2000) × ((i < 1000000) × (at + length (bitHostName i) ≤ 32768)) ⌝ }
-    ensures { λ r. ⌜ HostPut i row at (now (members .entry)) (now (names .entry)) (now (members .exit)) (now (names .exit)) r ⌝ }
+    ensures { λ r. ⌜ HostPut i row at (now (members .entry)) (now (names .entry))
+        (now (members .exit)) (now (names .exit)) r ⌝ }
 {
     let d = two_digits(i);
     let bytes = d.bytes;

@@ -34,8 +34,10 @@ pub fn put_part(
     m: Member,
 )
     requires { ⌜ (row < 2000) × ((at + length (now name) ≤ 32768) × TyFits (m .ty)) ⌝ }
-    ensures rows { λ _. ⌜ now (members .exit) ≡ sets (now (members .entry)) (8 * row) (rowsOf at (named (now (name .entry)) m ∷ [])) ⌝ }
-    ensures names { λ _. ⌜ now (names .exit) ≡ sets (now (names .entry)) at (namesOf (named (now (name .entry)) m ∷ [])) ⌝ }
+    ensures rows { λ _. ⌜ now (members .exit) ≡ sets (now (members .entry)) (8 * row)
+        (rowsOf at (named (now (name .entry)) m ∷ [])) ⌝ }
+    ensures names { λ _. ⌜ now (names .exit) ≡ sets (now (names .entry)) at
+        (namesOf (named (now (name .entry)) m ∷ [])) ⌝ }
 {
     let long = name.len();
     put_bytes(names, at, name);

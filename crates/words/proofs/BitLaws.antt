@@ -1,7 +1,9 @@
--- Laws of bits: of a number, of a list of bytes, of bits put over others; one bit set or cleared; a word as the number of
+-- Laws of bits: of a number, of a list of bytes, of bits put over others; one bit set or cleared; a word as the
+-- number of
 -- its bits.
 use Prim.Native.Nat.{ℕ, zero, suc, _+_, _-_, _*_, _/_, _%_, _^_, _≤_, _<_, min, max}
-use native.Mathlib.Nat.{zero-add, suc-add, pow-suc, pow-succ', mul-assoc, mul-comm, div-div-eq-div-mul, div-one, one-mul, mod-eq-of-lt}
+use native.Mathlib.Nat.{zero-add, suc-add, pow-suc, pow-succ', mul-assoc, mul-comm, div-div-eq-div-mul, div-one}
+use native.Mathlib.Nat.{one-mul, mod-eq-of-lt}
 use native.Mathlib.Decide.{ℕ-discrete}
 use native.Mathlib.Omega.{arith}
 use mathlib.Core.Path.{_≡_, refl, sym, ap, ap₂, _∙_, fun-ext}
@@ -86,14 +88,17 @@ val-bit (suc n) v h =
 pub val-split : (m n : ℕ) (b : Bits) → val (m + n) b ≡ val m b + 2 ^ m * val n (from m b)
 unfolding val
 val-split zero n b =
-    let e : val (0 + n) b ≡ val n (from 0 b) = ap (λ (j : ℕ). val j b) (zero-add n) ∙ val-ext n b (from 0 b) (λ k l. ap b (omega arith)) in
+    let e : val (0 + n) b ≡ val n (from 0 b) =
+    ap (λ (j : ℕ). val j b) (zero-add n) ∙ val-ext n b (from 0 b) (λ k l. ap b (omega arith)) in
     omega arith
 val-split (suc m) n b =
     let c : Bits = λ k. b (suc k) in
-    let e : val n (from m c) ≡ val n (from (suc m) b) = val-ext n (from m c) (from (suc m) b) (λ k l. ap b (omega arith)) in
+    let e : val n (from m c) ≡ val n (from (suc m) b) =
+    val-ext n (from m c) (from (suc m) b) (λ k l. ap b (omega arith)) in
     let f : 2 ^ suc m * val n (from (suc m) b) ≡ 2 * (2 ^ m * val n (from (suc m) b)) =
     rw pow-succ' (mul-assoc 2 (2 ^ m) (val n (from (suc m) b))) in
-    let g : val (m + n) c ≡ val m c + 2 ^ m * val n (from (suc m) b) = val-split m n c ∙ ap (λ (v : ℕ). val m c + 2 ^ m * v) e in
+    let g : val (m + n) c ≡ val m c + 2 ^ m * val n (from (suc m) b) =
+    val-split m n c ∙ ap (λ (v : ℕ). val m c + 2 ^ m * v) e in
     ap (λ (j : ℕ). val j b) (suc-add m n) ∙ omega arith
 
 -- ---- a list of bytes as bits
@@ -108,7 +113,8 @@ flat-at s at k h =
 
 -- a byte is the number of its eight bits
 pub byte-val : (s : List ℕ) (at : ℕ) → getD s at 0 < 256 → val 8 (from (8 * at) (flat s)) ≡ getD s at 0
-byte-val s at h = val-ext 8 (from (8 * at) (flat s)) (bitOf (getD s at 0)) (λ k l. flat-at s at k l) ∙ val-bit 8 (getD s at 0) h
+byte-val s at h =
+    val-ext 8 (from (8 * at) (flat s)) (bitOf (getD s at 0)) (λ k l. flat-at s at k l) ∙ val-bit 8 (getD s at 0) h
 
 -- a word of n bytes is the number of its 8 * n bits
 pub word-val : (n : ℕ) (s : List ℕ) (at : ℕ) → Bytes s → wordAt n s at ≡ val (8 * n) (from (8 * at) (flat s))
@@ -117,7 +123,8 @@ word-val zero s at b = unfold val in refl
 word-val (suc n) s at b =
     let e : 8 * suc n ≡ 8 + 8 * n = omega arith in
     let f : val (8 * n) (from 8 (from (8 * at) (flat s))) ≡ val (8 * n) (from (8 * (at + 1)) (flat s)) =
-    val-ext (8 * n) (from 8 (from (8 * at) (flat s))) (from (8 * (at + 1)) (flat s)) (λ k l. ap (flat s) (omega arith)) in
+    val-ext (8 * n) (from 8 (from (8 * at) (flat s))) (from (8 * (at + 1)) (flat s))
+    (λ k l. ap (flat s) (omega arith)) in
     rw e (omega (arith, val-split 8 (8 * n) (from (8 * at) (flat s)), byte-val s at (b at), f, word-val n s (at + 1) b))
 
 -- ---- bits of an or, an and, a complement, a power of two

@@ -1,4 +1,5 @@
--- Laws of a run of stores (`sets`) and of a part of a list (`part`), over any element. A run of stores changes just its own
+-- Laws of a run of stores (`sets`) and of a part of a list (`part`), over any element. A run of stores changes just
+-- its own
 -- places; runs that meet are one run; a part is read from the front, one element after the other.
 use Prim.Native.Nat.{ℕ, zero, suc, _+_, _-_, _≤_, _<_, min}
 use native.Mathlib.Decide.{decLe}
@@ -7,8 +8,10 @@ use native.Mathlib.Omega.{arith}
 use mathlib.Core.Path.{_≡_, refl, sym, ap, _∙_}
 use mathlib.Core.List.{List, [], _∷_, _++_, append-assoc}
 use mathlib.Core.Logic.{_⊎_, inl, inr, ⊎-elim}
-use lib.ListN.{length, getD, set, take, drop, length-append, length-take, length-drop, drop-of-length-le, List·getD-append}
-use lib.Seq.{sets, sets-eq, set-comm, set-set, drop-cons, drop-drop, length-sets, getD-append-add, getD-set-other, length-take-le, take-all, take-length}
+use lib.ListN.{length, getD, set, take, drop, length-append, length-take, length-drop, drop-of-length-le}
+use lib.ListN.{List·getD-append}
+use lib.Seq.{sets, sets-eq, set-comm, set-set, drop-cons, drop-drop, length-sets, getD-append-add, getD-set-other}
+use lib.Seq.{length-take-le, take-all, take-length}
 use Rattle.words.specs.Words.{part}
 
 module _ {A : Type 0} where
@@ -19,17 +22,20 @@ module _ {A : Type 0} where
       let e : i + suc (length vs) ≡ suc i + length vs = omega arith in
       rw e (sets-append (set l i v) (suc i) vs ws)
 
-  set-past : (l : List A) (i j : ℕ) (b : A) (vs : List A) → i + length vs ≤ j → set (sets l i vs) j b ≡ sets (set l j b) i vs
+  set-past : (l : List A) (i j : ℕ) (b : A) (vs : List A) → i + length vs ≤ j
+      → set (sets l i vs) j b ≡ sets (set l j b) i vs
   set-past l i j b [] h = refl
   set-past l i j b (v ∷ vs) h =
       set-past (set l i v) (suc i) j b vs (omega arith)
       ∙ ap (λ (m : List A). sets m (suc i) vs) (set-comm l i j v b (λ e. omega arith))
 
   -- two runs that are apart, in either order
-  pub sets-swap : (l : List A) (i j : ℕ) (vs ws : List A) → i + length vs ≤ j → sets (sets l i vs) j ws ≡ sets (sets l j ws) i vs
+  pub sets-swap : (l : List A) (i j : ℕ) (vs ws : List A) → i + length vs ≤ j
+      → sets (sets l i vs) j ws ≡ sets (sets l j ws) i vs
   sets-swap l i j vs [] h = refl
   sets-swap l i j vs (w ∷ ws) h =
-      ap (λ (m : List A). sets m (suc j) ws) (set-past l i j w vs h) ∙ sets-swap (set l j w) i (suc j) vs ws (omega arith)
+      ap (λ (m : List A). sets m (suc j) ws) (set-past l i j w vs h) ∙ sets-swap (set l j w) i (suc j) vs ws
+      (omega arith)
 
   -- what stands at a place of the run
   pub getD-sets : (l : List A) (i : ℕ) (vs : List A) (j : ℕ) (d : A) → i + length vs ≤ length l → j < length vs
@@ -74,7 +80,8 @@ module _ {A : Type 0} where
 
   -- eight stores, one after the other, are a row of eight
   pub eight : (t : List A) (a : ℕ) (u v w x y z p q : A)
-      → set (set (set (set (set (set (set (set t a u) (a + 1) v) (a + 2) w) (a + 3) x) (a + 4) y) (a + 5) z) (a + 6) p) (a + 7) q
+      → set (set (set (set (set (set (set (set t a u) (a + 1) v) (a + 2) w) (a + 3) x) (a + 4) y) (a + 5) z) (a + 6)
+      p) (a + 7) q
       ≡ sets t a (u ∷ v ∷ w ∷ x ∷ y ∷ z ∷ p ∷ q ∷ [])
   eight t a u v w x y z p q =
       let e1 : a + 1 ≡ suc a = omega arith in

@@ -1,7 +1,9 @@
--- Laws of little-endian words, over the width: a word is its two halves, in a list and as bytes; what was stored is loaded;
+-- Laws of little-endian words, over the width: a word is its two halves, in a list and as bytes; what was stored is
+-- loaded;
 -- what was loaded can be stored again.
 use Prim.Native.Nat.{ℕ, zero, suc, _+_, _-_, _*_, _/_, _%_, _^_, _≤_, _<_}
-use native.Mathlib.Nat.{add-zero, zero-add, suc-add, pow-suc, pow-succ', mul-assoc, mul-comm, div-div-eq-div-mul, one-le-pow, mod-one, div-one}
+use native.Mathlib.Nat.{add-zero, zero-add, suc-add, pow-suc, pow-succ', mul-assoc, mul-comm, div-div-eq-div-mul}
+use native.Mathlib.Nat.{one-le-pow, mod-one, div-one}
 use native.Mathlib.Omega.{arith}
 use mathlib.Core.Path.{_≡_, refl, sym, ap, _∙_}
 use mathlib.Core.List.{List, [], _∷_, _++_}
@@ -101,10 +103,12 @@ bytes-word (suc n) x =
     omega (arith, e, mod-step n x)
 
 -- what was stored is loaded
-pub word-back : (n : ℕ) (s : List ℕ) (at x : ℕ) → at + n ≤ length s → wordAt n (sets s at (bytesOf n x)) at ≡ x % 256 ^ n
+pub word-back : (n : ℕ) (s : List ℕ) (at x : ℕ) → at + n ≤ length s
+    → wordAt n (sets s at (bytesOf n x)) at ≡ x % 256 ^ n
 word-back n s at x h =
     word-ext n (sets s at (bytesOf n x)) (bytesOf n x) at 0
-    (λ k l. rw zero-add (getD-sets s at (bytesOf n x) k 0 (omega (arith, length-bytes n x)) (omega (arith, length-bytes n x))))
+    (λ k l. rw zero-add (getD-sets s at (bytesOf n x) k 0 (omega (arith, length-bytes n x))
+    (omega (arith, length-bytes n x))))
     ∙ bytes-word n x
 
 -- what was loaded is those bytes
@@ -116,4 +120,5 @@ bytes-back (suc n) s at b h =
     let e : (getD s at 0 + 256 * w) % 256 ≡ getD s at 0 = omega (arith, b at) in
     let f : (getD s at 0 + 256 * w) / 256 ≡ w = omega (arith, b at) in
     let g : at + 1 ≡ suc at = omega arith in
-    rw (e, f, drop-cons s at 0 (omega arith), ← g) (ap (λ (l : List ℕ). getD s at 0 ∷ l) (bytes-back n s (at + 1) b (omega arith)))
+    rw (e, f, drop-cons s at 0 (omega arith), ← g)
+    (ap (λ (l : List ℕ). getD s at 0 ∷ l) (bytes-back n s (at + 1) b (omega arith)))

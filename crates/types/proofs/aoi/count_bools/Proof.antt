@@ -33,7 +33,14 @@ one-if-requires : tie.Need-one-if-requires Inv-loop μ-loop
 one-if-requires c κs = search needs
 
 add-count : tie.Need-add-count Inv-loop μ-loop
-add-count c = omega (arith, c .before .before .before .before .loop .inv .most, c .before .before .before .before .loop .inv .few, c .one-if .ensures .most)
+add-count c =
+    omega (
+      arith,
+      c .before .before .before .before .loop .inv .most,
+      c .before .before .before .before .loop .inv
+          .few,
+      c .one-if .ensures .most,
+    )
 
 add-j : tie.Need-add-j Inv-loop μ-loop
 add-j c = omega arith
@@ -45,7 +52,8 @@ loop-again : tie.Need-loop-again Inv-loop μ-loop
 loop-again c =
     let at-loop = c .before .before .before .before in
     let a = at-loop .before .before .before .args in
-    count-on (at-loop .loop .inv) (c .before .before .before .loop-test .taken) _ _ (c .before .before .decl-at .ensures) (c .before .is-bool .ensures)
+    count-on (at-loop .loop .inv) (c .before .before .before .loop-test .taken) _ _
+    (c .before .before .decl-at .ensures) (c .before .is-bool .ensures)
     (c .one-if .ensures)
 
 returns : tie.Need-returns Inv-loop μ-loop

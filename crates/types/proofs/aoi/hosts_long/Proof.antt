@@ -18,7 +18,15 @@ bit-host-long-requires : tie.Need-bit-host-long-requires Inv-loop μ-loop
 bit-host-long-requires c κs = omega (arith, c .before .loop .inv .few, c .loop-test .taken)
 
 add-long : tie.Need-add-long Inv-loop μ-loop
-add-long c = omega (arith, c .before .before .loop .inv .most, c .before .before .loop .inv .few, c .before .before .loop .inv .done, c .bit-host-long .ensures .most)
+add-long c =
+    omega (
+      arith,
+      c .before .before .loop .inv .most,
+      c .before .before .loop .inv .few,
+      c .before .before .loop .inv
+          .done,
+      c .bit-host-long .ensures .most,
+    )
 
 add-i : tie.Need-add-i Inv-loop μ-loop
 add-i c = omega (arith, c .before .before .loop .inv .few, c .before .loop-test .taken)

@@ -28,7 +28,8 @@ measure-requires c κs =
     let hosts = c .before .before in
     let start = hosts .before .before .before .before .before in
     rw (c .aoi-start .ensures)
-    (from-hosts (start .pre .0) (start .pre .1) (omega (arith, hosts .hosts-for .ensures, hosts .before .count-bools .ensures .most))
+    (from-hosts (start .pre .0) (start .pre .1)
+    (omega (arith, hosts .hosts-for .ensures, hosts .before .count-bools .ensures .most))
     (c .before .hosts-long .ensures .most))
 
 returns : tie.Need-returns
@@ -37,8 +38,12 @@ returns c =
     let start = c .before in
     let hosts = start .before .before in
     c .measure .ensures
-    ∙ rw (start .aoi-start .ensures, start .before .hosts-long .ensures .is, hosts .hosts-for .ensures,
-    hosts .before .count-bools .ensures .is)
+    ∙ rw (
+      start .aoi-start .ensures,
+      start .before .hosts-long .ensures .is,
+      hosts .hosts-for .ensures,
+      hosts .before .count-bools .ensures .is,
+    )
 
 pub measure-aoi-spec : {M : Type 1} → statement M
 measure-aoi-spec =

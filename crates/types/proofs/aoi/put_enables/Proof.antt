@@ -18,7 +18,14 @@ slice-aggregate-put-part : tie.Need-slice-aggregate-put-part
 slice-aggregate-put-part c = search needs
 
 put-part-requires : tie.Need-put-part-requires
-put-part-requires c κs = (omega (arith, c .before .before .before .before .before .pre .0), (omega (arith, c .before .before .before .before .before .pre .1), rw (c .before .before .before .before .enable .ensures) tt))
+put-part-requires c κs = (
+  omega (arith, c .before .before .before .before .before .pre .0),
+  (
+    omega (arith, c .before .before .before .before .before .pre .1),
+    rw
+        (c .before .before .before .before .enable .ensures) tt,
+  ),
+)
 
 add-put-part : tie.Need-add-put-part
 add-put-part c = search needs
@@ -30,7 +37,14 @@ slice-aggregate-put-part-2 : tie.Need-slice-aggregate-put-part-2
 slice-aggregate-put-part-2 c = search needs
 
 put-part-requires-2 : tie.Need-put-part-requires-2
-put-part-requires-2 c κs = (omega (arith, c .before .before .before .before .before .before .before .before .before .pre .0), (omega (arith, c .before .before .before .before .before .before .before .before .before .pre .1), rw (c .before .before .before .before .before .before .before .enable2 .ensures) tt))
+put-part-requires-2 c κs = (
+  omega (arith, c .before .before .before .before .before .before .before .before .before .pre .0),
+  (
+    omega (arith, c .before .before .before .before .before .before .before .before .before .pre .1),
+    rw
+        (c .before .before .before .before .before .before .before .enable2 .ensures) tt,
+  ),
+)
 
 add-result : tie.Need-add-result
 add-result c = search needs

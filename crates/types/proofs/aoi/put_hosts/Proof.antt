@@ -16,7 +16,9 @@ abbrev μ-loop : tie.MeasureT-loop
 μ-loop members₀ row names₀ place h at₀ i₀ members names at i = h - i
 
 loop-holds : tie.Need-loop-holds Inv-loop μ-loop
-loop-holds c = hosts-start (c .args .h) (c .args .row) (c .args .place) (c .args .members .now) (c .args .names .now) (c .pre .0) (c .pre .1)
+loop-holds c =
+    hosts-start (c .args .h) (c .args .row) (c .args .place) (c .args .members .now) (c .args .names .now)
+    (c .pre .0) (c .pre .1)
 
 wide-requires : tie.Need-wide-requires Inv-loop μ-loop
 wide-requires c κs = search needs
@@ -33,10 +35,22 @@ put-bit-host-requires c κs =
     )
 
 add-at : tie.Need-add-at Inv-loop μ-loop
-add-at c = omega (arith, c .put-bit-host .ensures .long, host-room (c .before .before .before .before .before .loop .inv) (c .before .before .before .before .loop-test .taken))
+add-at c =
+    omega (
+      arith,
+      c .put-bit-host .ensures .long,
+      host-room (c .before .before .before .before .before .loop .inv)
+          (c .before .before .before .before .loop-test .taken),
+    )
 
 add-i : tie.Need-add-i Inv-loop μ-loop
-add-i c = omega (arith, c .before .before .before .before .before .loop .inv .room, c .before .before .before .before .loop-test .taken)
+add-i c =
+    omega (
+      arith,
+      c .before .before .before .before .before .loop .inv .room,
+      c .before .before .before .before
+          .loop-test .taken,
+    )
 
 loop-less : tie.Need-loop-less Inv-loop μ-loop
 loop-less c = omega (arith, c .before .before .before .before .loop-test .taken)
@@ -44,7 +58,8 @@ loop-less c = omega (arith, c .before .before .before .before .loop-test .taken)
 loop-again : tie.Need-loop-again Inv-loop μ-loop
 loop-again c =
     let at-loop = c .before .before .before .before .before in
-    host-on (at-loop .loop .inv) (c .before .before .before .before .loop-test .taken) (rw (c .before .before .before .wide .ensures) at (c .put-bit-host .ensures))
+    host-on (at-loop .loop .inv) (c .before .before .before .before .loop-test .taken)
+    (rw (c .before .before .before .wide .ensures) at (c .put-bit-host .ensures))
 
 returns : tie.Need-returns Inv-loop μ-loop
 returns c = hosts-done (c .before .loop .inv) (c .loop-test .left)

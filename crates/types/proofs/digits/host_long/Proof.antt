@@ -27,7 +27,9 @@ returns c =
     let ten = spelled .before in
     let a = ten .before .before .args in
     record {
-      is = host-long (a .name .now) (a .k) (ten .at-most-ten .result) _ (spelled .spell .ensures) (ten .at-most-ten .ensures);
+      is =
+          host-long (a .name .now) (a .k) (ten .at-most-ten .result) _ (spelled .spell .ensures)
+          (ten .at-most-ten .ensures);
       most = omega (arith, spelled .spell .ensures .most, ten .at-most-ten .ensures);
     }
 

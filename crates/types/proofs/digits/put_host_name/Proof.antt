@@ -13,10 +13,12 @@ room : (c : tie.After-spell)
     → c .before .before .before .args .at + (10 + c .before .at-most-ten .result + c .spell .result .long) ≤ 32768
 room c =
     let start = c .before .before .before in
-    rw (host-long (start .args .name .now) (start .args .k) _ _ (c .spell .ensures) (c .before .at-most-ten .ensures)) (start .pre .1)
+    rw (host-long (start .args .name .now) (start .args .k) _ _ (c .spell .ensures)
+    (c .before .at-most-ten .ensures)) (start .pre .1)
 
 front : (c : tie.After-spell)
-    → length (take (c .before .at-most-ten .result) (c .before .before .before .args .name .now)) ≡ c .before .at-most-ten .result
+    → length (take (c .before .at-most-ten .result) (c .before .before .before .args .name .now))
+    ≡ c .before .at-most-ten .result
 front c = length-take-le _ _ (omega (arith, c .before .at-most-ten .ensures))
 
 rest : (c : tie.After-spell) → length (take (c .spell .result .long) (c .spell .result .bytes)) ≡ c .spell .result .long
@@ -69,7 +71,8 @@ returns c =
     let spelled = one .before .before .before .before in
     let a = spelled .before .before .before .args in
     rw (c .put-bytes3 .ensures, two .put-bytes2 .ensures, one .put-bytes .ensures)
-    (host-put (a .name .now) (a .k) _ _ (spelled .spell .ensures) (spelled .before .at-most-ten .ensures) (a .names .now) (a .at))
+    (host-put (a .name .now) (a .k) _ _ (spelled .spell .ensures) (spelled .before .at-most-ten .ensures)
+    (a .names .now) (a .at))
 
 pub put-host-name-spec : {M : Type 1} → statement M
 put-host-name-spec =

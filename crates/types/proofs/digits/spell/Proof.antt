@@ -25,7 +25,9 @@ returns-2 : tie.Need-returns-2
 returns-2 c =
     let start = c .before .before .before .before in
     record {
-      is = rw (c .before .digit2 .ensures, c .before .before .before .digit .ensures) (digits-2 (start .args .x) (c .before .before .if1 .left) (c .if2 .taken));
+      is =
+          rw (c .before .digit2 .ensures, c .before .before .before .digit .ensures)
+          (digits-2 (start .args .x) (c .before .before .if1 .left) (c .if2 .taken));
       room = omega arith;
       least = omega arith;
       most = omega arith;
@@ -38,7 +40,14 @@ returns-3 : tie.Need-returns-3
 returns-3 c =
     let start = c .before .before .before .before .before .before in
     record {
-      is = rw (c .before .digit3 .ensures, c .before .before .before .digit2 .ensures, c .before .before .before .before .before .digit .ensures) (digits-3 (start .args .x) (c .before .before .if2 .left) (c .if3 .taken));
+      is =
+          rw (
+            c .before .digit3 .ensures,
+            c .before .before .before .digit2 .ensures,
+            c .before .before .before
+                .before .before .digit .ensures,
+          )
+          (digits-3 (start .args .x) (c .before .before .if2 .left) (c .if3 .taken));
       room = omega arith;
       least = omega arith;
       most = omega arith;
@@ -51,7 +60,15 @@ returns-4 : tie.Need-returns-4
 returns-4 c =
     let start = c .before .before .before .before .before .before .before .before in
     record {
-      is = rw (c .before .digit4 .ensures, c .before .before .before .digit3 .ensures, c .before .before .before .before .before .digit2 .ensures, c .before .before .before .before .before .before .before .digit .ensures) (digits-4 (start .args .x) (c .before .before .if3 .left) (c .if4 .taken));
+      is =
+          rw (
+            c .before .digit4 .ensures,
+            c .before .before .before .digit3 .ensures,
+            c .before .before .before
+                .before .before .digit2 .ensures,
+            c .before .before .before .before .before .before .before .digit
+                .ensures,
+          ) (digits-4 (start .args .x) (c .before .before .if3 .left) (c .if4 .taken));
       room = omega arith;
       least = omega arith;
       most = omega arith;
@@ -64,7 +81,17 @@ returns-5 : tie.Need-returns-5
 returns-5 c =
     let start = c .before .before .before .before .before .before .before .before .before .before in
     record {
-      is = rw (c .before .digit5 .ensures, c .before .before .before .digit4 .ensures, c .before .before .before .before .before .digit3 .ensures, c .before .before .before .before .before .before .before .digit2 .ensures, c .before .before .before .before .before .before .before .before .before .digit .ensures) (digits-5 (start .args .x) (c .before .before .if4 .left) (c .if5 .taken));
+      is =
+          rw (
+            c .before .digit5 .ensures,
+            c .before .before .before .digit4 .ensures,
+            c .before .before .before
+                .before .before .digit3 .ensures,
+            c .before .before .before .before .before .before .before .digit2
+                .ensures,
+            c .before .before .before .before .before .before .before .before .before .digit
+                .ensures,
+          ) (digits-5 (start .args .x) (c .before .before .if4 .left) (c .if5 .taken));
       room = omega arith;
       least = omega arith;
       most = omega arith;
@@ -77,7 +104,19 @@ returns-6 : tie.Need-returns-6
 returns-6 c =
     let start = c .before .before .before .before .before .before .before .before .before .before .before in
     record {
-      is = rw (c .digit6 .ensures, c .before .before .digit5 .ensures, c .before .before .before .before .digit4 .ensures, c .before .before .before .before .before .before .digit3 .ensures, c .before .before .before .before .before .before .before .before .digit2 .ensures, c .before .before .before .before .before .before .before .before .before .before .digit .ensures) (digits-6 (start .args .x) (c .before .if5 .left) (start .pre));
+      is =
+          rw (
+            c .digit6 .ensures,
+            c .before .before .digit5 .ensures,
+            c .before .before .before .before .digit4
+                .ensures,
+            c .before .before .before .before .before .before .digit3 .ensures,
+            c .before .before .before
+                .before .before .before .before .before .digit2 .ensures,
+            c .before .before .before .before .before
+                .before .before .before .before .before .digit .ensures,
+          )
+          (digits-6 (start .args .x) (c .before .if5 .left) (start .pre));
       room = omega arith;
       least = omega arith;
       most = omega arith;

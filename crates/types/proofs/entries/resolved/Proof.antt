@@ -17,7 +17,8 @@ returns c =
     let way = c .before .before in
     let a = way .before .before .args in
     c .plain .ensures
-    ∙ one-bool _ (a .ty) (a .dim) (a .name) (a .local) (a .access) (sym (way .before .is-bool .ensures) ∙ way .if1 .taken)
+    ∙ one-bool _ (a .ty) (a .dim) (a .name) (a .local) (a .access)
+    (sym (way .before .is-bool .ensures) ∙ way .if1 .taken)
     (c .before .if2 .taken)
 
 sub-t12 : tie.Need-sub-t12
@@ -40,7 +41,8 @@ returns-3 : tie.Need-returns-3
 returns-3 c =
     let a = c .before .before .before .args in
     c .plain2 .ensures
-    ∙ no-bool _ (a .ty) (a .dim) (a .name) (a .local) (a .access) (sym (c .before .before .is-bool .ensures) ∙ c .before .if1 .left)
+    ∙ no-bool _ (a .ty) (a .dim) (a .name) (a .local) (a .access)
+    (sym (c .before .before .is-bool .ensures) ∙ c .before .if1 .left)
 
 pub resolved-spec : {M : Type 1} → statement M
 resolved-spec =

@@ -12,7 +12,8 @@ product : (c : tie.After-elements) → c .before .wide2 .result * c .elements .r
 product c = product-most (omega arith) (c .elements .ensures .small)
 
 sum : (c : tie.After-elements) → c .before .before .wide .result + c .before .wide2 .result * c .elements .result
-    ≡ c .before .before .before .args .offset + c .before .before .before .args .size * times (c .before .before .before .args .count)
+    ≡ c .before .before .before .args .offset + c .before .before .before .args .size * times
+    (c .before .before .before .args .count)
 sum c = rw (c .before .before .wide .ensures, c .before .wide2 .ensures, c .elements .ensures .is)
 
 wide-requires : tie.Need-wide-requires

@@ -34,7 +34,9 @@ returns-2 c =
     (sym (way .is-bool .ensures) ∙ c .before .if2 .left)
 
 returns-3 : tie.Need-returns-3
-returns-3 c = placed-wrong (c .before .before .args .c) (c .before .before .args .d) (sym (c .before .access-ok .ensures) ∙ c .if1 .left)
+returns-3 c =
+    placed-wrong (c .before .before .args .c) (c .before .before .args .d)
+    (sym (c .before .access-ok .ensures) ∙ c .if1 .left)
 
 pub place-spec : {M : Type 1} → statement M
 place-spec =

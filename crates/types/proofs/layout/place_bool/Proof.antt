@@ -52,11 +52,13 @@ returns c = c .opened .ensures ∙ rw (c .before .enum-told .given .1)
 
 returns-2 : tie.Need-returns-2
 unfolding placeBool
-returns-2 c = c .next-bit .ensures ∙ rw (c .before .before .before .host .given .1) (simp (lt-ltb _ _ (c .before .if1 .taken)))
+returns-2 c =
+    c .next-bit .ensures ∙ rw (c .before .before .before .host .given .1) (simp (lt-ltb _ _ (c .before .if1 .taken)))
 
 returns-3 : tie.Need-returns-3
 unfolding placeBool
-returns-3 c = c .opened2 .ensures ∙ rw (c .before .before .before .host .given .1) (simp (le-ltb _ _ (c .before .if1 .left)))
+returns-3 c =
+    c .opened2 .ensures ∙ rw (c .before .before .before .host .given .1) (simp (le-ltb _ _ (c .before .if1 .left)))
 
 returns-4 : tie.Need-returns-4
 unfolding placeBool

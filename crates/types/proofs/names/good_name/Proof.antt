@@ -53,7 +53,8 @@ loop-again c =
         l .inv .1 .0,
         (
           l .inv .1 .1 .0,
-          l .inv .1 .1 .1 ∙ bytes-on s (l .i) (omega arith) _ (c .before .name-byte .ensures) (not-false _ (c .if3 .left)),
+          l .inv .1 .1 .1 ∙ bytes-on s (l .i) (omega arith) _ (c .before .name-byte .ensures)
+              (not-false _ (c .if3 .left)),
         ),
       ),
     )

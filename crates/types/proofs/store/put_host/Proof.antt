@@ -32,7 +32,8 @@ returns c =
       long .host-long .ensures .is,
       (
         c .put-member .ensures
-            ∙ ap (sets (a .members .now) (8 * a .row)) (one-row-of (a .at) host (a .m) _ (long .host-long .ensures .is)),
+            ∙ ap (sets (a .members .now) (8 * a .row))
+            (one-row-of (a .at) host (a .m) _ (long .host-long .ensures .is)),
         put .put-host-name .ensures ∙ ap (sets (a .names .now) (a .at)) (one-name host (a .m)),
       ),
     )

@@ -7,16 +7,19 @@ use lib.Seq.{sets}
 use Rattle.words.specs.Words.{Bytes}
 use Rattle.types.specs.Entries.{declAt}
 use Rattle.types.specs.Structs.{rowsOf, namesOf, oneParts, storedOne}
-use Rattle.types.proofs.Storing.{Storing, starts, rows-done, names-done, one-found, one-fits, rows-stopped, names-stopped, goes-on}
+use Rattle.types.proofs.Storing.{Storing, starts, rows-done, names-done, one-found, one-fits, rows-stopped}
+use Rattle.types.proofs.Storing.{names-stopped, goes-on}
 use Rattle.types.proofs.store.store.Statement.{statement}
 use Rattle.types.proofs.store.store.Tie as tie
 
 abbrev Inv-loop : tie.InvT-loop
-Inv-loop types book tys at n name members₀ row names₀ place c₀ next-row₀ next-place₀ j₀ members names c next-row next-place j =
+Inv-loop types book tys at n name members₀ row names₀ place c₀ next-row₀ next-place₀ j₀ members names c next-row
+    next-place j =
     Storing types book tys name at n c₀ members₀ names₀ next-row₀ next-place₀ c members names next-row next-place j
 
 abbrev μ-loop : tie.MeasureT-loop
-μ-loop types book tys at n name members₀ row names₀ place c₀ next-row₀ next-place₀ j₀ members names c next-row next-place j = n - j
+μ-loop types book tys at n name members₀ row names₀ place c₀ next-row₀ next-place₀ j₀ members names c next-row
+    next-place j = n - j
 
 bytes : (c : tie.At-loop Inv-loop μ-loop) → Bytes (c .before .before .before .before .args .book .now)
 bytes c k = (c .before .before .before .shared-slice-known .given k) .fits
@@ -26,7 +29,8 @@ next : (c : tie.After-store-one Inv-loop μ-loop)
     → let at-loop = c .before .before .before .before .before in
     let a = at-loop .before .before .before .before .args in
     c .store-one .result
-    ≡ storedOne (a .name .now) (at-loop .loop .c) (declAt (a .types .now) (a .book .now) (a .tys .now) (a .at) (at-loop .loop .j))
+    ≡ storedOne (a .name .now) (at-loop .loop .c)
+    (declAt (a .types .now) (a .book .now) (a .tys .now) (a .at) (at-loop .loop .j))
     (at-loop .loop .next-row) (at-loop .loop .next-place)
 next c = rw (← c .before .before .before .decl-at .ensures) (c .store-one .ensures .0)
 
@@ -54,7 +58,8 @@ loop-holds : tie.Need-loop-holds Inv-loop μ-loop
 loop-holds c =
     let start = c .before .before .before in
     let a = start .args in
-    starts (a .types .now) (a .book .now) (a .tys .now) (a .name .now) (a .at) (a .n) (a .from) (a .members .now) (a .names .now)
+    starts (a .types .now) (a .book .now) (a .tys .now) (a .name .now) (a .at) (a .n) (a .from) (a .members .now)
+    (a .names .now)
     (a .row) (a .place) (start .pre)
 
 decl-at-requires : tie.Need-decl-at-requires Inv-loop μ-loop
@@ -63,7 +68,8 @@ decl-at-requires c κs = one-found (c .before .loop .inv) (c .loop-test .taken) 
 store-one-requires : tie.Need-store-one-requires Inv-loop μ-loop
 store-one-requires c κs =
     let at-loop = c .before .before .before .before in
-    rw (c .before .before .decl-at .ensures) (one-fits (at-loop .loop .inv) (c .before .before .before .loop-test .taken) (bytes at-loop))
+    rw (c .before .before .decl-at .ensures)
+    (one-fits (at-loop .loop .inv) (c .before .before .before .loop-test .taken) (bytes at-loop))
 
 enum-known-one : tie.Need-enum-known-one Inv-loop μ-loop
 enum-known-one c = search needs
@@ -91,11 +97,13 @@ loop-again : tie.Need-loop-again Inv-loop μ-loop
 loop-again c =
     let one = c .before .before .before in
     let at-loop = one .before .before .before .before .before in
-    goes-on (at-loop .loop .inv) (one .before .before .before .before .loop-test .taken) (bytes at-loop) _ (next one) (c .before .one .given .1)
+    goes-on (at-loop .loop .inv) (one .before .before .before .before .loop-test .taken) (bytes at-loop) _ (next one)
+    (c .before .one .given .1)
     (rows one) (names one)
 
 returns-2 : tie.Need-returns-2 Inv-loop μ-loop
-returns-2 c = (rows-done (c .before .loop .inv) (c .loop-test .left), names-done (c .before .loop .inv) (c .loop-test .left))
+returns-2 c =
+    (rows-done (c .before .loop .inv) (c .loop-test .left), names-done (c .before .loop .inv) (c .loop-test .left))
 
 pub store-spec : {M : Type 1} → statement M
 store-spec =

@@ -6,8 +6,10 @@ use mathlib.Core.Path.{_≡_, sym, ap, _∙_}
 use mathlib.Core.Logic.{inl, inr}
 use lib.ListN.{length, take, drop}
 use Rattle.types.specs.Defs.{nameIn}
-use Rattle.types.proofs.StoreOneLaws.{lent-name, lent-long, TwoFit, OneFits, two-fit, one-fits, next-hosted, next-alone}
-use Rattle.types.proofs.StoreOneLaws.{stop-access, stop-far, rows-hosted, names-hosted, rows-alone, names-alone, rows-kept, names-kept}
+use Rattle.types.proofs.StoreOneLaws.{lent-name, lent-long, TwoFit, OneFits, two-fit, one-fits, next-hosted}
+use Rattle.types.proofs.StoreOneLaws.{next-alone}
+use Rattle.types.proofs.StoreOneLaws.{stop-access, stop-far, rows-hosted, names-hosted, rows-alone}
+use Rattle.types.proofs.StoreOneLaws.{names-alone, rows-kept, names-kept}
 use Rattle.types.proofs.store.store_one.Statement.{statement}
 use Rattle.types.proofs.store.store_one.Tie as tie
 
@@ -17,13 +19,17 @@ two : (c : tie.After-p)
 two c =
     let start = c .before .before .before .before .before .before .before .before in
     let a = start .args in
-    two-fit (a .book .now) (a .name .now) (a .c) (a .d) (a .row) (a .at) _ (c .before .before .place .ensures) (start .pre) (c .p .given .1)
+    two-fit (a .book .now) (a .name .now) (a .c) (a .d) (a .row) (a .at) _ (c .before .before .place .ensures)
+    (start .pre) (c .p .given .1)
 
-one : (c : tie.After-p2) → let a = c .before .before .before .before .before .before .before .before .args in OneFits (a .d) (a .row) (a .at) (c .p2 .given .0 .0)
+one : (c : tie.After-p2) → let a =
+    c .before .before .before .before .before .before .before .before .args in OneFits (a .d) (a .row) (a .at)
+    (c .p2 .given .0 .0)
 one c =
     let start = c .before .before .before .before .before .before .before .before in
     let a = start .args in
-    one-fits (a .book .now) (a .name .now) (a .c) (a .d) (a .row) (a .at) _ (c .before .before .place .ensures) (start .pre) (c .p2 .given .1)
+    one-fits (a .book .now) (a .name .now) (a .c) (a .d) (a .row) (a .at) _ (c .before .before .place .ensures)
+    (start .pre) (c .p2 .given .1)
 
 name : (c : tie.After-place)
     → let a = c .before .before .before .before .before .before .args in
@@ -35,7 +41,9 @@ long : (c : tie.After-place)
     → let a = c .before .before .before .before .before .before .args in
     let s = c .before .before .wide .result in
     length (take (s + c .before .wide2 .result - s) (drop s (a .book .now))) ≡ a .d .name .long
-long c = lent-long _ _ _ _ (c .before .before .wide .ensures) (c .before .wide2 .ensures) (c .before .before .before .before .before .before .pre .name)
+long c =
+    lent-long _ _ _ _ (c .before .before .wide .ensures) (c .before .wide2 .ensures)
+    (c .before .before .before .before .before .before .pre .name)
 
 wide-requires : tie.Need-wide-requires
 wide-requires c κs = search needs
@@ -62,7 +70,13 @@ add-put-part : tie.Need-add-put-part
 add-put-part c = search needs
 
 add-put-part-2 : tie.Need-add-put-part-2
-add-put-part-2 c = omega (arith, two (c .before .before .before .before .before .before) .names, c .before .before .put-host .ensures .0)
+add-put-part-2 c =
+    omega (
+      arith,
+      two (c .before .before .before .before .before .before) .names,
+      c .before .before .put-host
+          .ensures .0,
+    )
 
 sub-put-part : tie.Need-sub-put-part
 sub-put-part c = search needs
@@ -77,17 +91,35 @@ put-part-requires : tie.Need-put-part-requires
 put-part-requires c κs =
     let p = c .before .before .before .before .before .before .before in (
       omega (arith, two p .rows),
-      (omega (arith, two p .names, c .before .before .before .put-host .ensures .0, long (p .before .before)), two p .member),
+      (
+        omega (arith, two p .names, c .before .before .before .put-host .ensures .0, long (p .before .before)),
+        two p
+            .member,
+      ),
     )
 
 add-t25 : tie.Need-add-t25
 add-t25 c = omega (arith, two (c .before .before .before .before .before .before .before .before) .rows)
 
 add-t29 : tie.Need-add-t29
-add-t29 c = omega (arith, two (c .before .before .before .before .before .before .before .before) .names, c .before .before .before .before .put-host .ensures .0)
+add-t29 c =
+    omega (
+      arith,
+      two (c .before .before .before .before .before .before .before .before) .names,
+      c .before .before
+          .before .before .put-host .ensures .0,
+    )
 
 add-t27 : tie.Need-add-t27
-add-t27 c = omega (arith, two (c .before .before .before .before .before .before .before .before) .names, c .before .before .before .before .put-host .ensures .0, c .before .before .before .before .before .before .before .before .before .before .before .wide2 .ensures)
+add-t27 c =
+    omega (
+      arith,
+      two (c .before .before .before .before .before .before .before .before) .names,
+      c .before .before
+          .before .before .put-host .ensures .0,
+      c .before .before .before .before .before .before .before .before
+          .before .before .before .wide2 .ensures,
+    )
 
 enum-known-p-2 : tie.Need-enum-known-p-2
 enum-known-p-2 c = search needs
@@ -130,9 +162,11 @@ returns c =
           (next-hosted (a .book .now) (a .name .now) (a .c) (a .d) (a .row) (a .at) _ e _ (p .p .given .1) k),
       (
         rw (c .put-part .ensures .0, host .put-host .ensures .1 .0, name placed)
-            (rows-hosted (a .book .now) (a .name .now) (a .c) (a .d) (a .row) (a .at) _ e (a .members .now) _ (p .p .given .1) k),
+            (rows-hosted (a .book .now) (a .name .now) (a .c) (a .d) (a .row) (a .at) _ e (a .members .now) _
+            (p .p .given .1) k),
         rw (c .put-part .ensures .1, host .put-host .ensures .1 .1, name placed)
-            (names-hosted (a .book .now) (a .name .now) (a .c) (a .d) (a .row) (a .at) _ e (a .names .now) _ (p .p .given .1) k),
+            (names-hosted (a .book .now) (a .name .now) (a .c) (a .d) (a .row) (a .at) _ e (a .names .now) _
+            (p .p .given .1) k),
       ),
     )
 
@@ -146,9 +180,11 @@ returns-2 c =
           (next-alone (a .book .now) (a .name .now) (a .c) (a .d) (a .row) (a .at) _ e (p .p2 .given .1)),
       (
         rw (c .put-part2 .ensures .0, name placed)
-            (rows-alone (a .book .now) (a .name .now) (a .c) (a .d) (a .row) (a .at) _ e (a .members .now) (p .p2 .given .1)),
+            (rows-alone (a .book .now) (a .name .now) (a .c) (a .d) (a .row) (a .at) _ e (a .members .now)
+            (p .p2 .given .1)),
         rw (c .put-part2 .ensures .1, name placed)
-            (names-alone (a .book .now) (a .name .now) (a .c) (a .d) (a .row) (a .at) _ e (a .names .now) (p .p2 .given .1)),
+            (names-alone (a .book .now) (a .name .now) (a .c) (a .d) (a .row) (a .at) _ e (a .names .now)
+            (p .p2 .given .1)),
       ),
     )
 

@@ -94,7 +94,12 @@ returns : tie.Need-returns
 unfolding memberRow
 returns c =
     let a = c .before .before .before .before .args in
-    rw (← c .before .flags-word .ensures, ← c .before .before .bit-word .ensures, ← c .before .before .before .ty-word .ensures)
+    rw (
+      ← c .before .flags-word .ensures,
+      ← c .before .before .bit-word .ensures,
+      ← c .before .before .before
+          .ty-word .ensures,
+    )
     (eight (a .members .now) (8 * a .row) _ _ _ _ _ _ _ _)
 
 pub put-member-spec : {M : Type 1} → statement M

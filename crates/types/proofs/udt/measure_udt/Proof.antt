@@ -9,7 +9,9 @@ udt-start-requires : tie.Need-udt-start-requires
 udt-start-requires c κs = search needs
 
 measure-requires : tie.Need-measure-requires
-measure-requires c κs = rw (c .udt-start .ensures) (from-start (c .before .before .before .before .pre .0) (c .before .before .before .before .pre .1))
+measure-requires c κs =
+    rw (c .udt-start .ensures) (from-start (c .before .before .before .before .pre .0)
+    (c .before .before .before .before .pre .1))
 
 returns : tie.Need-returns
 returns c = c .measure .ensures ∙ rw (c .before .udt-start .ensures)

@@ -8,7 +8,8 @@ udt-start-requires : tie.Need-udt-start-requires
 udt-start-requires c κs = search needs
 
 store-requires : tie.Need-store-requires
-store-requires c κs = rw (c .before .before .udt-start .ensures) (c .before .before .before .before .before .before .pre)
+store-requires c κs =
+    rw (c .before .before .udt-start .ensures) (c .before .before .before .before .before .before .pre)
 
 returns : tie.Need-returns
 unfolding udtParts

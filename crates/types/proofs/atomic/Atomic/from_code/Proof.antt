@@ -1,4 +1,5 @@
--- `types::Atomic::from_code` meets its contract. The invariant: the first of the fifteen with the code is the first of those
+-- `types::Atomic::from_code` meets its contract. The invariant: the first of the fifteen with the code is the first
+-- of those
 -- that are left.
 use native.Mathlib.Omega.{arith}
 use borrow.Author.Needs.{needs}
@@ -16,7 +17,8 @@ use Rattle.types.proofs.atomic.Atomic.from_code.Statement.{statement}
 use Rattle.types.proofs.atomic.Atomic.from_code.Tie as tie
 
 abbrev Inv-loop : tie.InvT-loop
-Inv-loop code rows i₀ i = (i ≤ 15) × ((rows ≡ rowsOf atomics) × (atomicCoded code ≡ firstOf (λ a. eqb (codeOf a) code) (drop i atomics)))
+Inv-loop code rows i₀ i =
+    (i ≤ 15) × ((rows ≡ rowsOf atomics) × (atomicCoded code ≡ firstOf (λ a. eqb (codeOf a) code) (drop i atomics)))
 
 abbrev μ-loop : tie.MeasureT-loop
 μ-loop code rows i₀ i = 15 - i

@@ -1,4 +1,5 @@
--- `types::Atomic::from_name` meets its contract. The invariant: the first of the fifteen with the name is the first of those
+-- `types::Atomic::from_name` meets its contract. The invariant: the first of the fifteen with the name is the first
+-- of those
 -- that are left.
 use native.Mathlib.Omega.{arith}
 use borrow.Author.Needs.{needs}
@@ -62,7 +63,8 @@ returns c =
     let row = table-row _ (l .i) _ (l .inv .1 .0) (omega arith) in
     ap Is (c .at .ensures)
     ∙ first-hit (λ a. sameName (nameOf a) name) (l .i) (omega arith) _
-    (same .same-name .ensures ∙ ap (λ (s : List ℕ). sameName s name) (row-name (atomicAt (l .i)) _ row)) (c .before .if1 .taken)
+    (same .same-name .ensures ∙ ap (λ (s : List ℕ). sameName s name) (row-name (atomicAt (l .i)) _ row))
+    (c .before .if1 .taken)
     ∙ sym (l .inv .1 .1)
 
 add-i : tie.Need-add-i Inv-loop μ-loop
@@ -82,7 +84,8 @@ loop-again c =
       (
         l .inv .1 .0,
         l .inv .1 .1 ∙ first-miss (λ a. sameName (nameOf a) name) (l .i) (omega arith) _
-            (same .same-name .ensures ∙ ap (λ (s : List ℕ). sameName s name) (row-name (atomicAt (l .i)) _ row)) (c .if1 .left),
+            (same .same-name .ensures ∙ ap (λ (s : List ℕ). sameName s name) (row-name (atomicAt (l .i)) _ row))
+            (c .if1 .left),
       ),
     )
 
