@@ -9,10 +9,13 @@ pub mod DigitLaws
 pub mod EntryLaws
 pub mod FixedLaws
 pub mod HandleLaws
+pub mod IdLaws
+pub mod LookupLaws
 pub mod LayoutLaws
 pub mod PlaceLaws
 pub mod FreeLaws
 pub mod LaidLaws
+pub mod BookLaws
 pub mod BoundLaws
 pub mod SinkLaws
 pub mod StoreLaws

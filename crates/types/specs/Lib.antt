@@ -4,8 +4,10 @@ pub mod Entries
 pub mod Defs
 pub mod Digits
 pub mod Handle
+pub mod Ids
 pub mod Laid
 pub mod Layout
+pub mod Lookup
 pub mod Names
 pub mod Pieces
 pub mod Refusal
@@ -14,4 +16,5 @@ pub mod Structs
 pub mod Tables
 pub mod Template
 pub mod Waste
+pub mod Book
 pub mod Cases

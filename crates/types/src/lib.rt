@@ -1,12 +1,15 @@
-// Types and layouts (document 01's first crate): the atomic types, names, refusals, rows of the lent
-// tables, and the leaves that layouts and templates are made of.
+// Types and layouts (document 01's first crate): the atomic types, names, the book's entries, refusals, rows
+// of the lent tables, layouts, templates and waste.
 mod aoi;
 mod atomic;
+mod book;
 mod digits;
 mod entries;
 mod fixed;
 mod handle;
+mod ids;
 mod layout;
+mod lookup;
 mod measure;
 mod member;
 mod names;
@@ -19,9 +22,21 @@ mod templates;
 mod udt;
 mod waste_bits;
 
+pub use aoi::measure_aoi;
+pub use aoi::store_aoi;
 pub use atomic::Atomic;
 pub use atomic::AtomicRow;
 pub use atomic::FoundAtomic;
+pub use book::MemberEntry;
+pub use book::TypeEntry;
+pub use book::book_ok;
+pub use book::member_entry;
+pub use book::type_entry;
+pub use fixed::put_control_type;
+pub use fixed::put_counter;
+pub use fixed::put_string;
+pub use fixed::put_timer;
+pub use fixed::string_size;
 pub use handle::fold_handle;
 pub use handle::structure_handle;
 pub use layout::Cursor;
@@ -55,5 +70,8 @@ pub use templates::template;
 pub use templates::template_handle;
 pub use templates::template_len;
 pub use templates::write_template;
+pub use udt::measure_udt;
+pub use udt::size_at;
+pub use udt::store_udt;
 pub use waste_bits::waste;
 pub use words::set_bit;

@@ -1,0 +1,115 @@
+-- `types::book_ok` meets its contract: one way out for each rule.
+use native.Mathlib.Omega.{arith}
+use borrow.Author.Needs.{needs}
+use Prim.Native.Nat.{_+_, _*_}
+use mathlib.Core.Path.{_≡_, sym, ap, _∙_}
+use lib.ListN.{length}
+use Rattle.types.specs.Book.{typesIn, membersIn, bodiesAt, typeOk, every, typeEntries, sumCounts}
+use Rattle.types.proofs.BookLaws.{book-short, no-bodies, types-wrong, counts-wrong, members-decide}
+use Rattle.types.proofs.book.book_ok.Statement.{statement}
+use Rattle.types.proofs.book.book_ok.Tie as tie
+
+-- T and M, as they were read
+types-in : (c : tie.After-wide162) → c .before .before .wide16 .result ≡ typesIn (c .before .before .before .before .before .before .args .book .now)
+types-in c = c .before .before .wide16 .ensures .0 ∙ c .before .before .before .load16 .ensures
+
+members-in : (c : tie.After-wide162) → c .wide162 .result ≡ membersIn (c .before .before .before .before .before .before .args .book .now)
+members-in c = c .wide162 .ensures .0 ∙ c .before .load162 .ensures
+
+-- the check of the type entries, and the sum of their counts
+checked : (c : tie.After-types-ok)
+    → let s = c .before .before .before .before .before .before .before .before .args .book .now in
+    c .types-ok .result ≡ every (typeOk (bodiesAt s) (length s)) (typeEntries s)
+checked c = rw (← types-in (c .before .before), ← members-in (c .before .before)) (c .types-ok .ensures)
+
+summed : (c : tie.After-sum-counts) → c .sum-counts .result ≡ sumCounts (typeEntries (c .before .before .before .before .before .before .before .before .before .before .args .book .now))
+summed c = rw (← types-in (c .before .before .before .before)) (c .sum-counts .ensures .is)
+
+returns : tie.Need-returns
+returns c = book-short (c .before .before .args .book .now) (c .if1 .taken)
+
+load16-requires : tie.Need-load16-requires
+load16-requires c κs = search needs
+
+wide16-requires : tie.Need-wide16-requires
+wide16-requires c κs = search needs
+
+load16-requires-2 : tie.Need-load16-requires-2
+load16-requires-2 c κs = search needs
+
+wide16-requires-2 : tie.Need-wide16-requires-2
+wide16-requires-2 c κs = search needs
+
+mul-start : tie.Need-mul-start
+mul-start c = search needs
+
+add-start : tie.Need-add-start
+add-start c = search needs
+
+mul-start-2 : tie.Need-mul-start-2
+mul-start-2 c = search needs
+
+add-start-2 : tie.Need-add-start-2
+add-start-2 c = search needs
+
+returns-2 : tie.Need-returns-2
+returns-2 c =
+    let read = c .before in
+    no-bodies (read .before .before .before .before .before .before .args .book .now) (read .before .before .before .before .if1 .left)
+    (omega (arith, types-in read, members-in read, c .if2 .taken))
+
+types-ok-requires : tie.Need-types-ok-requires
+types-ok-requires c κs = search needs
+
+sum-counts-requires : tie.Need-sum-counts-requires
+sum-counts-requires c κs = search needs
+
+members-ok-requires : tie.Need-members-ok-requires
+members-ok-requires c κs = search needs
+
+returns-3 : tie.Need-returns-3
+returns-3 c =
+    let sum = c .before .before in
+    let types = sum .before .before in
+    let read = types .before .before in
+    rw (types-in read, members-in read) at (c .members-ok .ensures)
+    ∙ members-decide (read .before .before .before .before .before .before .args .book .now) (read .before .before .before .before .if1 .left)
+    (omega (arith, types-in read, members-in read, types .before .if2 .left)) _ (checked types) (sum .before .if3 .taken)
+    (sym (summed sum) ∙ c .before .if4 .taken ∙ members-in read)
+
+returns-4 : tie.Need-returns-4
+returns-4 c =
+    let sum = c .before in
+    let types = sum .before .before in
+    let read = types .before .before in
+    counts-wrong (read .before .before .before .before .before .before .args .book .now) (read .before .before .before .before .if1 .left)
+    (omega (arith, types-in read, members-in read, types .before .if2 .left)) _ (checked types) (sum .before .if3 .taken)
+    (λ e. c .if4 .left (summed sum ∙ e ∙ sym (members-in read)))
+
+returns-5 : tie.Need-returns-5
+returns-5 c =
+    let types = c .before in
+    let read = types .before .before in
+    types-wrong (read .before .before .before .before .before .before .args .book .now) (read .before .before .before .before .if1 .left)
+    (omega (arith, types-in read, members-in read, types .before .if2 .left)) _ (checked types) (c .if3 .left)
+
+pub book-ok-spec : {M : Type 1} → statement M
+book-ok-spec =
+    tie.close
+    (tie.spec
+    returns
+    load16-requires
+    wide16-requires
+    load16-requires-2
+    wide16-requires-2
+    mul-start
+    add-start
+    mul-start-2
+    add-start-2
+    returns-2
+    types-ok-requires
+    sum-counts-requires
+    members-ok-requires
+    returns-3
+    returns-4
+    returns-5)
