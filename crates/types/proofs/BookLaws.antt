@@ -156,23 +156,24 @@ module _ (s : List ℕ) where
     unfolding bookOk
     no-bodies k = simp (le-leb 4 (length s) l, lt-leb (bodiesAt s) (length s) k)
 
-    module _ (k : bodiesAt s ≤ length s) (a : Bool) (p : a ≡ every (typeOk (bodiesAt s) (length s)) (typeEntries s)) where
-      pub types-wrong : a ≡ false → false ≡ bookOk s
-      unfolding bookOk
-      types-wrong q =
-          let g : every (typeOk (bodiesAt s) (length s)) (typeEntries s) ≡ false = sym p ∙ q in
-          simp (le-leb 4 (length s) l, le-leb (bodiesAt s) (length s) k, g)
-
-      module _ (q : a ≡ true) where
-        pub counts-wrong : (sumCounts (typeEntries s) ≡ membersIn s → ⊥) → false ≡ bookOk s
+    module _ (k : bodiesAt s ≤ length s) (a : Bool) (p : a ≡ every (typeOk (bodiesAt s) (length s)) (typeEntries s))
+      where
+        pub types-wrong : a ≡ false → false ≡ bookOk s
         unfolding bookOk
-        counts-wrong n =
-            let g : every (typeOk (bodiesAt s) (length s)) (typeEntries s) ≡ true = sym p ∙ q in
-            simp (le-leb 4 (length s) l, le-leb (bodiesAt s) (length s) k, g, ne-eqb _ _ n)
+        types-wrong q =
+            let g : every (typeOk (bodiesAt s) (length s)) (typeEntries s) ≡ false = sym p ∙ q in
+            simp (le-leb 4 (length s) l, le-leb (bodiesAt s) (length s) k, g)
 
-        pub members-decide : sumCounts (typeEntries s) ≡ membersIn s
-            → every (memberOk (bodiesAt s) (length s)) (memberEntries s) ≡ bookOk s
-        unfolding bookOk
-        members-decide e =
-            let g : every (typeOk (bodiesAt s) (length s)) (typeEntries s) ≡ true = sym p ∙ q in
-            simp (le-leb 4 (length s) l, le-leb (bodiesAt s) (length s) k, g, eq-eqb _ _ e)
+        module _ (q : a ≡ true) where
+          pub counts-wrong : (sumCounts (typeEntries s) ≡ membersIn s → ⊥) → false ≡ bookOk s
+          unfolding bookOk
+          counts-wrong n =
+              let g : every (typeOk (bodiesAt s) (length s)) (typeEntries s) ≡ true = sym p ∙ q in
+              simp (le-leb 4 (length s) l, le-leb (bodiesAt s) (length s) k, g, ne-eqb _ _ n)
+
+          pub members-decide : sumCounts (typeEntries s) ≡ membersIn s
+              → every (memberOk (bodiesAt s) (length s)) (memberEntries s) ≡ bookOk s
+          unfolding bookOk
+          members-decide e =
+              let g : every (typeOk (bodiesAt s) (length s)) (typeEntries s) ≡ true = sym p ∙ q in
+              simp (le-leb 4 (length s) l, le-leb (bodiesAt s) (length s) k, g, eq-eqb _ _ e)

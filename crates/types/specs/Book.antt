@@ -1,4 +1,5 @@
--- The declaration book (document 01, "Declaration book"): a table of contents, then the bodies; its entries, and when the
+-- The declaration book (document 01, "Declaration book"): a table of contents, then the bodies; its entries, and when
+-- the
 -- whole is well formed.
 use Prim.Native.Nat.{ℕ, zero, suc, _+_, _*_, _/_, _%_, _<_, _^_}
 use mathlib.Core.Path.{_≡_}
@@ -18,7 +19,8 @@ typesIn s = wordAt 2 s 0
 abbrev pub membersIn : List ℕ → ℕ
 membersIn s = wordAt 2 s 2
 
--- T type entries of 16 bytes: name place u32, name length u8, flags u8, template id u16, string length u32, member count
+-- T type entries of 16 bytes: name place u32, name length u8, flags u8, template id u16, string length u32, member
+-- count
 -- u16, u16 zero
 unfoldable pub typeEntry : List ℕ → ℕ → TypeEntry
 typeEntry s i =
@@ -31,7 +33,8 @@ typeEntry s i =
       zero = wordAt 2 s (4 + 16 * i + 14);
     }
 
--- then M member entries of 16: name place u32, name length u8, type name length u8, local u8, access u8, dim u32, type name
+-- then M member entries of 16: name place u32, name length u8, type name length u8, local u8, access u8, dim u32,
+-- type name
 -- place u32
 unfoldable pub memberEntry : List ℕ → ℕ → ℕ → MemberEntry
 memberEntry s t i =

@@ -2,9 +2,8 @@
 // type holds.
 ghost use Prim.Native.Nat.{_≤_};
 ghost use Rattle.types.specs.Ids.{Lowest};
-
-use crate::tables::TypeTable;
 use crate::tables::TYPE_WORDS;
+use crate::tables::TypeTable;
 
 // The lowest id that none of the first n types holds; 0xF00 where each is held.
 pub fn free_id(types: &TypeTable, n: usize) -> u32

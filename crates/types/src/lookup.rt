@@ -3,13 +3,12 @@
 ghost use mathlib.Core.Path.{_≡_};
 ghost use Prim.Native.Nat.{_≤_};
 ghost use Rattle.types.specs.Lookup.{NamesInside, rowName, typeNamed, typeOf};
-
 use crate::atomic::Atomic;
 use crate::atomic::FoundAtomic;
 use crate::member::Ty;
 use crate::names::same_name;
-use crate::tables::type_at;
 use crate::tables::TypeTable;
+use crate::tables::type_at;
 
 // A type, where one was found.
 pub enum FoundTy {

@@ -10,10 +10,12 @@ use Rattle.types.proofs.book.book_ok.Statement.{statement}
 use Rattle.types.proofs.book.book_ok.Tie as tie
 
 -- T and M, as they were read
-types-in : (c : tie.After-wide162) → c .before .before .wide16 .result ≡ typesIn (c .before .before .before .before .before .before .args .book .now)
+types-in : (c : tie.After-wide162)
+    → c .before .before .wide16 .result ≡ typesIn (c .before .before .before .before .before .before .args .book .now)
 types-in c = c .before .before .wide16 .ensures .0 ∙ c .before .before .before .load16 .ensures
 
-members-in : (c : tie.After-wide162) → c .wide162 .result ≡ membersIn (c .before .before .before .before .before .before .args .book .now)
+members-in : (c : tie.After-wide162)
+    → c .wide162 .result ≡ membersIn (c .before .before .before .before .before .before .args .book .now)
 members-in c = c .wide162 .ensures .0 ∙ c .before .load162 .ensures
 
 -- the check of the type entries, and the sum of their counts
@@ -22,7 +24,10 @@ checked : (c : tie.After-types-ok)
     c .types-ok .result ≡ every (typeOk (bodiesAt s) (length s)) (typeEntries s)
 checked c = rw (← types-in (c .before .before), ← members-in (c .before .before)) (c .types-ok .ensures)
 
-summed : (c : tie.After-sum-counts) → c .sum-counts .result ≡ sumCounts (typeEntries (c .before .before .before .before .before .before .before .before .before .before .args .book .now))
+summed : (c : tie.After-sum-counts)
+    → c .sum-counts .result
+    ≡ sumCounts (typeEntries (c .before .before .before .before .before .before .before .before .before .before .args
+    .book .now))
 summed c = rw (← types-in (c .before .before .before .before)) (c .sum-counts .ensures .is)
 
 returns : tie.Need-returns
@@ -55,7 +60,8 @@ add-start-2 c = search needs
 returns-2 : tie.Need-returns-2
 returns-2 c =
     let read = c .before in
-    no-bodies (read .before .before .before .before .before .before .args .book .now) (read .before .before .before .before .if1 .left)
+    no-bodies (read .before .before .before .before .before .before .args .book .now)
+    (read .before .before .before .before .if1 .left)
     (omega (arith, types-in read, members-in read, c .if2 .taken))
 
 types-ok-requires : tie.Need-types-ok-requires
@@ -73,8 +79,10 @@ returns-3 c =
     let types = sum .before .before in
     let read = types .before .before in
     rw (types-in read, members-in read) at (c .members-ok .ensures)
-    ∙ members-decide (read .before .before .before .before .before .before .args .book .now) (read .before .before .before .before .if1 .left)
-    (omega (arith, types-in read, members-in read, types .before .if2 .left)) _ (checked types) (sum .before .if3 .taken)
+    ∙ members-decide (read .before .before .before .before .before .before .args .book .now)
+    (read .before .before .before .before .if1 .left)
+    (omega (arith, types-in read, members-in read, types .before .if2 .left)) _ (checked types)
+    (sum .before .if3 .taken)
     (sym (summed sum) ∙ c .before .if4 .taken ∙ members-in read)
 
 returns-4 : tie.Need-returns-4
@@ -82,15 +90,18 @@ returns-4 c =
     let sum = c .before in
     let types = sum .before .before in
     let read = types .before .before in
-    counts-wrong (read .before .before .before .before .before .before .args .book .now) (read .before .before .before .before .if1 .left)
-    (omega (arith, types-in read, members-in read, types .before .if2 .left)) _ (checked types) (sum .before .if3 .taken)
+    counts-wrong (read .before .before .before .before .before .before .args .book .now)
+    (read .before .before .before .before .if1 .left)
+    (omega (arith, types-in read, members-in read, types .before .if2 .left)) _ (checked types)
+    (sum .before .if3 .taken)
     (λ e. c .if4 .left (summed sum ∙ e ∙ sym (members-in read)))
 
 returns-5 : tie.Need-returns-5
 returns-5 c =
     let types = c .before in
     let read = types .before .before in
-    types-wrong (read .before .before .before .before .before .before .args .book .now) (read .before .before .before .before .if1 .left)
+    types-wrong (read .before .before .before .before .before .before .args .book .now)
+    (read .before .before .before .before .if1 .left)
     (omega (arith, types-in read, members-in read, types .before .if2 .left)) _ (checked types) (c .if3 .left)
 
 pub book-ok-spec : {M : Type 1} → statement M

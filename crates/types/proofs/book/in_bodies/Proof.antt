@@ -13,7 +13,8 @@ wide32-requires-2 c κs = search needs
 returns : tie.Need-returns
 returns c =
     let a = c .before .before .before .args in
-    before-bodies (a .start) (a .end) (a .s) _ _ (c .before .before .wide32 .ensures) (c .before .wide322 .ensures) (c .if1 .taken)
+    before-bodies (a .start) (a .end) (a .s) _ _ (c .before .before .wide32 .ensures) (c .before .wide322 .ensures)
+    (c .if1 .taken)
 
 add-result : tie.Need-add-result
 add-result c = search needs
@@ -21,7 +22,8 @@ add-result c = search needs
 returns-2 : tie.Need-returns-2
 returns-2 c =
     let a = c .before .before .before .args in
-    from-bodies (a .start) (a .end) (a .s) _ _ (c .before .before .wide32 .ensures) (c .before .wide322 .ensures) (c .if1 .left)
+    from-bodies (a .start) (a .end) (a .s) _ _ (c .before .before .wide32 .ensures) (c .before .wide322 .ensures)
+    (c .if1 .left)
 
 pub in-bodies-spec : {M : Type 1} → statement M
 in-bodies-spec =

@@ -21,13 +21,15 @@ returns-2 c =
     let name = c .before .before .before in
     let a = name .before .before .before .before .args in
     c .in-bodies2 .ensures
-    ∙ name-inside (a .start) (a .end) (a .e) (name .before .before .if1 .left) _ (name .in-bodies .ensures) (c .before .before .if2 .taken)
+    ∙ name-inside (a .start) (a .end) (a .e) (name .before .before .if1 .left) _ (name .in-bodies .ensures)
+    (c .before .before .if2 .taken)
 
 returns-3 : tie.Need-returns-3
 returns-3 c =
     let name = c .before in
     let a = name .before .before .before .before .args in
-    name-outside (a .start) (a .end) (a .e) (name .before .before .if1 .left) _ (name .in-bodies .ensures) (c .if2 .left)
+    name-outside (a .start) (a .end) (a .e) (name .before .before .if1 .left) _ (name .in-bodies .ensures)
+    (c .if2 .left)
 
 pub member-ok-spec : {M : Type 1} → statement M
 member-ok-spec =

@@ -23,7 +23,8 @@ abbrev μ-loop : tie.MeasureT-loop
 good : (c : tie.After-member-ok Inv-loop μ-loop)
     → let at-loop = c .before .before .before in
     let a = at-loop .before .before .args in
-    c .member-ok .result ≡ memberOk (a .start) (length (a .book .now)) (memberEntry (a .book .now) (a .t) (at-loop .loop .i))
+    c .member-ok .result ≡ memberOk (a .start) (length (a .book .now))
+    (memberEntry (a .book .now) (a .t) (at-loop .loop .i))
 good c = c .member-ok .ensures ∙ rw (c .before .member-entry .ensures)
 
 loop-holds : tie.Need-loop-holds Inv-loop μ-loop
@@ -39,7 +40,8 @@ returns : tie.Need-returns Inv-loop μ-loop
 returns c =
     let at-loop = c .before .before .before .before in
     let a = at-loop .before .before .args in
-    sym (at-loop .loop .inv .1 .1 ∙ every-off (memberEntry (a .book .now) (a .t)) (a .n) (at-loop .loop .i) (memberOk (a .start) _) _
+    sym (at-loop .loop .inv .1 .1 ∙ every-off (memberEntry (a .book .now) (a .t)) (a .n) (at-loop .loop .i)
+    (memberOk (a .start) _) _
     (c .before .before .before .loop-test .taken) (good (c .before)) (not-true _ (c .if1 .taken)))
 
 add-i : tie.Need-add-i Inv-loop μ-loop
@@ -55,7 +57,8 @@ loop-again c =
       omega (arith, c .before .before .before .loop-test .taken),
       (
         at-loop .loop .inv .1 .0,
-        at-loop .loop .inv .1 .1 ∙ every-on (memberEntry (a .book .now) (a .t)) (a .n) (at-loop .loop .i) (memberOk (a .start) _) _
+        at-loop .loop .inv .1 .1 ∙ every-on (memberEntry (a .book .now) (a .t)) (a .n) (at-loop .loop .i)
+            (memberOk (a .start) _) _
             (c .before .before .before .loop-test .taken) (good (c .before)) (not-false _ (c .if1 .left)),
       ),
     )
@@ -64,7 +67,8 @@ returns-2 : tie.Need-returns-2 Inv-loop μ-loop
 returns-2 c =
     let at-loop = c .before in
     let a = at-loop .before .before .args in
-    sym (at-loop .loop .inv .1 .1 ∙ every-done (memberEntry (a .book .now) (a .t)) (a .n) (at-loop .loop .i) (memberOk (a .start) _) (c .loop-test .left))
+    sym (at-loop .loop .inv .1 .1 ∙ every-done (memberEntry (a .book .now) (a .t)) (a .n) (at-loop .loop .i)
+    (memberOk (a .start) _) (c .loop-test .left))
 
 pub members-ok-spec : {M : Type 1} → statement M
 members-ok-spec =

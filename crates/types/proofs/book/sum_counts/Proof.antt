@@ -24,7 +24,15 @@ wide16-requires : tie.Need-wide16-requires Inv-loop μ-loop
 wide16-requires c κs = search needs
 
 add-sum : tie.Need-add-sum Inv-loop μ-loop
-add-sum c = omega (arith, c .before .before .before .loop .inv .small, c .before .before .before .loop .inv .done, c .wide16 .ensures .1, c .before .before .before .before .before .pre .1)
+add-sum c =
+    omega (
+      arith,
+      c .before .before .before .loop .inv .small,
+      c .before .before .before .loop .inv .done,
+      c .wide16
+          .ensures .1,
+      c .before .before .before .before .before .pre .1,
+    )
 
 add-i : tie.Need-add-i Inv-loop μ-loop
 add-i c = omega (arith, c .before .before .loop-test .taken)

@@ -28,7 +28,8 @@ returns-3 c =
     let id = string .before .before .before in
     let a = id .before .before .before .before .before .args in
     c .in-bodies .ensures
-    ∙ type-named (a .start) (a .end) (a .e) (id .before .before .before .before .if1 .left) (id .before .before .if2 .left) _ (id .set-or-zero .ensures)
+    ∙ type-named (a .start) (a .end) (a .e) (id .before .before .before .before .if1 .left)
+    (id .before .before .if2 .left) _ (id .set-or-zero .ensures)
     (string .before .before .if3 .taken) _ (string .set-or-zero2 .ensures) (c .before .before .if4 .taken)
 
 returns-4 : tie.Need-returns-4
@@ -36,14 +37,16 @@ returns-4 c =
     let string = c .before in
     let id = string .before .before .before in
     let a = id .before .before .before .before .before .args in
-    string-left (a .start) (a .end) (a .e) (id .before .before .before .before .if1 .left) (id .before .before .if2 .left) _ (id .set-or-zero .ensures)
+    string-left (a .start) (a .end) (a .e) (id .before .before .before .before .if1 .left)
+    (id .before .before .if2 .left) _ (id .set-or-zero .ensures)
     (string .before .before .if3 .taken) _ (string .set-or-zero2 .ensures) (c .if4 .left)
 
 returns-5 : tie.Need-returns-5
 returns-5 c =
     let id = c .before in
     let a = id .before .before .before .before .before .args in
-    id-left (a .start) (a .end) (a .e) (id .before .before .before .before .if1 .left) (id .before .before .if2 .left) _ (id .set-or-zero .ensures) (c .if3 .left)
+    id-left (a .start) (a .end) (a .e) (id .before .before .before .before .if1 .left)
+    (id .before .before .if2 .left) _ (id .set-or-zero .ensures) (c .if3 .left)
 
 pub type-ok-spec : {M : Type 1} → statement M
 type-ok-spec =

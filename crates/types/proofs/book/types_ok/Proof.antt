@@ -39,7 +39,8 @@ returns : tie.Need-returns Inv-loop μ-loop
 returns c =
     let at-loop = c .before .before .before .before in
     let a = at-loop .before .before .args in
-    sym (at-loop .loop .inv .1 .1 ∙ every-off (typeEntry (a .book .now)) (a .n) (at-loop .loop .i) (typeOk (a .start) _) _
+    sym (at-loop .loop .inv .1 .1 ∙ every-off (typeEntry (a .book .now)) (a .n) (at-loop .loop .i)
+    (typeOk (a .start) _) _
     (c .before .before .before .loop-test .taken) (good (c .before)) (not-true _ (c .if1 .taken)))
 
 add-i : tie.Need-add-i Inv-loop μ-loop
@@ -64,7 +65,8 @@ returns-2 : tie.Need-returns-2 Inv-loop μ-loop
 returns-2 c =
     let at-loop = c .before in
     let a = at-loop .before .before .args in
-    sym (at-loop .loop .inv .1 .1 ∙ every-done (typeEntry (a .book .now)) (a .n) (at-loop .loop .i) (typeOk (a .start) _) (c .loop-test .left))
+    sym (at-loop .loop .inv .1 .1 ∙ every-done (typeEntry (a .book .now)) (a .n) (at-loop .loop .i)
+    (typeOk (a .start) _) (c .loop-test .left))
 
 pub types-ok-spec : {M : Type 1} → statement M
 types-ok-spec =

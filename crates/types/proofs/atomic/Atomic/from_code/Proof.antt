@@ -3,7 +3,7 @@
 -- that are left.
 use native.Mathlib.Omega.{arith}
 use borrow.Author.Needs.{needs}
-use Prim.Native.Nat.{ℕ, _-_, _≤_}
+use Prim.Native.Nat.{ℕ, _+_, _-_, _≤_}
 use mathlib.Core.Path.{_≡_, refl, sym, ap, _∙_}
 use mathlib.Core.Bool.{true, false}
 use borrow.Author.Tests.{eq-eqb, ne-eqb}
@@ -64,8 +64,9 @@ unfolding rowOf
 loop-again c =
     let at-loop = c .before .before .before .before in
     let l = at-loop .loop in
+    let next : l .i + 1 ≤ 15 = omega arith in
     let e = ap (λ (r : AtomicRow). r .0) (table-row _ (l .i) _ (l .inv .1 .0) (omega arith)) in (
-      omega arith,
+      next,
       (
         l .inv .1 .0,
         l .inv .1 .1 ∙ first-miss (λ a. eqb (codeOf a) (at-loop .before .before .args .code)) (l .i) (omega arith) false

@@ -3,7 +3,7 @@
 -- that are left.
 use native.Mathlib.Omega.{arith}
 use borrow.Author.Needs.{needs}
-use Prim.Native.Nat.{ℕ, _-_, _≤_}
+use Prim.Native.Nat.{ℕ, _+_, _-_, _≤_}
 use mathlib.Core.Path.{_≡_, refl, sym, ap, _∙_}
 use mathlib.Core.List.{List}
 use lib.ListN.{drop}
@@ -79,8 +79,9 @@ loop-again c =
     let at-loop = same .before .before .before .before .before .before in
     let l = at-loop .loop in
     let name = at-loop .before .before .before .args .name .now in
+    let next : l .i + 1 ≤ 15 = omega arith in
     let row = table-row _ (l .i) _ (l .inv .1 .0) (omega arith) in (
-      omega arith,
+      next,
       (
         l .inv .1 .0,
         l .inv .1 .1 ∙ first-miss (λ a. sameName (nameOf a) name) (l .i) (omega arith) _

@@ -1,0 +1,35 @@
+-- `types::lookup` meets its contract: an atomic, else the first structure.
+use borrow.Author.Needs.{needs}
+use mathlib.Core.Path.{sym, _∙_}
+use Rattle.types.specs.Lookup.{typeOf}
+use Rattle.types.proofs.lookup.lookup.Statement.{statement}
+use Rattle.types.proofs.lookup.lookup.Tie as tie
+
+from-name-requires : tie.Need-from-name-requires
+from-name-requires c κs = search needs
+
+enum-known-atomic : tie.Need-enum-known-atomic
+enum-known-atomic c = search needs
+
+enum-told : tie.Need-enum-told
+enum-told c = search needs
+
+find-type-requires : tie.Need-find-type-requires
+find-type-requires c κs = search needs
+
+returns : tie.Need-returns
+unfolding typeOf
+returns c =
+    let found = c .before .before .before in
+    rw (sym (found .from-name .ensures) ∙ c .before .atomic .given .1)
+
+returns-2 : tie.Need-returns-2
+unfolding typeOf
+returns-2 c =
+    let found = c .before .before .before in
+    c .find-type .ensures ∙ rw (sym (found .from-name .ensures) ∙ c .before .enum-told .given .1)
+
+pub lookup-spec : {M : Type 1} → statement M
+lookup-spec =
+    tie.close
+    (tie.spec from-name-requires enum-known-atomic enum-told find-type-requires returns returns-2)
