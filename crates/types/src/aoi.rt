@@ -30,6 +30,7 @@ use crate::tables::MemberTable;
 use crate::tables::NameTable;
 use crate::tables::TypeTable;
 use crate::tables::put_member;
+use words::wide;
 
 fn one_if(b: bool) -> u32
     ensures { λ r. ⌜ OneIf b r ⌝ }
@@ -100,12 +101,6 @@ fn put_bit_host(
         },
     );
     9 + long
-}
-
-fn wide(x: u32) -> usize
-    ensures { λ r. ⌜ r ≡ x ⌝ }
-{
-    x as usize
 }
 
 // The rows and names of all h hosts; answers the place after their names.

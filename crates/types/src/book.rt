@@ -10,6 +10,8 @@ use crate::member::Span;
 use words::load8;
 use words::load16;
 use words::load32;
+use words::wide;
+use words::wide8;
 
 // A type's entry. Its fields stand as the book has them.
 pub struct TypeEntry {
@@ -30,20 +32,8 @@ pub struct MemberEntry {
     pub dim: u32,
 }
 
-fn wide8(x: u8) -> u32
-    ensures { λ r. ⌜ r ≡ x ⌝ }
-{
-    x as u32
-}
-
 fn wide16(x: u16) -> usize
     ensures { λ r. ⌜ (r ≡ x) × (r < 65536) ⌝ }
-{
-    x as usize
-}
-
-fn wide32(x: u32) -> usize
-    ensures { λ r. ⌜ r ≡ x ⌝ }
 {
     x as usize
 }
@@ -100,8 +90,8 @@ pub fn member_entry(book: &[u8], t: usize, i: usize) -> MemberEntry
 fn in_bodies(start: usize, end: usize, s: Span) -> bool
     ensures { λ r. ⌜ r ≡ inBodies start end s ⌝ }
 {
-    let at = wide32(s.at);
-    let long = wide32(s.long);
+    let at = wide(s.at);
+    let long = wide(s.long);
     if at < start {
         return false;
     }

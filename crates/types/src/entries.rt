@@ -15,6 +15,8 @@ use crate::tables::ty_of;
 use crate::tables::type_at;
 use words::load8;
 use words::load32;
+use words::wide8;
+use words::wide16;
 
 fn at_most_four(x: u32) -> u32
     ensures { λ r. ⌜ r ≡ min x 4 ⌝ }
@@ -23,18 +25,6 @@ fn at_most_four(x: u32) -> u32
         return x;
     }
     4
-}
-
-fn wide8(x: u8) -> u32
-    ensures { λ r. ⌜ r ≡ x ⌝ }
-{
-    x as u32
-}
-
-fn wide16(x: u16) -> u32
-    ensures { λ r. ⌜ r ≡ x ⌝ }
-{
-    x as u32
 }
 
 // A declared member that is stored as it is declared.

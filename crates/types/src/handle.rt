@@ -2,21 +2,11 @@
 // be taken piece by piece, as the template is produced.
 ghost use mathlib.Core.Path.{_≡_};
 ghost use Rattle.types.specs.Handle.{turnOf, foldFrom, notZero, handleOf};
+use words::wide8;
+use words::wide16;
 
 // The value before the first byte.
 pub const START: u16 = 0x1D0F;
-
-fn wide(x: u8) -> u32
-    ensures { λ r. ⌜ r ≡ x ⌝ }
-{
-    x as u32
-}
-
-fn wide16(x: u16) -> u32
-    ensures { λ r. ⌜ r ≡ x ⌝ }
-{
-    x as u32
-}
 
 // One byte: rotate left 5 in 16 bits, xor the byte, times 0x9E37, modulo 65,536.
 fn turn(h: u16, b: u8) -> u16
@@ -24,7 +14,7 @@ fn turn(h: u16, b: u8) -> u16
 {
     let x = wide16(h);
     let rotated = x * 32 % 65536 + x / 2048;
-    ((rotated ^ wide(b)) * 0x9E37 % 65536) as u16
+    ((rotated ^ wide8(b)) * 0x9E37 % 65536) as u16
 }
 
 // The fold goes on from h over some more bytes.

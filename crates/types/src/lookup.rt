@@ -9,17 +9,12 @@ use crate::member::Ty;
 use crate::names::same_name;
 use crate::tables::TypeTable;
 use crate::tables::type_at;
+use words::wide;
 
 // A type, where one was found.
 pub enum FoundTy {
     Is(Ty),
     Nothing,
-}
-
-fn wide(x: u32) -> usize
-    ensures { λ r. ⌜ r ≡ x ⌝ }
-{
-    x as usize
 }
 
 // The first of n structures with a name.

@@ -18,21 +18,11 @@ use crate::sink::Sink;
 use crate::sink::emit;
 use crate::tables::MemberTable;
 use crate::tables::TypeTable;
+use crate::tables::low16;
 use crate::tables::member_at;
 use crate::tables::name_at;
 use crate::tables::type_at;
-
-fn wide(x: u32) -> usize
-    ensures { λ r. ⌜ r ≡ x ⌝ }
-{
-    x as usize
-}
-
-fn low16(x: u32) -> u16
-    ensures { λ r. ⌜ r ≡ x % 65536 ⌝ }
-{
-    (x % 65536) as u16
-}
+use words::wide;
 
 // Bit number, else the low 16 bits of the count.
 fn info_of(bit: Bit, count: u32) -> u16

@@ -23,6 +23,7 @@ use crate::tables::MemberTable;
 use crate::tables::NameTable;
 use crate::tables::TypeTable;
 use crate::tables::put_member;
+use words::wide;
 
 // A member's row, and its name among the names.
 pub fn put_part(
@@ -88,12 +89,6 @@ fn put_host(
 pub enum Stored {
     Next(Cursor, usize, usize),
     Stop,
-}
-
-fn wide(x: u32) -> usize
-    ensures { λ r. ⌜ r ≡ x ⌝ }
-{
-    x as usize
 }
 
 // The rows and the names of one declared member of a type with that name.

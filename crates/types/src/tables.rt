@@ -12,6 +12,7 @@ use crate::member::Span;
 use crate::member::StructDef;
 use crate::member::StructKind;
 use crate::member::Ty;
+use words::wide;
 
 pub const TYPES: usize = 200;
 
@@ -28,12 +29,6 @@ pub type TypeTable = [u32; TYPES * TYPE_WORDS];
 pub type MemberTable = [u32; MEMBERS * MEMBER_WORDS];
 
 pub type NameTable = [u8; NAME_BYTES];
-
-fn wide(x: u32) -> usize
-    ensures { λ r. ⌜ r ≡ x ⌝ }
-{
-    x as usize
-}
 
 // The word of a type: an atomic's place among the fifteen, or 0x8000 plus a structure's number.
 fn ty_word(ty: Ty) -> u32
@@ -119,7 +114,7 @@ fn low8(x: u32) -> u8
     (x % 256) as u8
 }
 
-fn low16(x: u32) -> u16
+pub fn low16(x: u32) -> u16
     ensures { λ r. ⌜ r ≡ x % 65536 ⌝ }
 {
     (x % 65536) as u16

@@ -6,6 +6,7 @@ ghost use mathlib.Core.List.{List};
 ghost use Rattle.types.specs.Tables.{TyFits};
 ghost use Rattle.types.specs.Waste.{sizeIn, sizesIn, Fitting, SeenBits, Countable, wasteIn};
 use crate::layout::elements;
+use crate::layout::wide;
 use crate::member::Bit;
 use crate::member::Member;
 use crate::member::StructDef;
@@ -14,12 +15,6 @@ use crate::tables::MemberTable;
 use crate::tables::TypeTable;
 use crate::tables::member_at;
 use crate::tables::type_at;
-
-fn wide(x: u32) -> u64
-    ensures { λ r. ⌜ r ≡ x ⌝ }
-{
-    x as u64
-}
 
 fn row(x: u32) -> usize
     ensures { λ r. ⌜ r ≡ x ⌝ }

@@ -3,6 +3,7 @@
 mod bits;
 mod load;
 mod store;
+mod widen;
 
 pub use bits::bit_at;
 pub use bits::set_bit;
@@ -14,3 +15,6 @@ pub use store::store8;
 pub use store::store16;
 pub use store::store32;
 pub use store::store64;
+pub use widen::wide;
+pub use widen::wide8;
+pub use widen::wide16;

@@ -4,16 +4,16 @@ use Rattle.types.proofs.BookLaws.{before-bodies, from-bodies}
 use Rattle.types.proofs.book.in_bodies.Statement.{statement}
 use Rattle.types.proofs.book.in_bodies.Tie as tie
 
-wide32-requires : tie.Need-wide32-requires
-wide32-requires c κs = search needs
+wide-requires : tie.Need-wide-requires
+wide-requires c κs = search needs
 
-wide32-requires-2 : tie.Need-wide32-requires-2
-wide32-requires-2 c κs = search needs
+wide-requires-2 : tie.Need-wide-requires-2
+wide-requires-2 c κs = search needs
 
 returns : tie.Need-returns
 returns c =
     let a = c .before .before .before .args in
-    before-bodies (a .start) (a .end) (a .s) _ _ (c .before .before .wide32 .ensures) (c .before .wide322 .ensures)
+    before-bodies (a .start) (a .end) (a .s) _ _ (c .before .before .wide .ensures) (c .before .wide2 .ensures)
     (c .if1 .taken)
 
 add-result : tie.Need-add-result
@@ -22,9 +22,9 @@ add-result c = search needs
 returns-2 : tie.Need-returns-2
 returns-2 c =
     let a = c .before .before .before .args in
-    from-bodies (a .start) (a .end) (a .s) _ _ (c .before .before .wide32 .ensures) (c .before .wide322 .ensures)
+    from-bodies (a .start) (a .end) (a .s) _ _ (c .before .before .wide .ensures) (c .before .wide2 .ensures)
     (c .if1 .left)
 
 pub in-bodies-spec : {M : Type 1} → statement M
 in-bodies-spec =
-    tie.close (tie.spec wide32-requires wide32-requires-2 returns add-result returns-2)
+    tie.close (tie.spec wide-requires wide-requires-2 returns add-result returns-2)

@@ -15,21 +15,21 @@ mul-rotated c = search needs
 add-rotated : tie.Need-add-rotated
 add-rotated c = search needs
 
-wide-requires : tie.Need-wide-requires
-wide-requires c κs = search needs
+wide8-requires : tie.Need-wide8-requires
+wide8-requires c κs = search needs
 
 mul-result : tie.Need-mul-result
 mul-result c =
     let x = c .before .wide16 .result in
-    omega (arith, xor-lt 16 (x * 32 % 65536 + x / 2048) (c .wide .result) (omega arith) (omega arith))
+    omega (arith, xor-lt 16 (x * 32 % 65536 + x / 2048) (c .wide8 .result) (omega arith) (omega arith))
 
 cast-result : tie.Need-cast-result
 cast-result c = search needs
 
 returns : tie.Need-returns
-returns c = rw (c .before .wide16 .ensures, c .wide .ensures)
+returns c = rw (c .before .wide16 .ensures, c .wide8 .ensures)
 
 pub turn-spec : {M : Type 1} → statement M
 turn-spec =
     tie.close
-    (tie.spec wide16-requires mul-rotated add-rotated wide-requires mul-result cast-result returns)
+    (tie.spec wide16-requires mul-rotated add-rotated wide8-requires mul-result cast-result returns)

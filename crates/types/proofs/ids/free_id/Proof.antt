@@ -1,4 +1,5 @@
--- `types::free_id` meets its contract: every id below is held, and in the inner loop none of the rows passed holds this one.
+-- `types::free_id` meets its contract: every id below is held, and in the inner loop none of the rows passed holds
+-- this one.
 use native.Mathlib.Omega.{arith}
 use Prim.Native.Nat.{ℕ, _+_, _-_, _*_, _≤_, _<_}
 use mathlib.Core.Path.{_≡_, refl, sym, _∙_}

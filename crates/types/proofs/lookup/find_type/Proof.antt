@@ -22,7 +22,8 @@ abbrev μ-loop : tie.MeasureT-loop
 
 -- the row's name lies among the names
 end : (c : tie.After-wide2 Inv-loop μ-loop)
-    → c .before .wide .result + c .wide2 .result ≤ length (c .before .before .before .before .before .before .before .before .args .names .now)
+    → c .before .wide .result + c .wide2 .result ≤ length
+    (c .before .before .before .before .before .before .before .before .args .names .now)
 end c =
     let at-loop = c .before .before .before .before .before in
     rw (c .before .wide .ensures, c .wide2 .ensures, c .before .before .before .type-at .ensures)
@@ -36,7 +37,11 @@ compared : (c : tie.After-same-name Inv-loop μ-loop)
 compared c =
     let wide = c .before .before in
     c .same-name .ensures
-    ∙ rw (lent-name _ _ _ _ (wide .before .wide .ensures) (wide .wide2 .ensures), wide .before .before .before .type-at .ensures)
+    ∙ rw (
+      lent-name _ _ _ _ (wide .before .wide .ensures) (wide .wide2 .ensures),
+      wide .before .before .before
+          .type-at .ensures,
+    )
 
 loop-holds : tie.Need-loop-holds Inv-loop μ-loop
 loop-holds c = (omega arith, (c .before .before .pre, rw sub-zero))
@@ -69,7 +74,8 @@ returns : tie.Need-returns Inv-loop μ-loop
 returns c =
     let at-loop = c .before .before .before .before .before .before .before .before in
     let a = at-loop .before .before .before .args in
-    named-here (rowName (a .types .now) (a .names .now)) (a .name .now) (a .n) (at-loop .loop .i) (c .before .before .before .before .before .before .before .loop-test .taken) _
+    named-here (rowName (a .types .now) (a .names .now)) (a .name .now) (a .n) (at-loop .loop .i)
+    (c .before .before .before .before .before .before .before .loop-test .taken) _
     (compared (c .before)) (c .if1 .taken)
     ∙ sym (at-loop .loop .inv .1 .1)
 
@@ -87,7 +93,8 @@ loop-again c =
       (
         at-loop .loop .inv .1 .0,
         at-loop .loop .inv .1 .1
-            ∙ named-later (rowName (a .types .now) (a .names .now)) (a .name .now) (a .n) (at-loop .loop .i) (c .before .before .before .before .before .before .before .loop-test .taken) _
+            ∙ named-later (rowName (a .types .now) (a .names .now)) (a .name .now) (a .n) (at-loop .loop .i)
+            (c .before .before .before .before .before .before .before .loop-test .taken) _
             (compared (c .before)) (c .if1 .left),
       ),
     )
