@@ -85,7 +85,7 @@ size-least Word = lit≤ tt
 size-least DWord = lit≤ tt
 size-least LWord = lit≤ tt
 
-align-fair : (t : Ty) → (0 < alignIn t) × (alignIn t ≤ 4)
+pub align-fair : (t : Ty) → (0 < alignIn t) × (alignIn t ≤ 4)
 align-fair (Atomic a) = (omega (arith, size-least a), omega arith)
 align-fair (Struct n) = (omega arith, omega arith)
 

@@ -8,6 +8,7 @@ pub mod NameLaws
 pub mod DigitLaws
 pub mod EntryLaws
 pub mod FixedLaws
+pub mod FoundLaws
 pub mod HandleLaws
 pub mod IdLaws
 pub mod LookupLaws
