@@ -4,7 +4,7 @@ use native.Mathlib.Omega.{arith}
 use mathlib.Core.Path.{_≡_, refl, sym, ap, _∙_}
 use mathlib.Core.Bool.{Bool, true, false}
 use mathlib.Core.List.{List}
-use Rattle.types.specs.declared.lookup.FoundTy.the-variants.{Is, Nothing}
+use Rattle.types.specs.declared.lookups.FoundTy.the-variants.{Is, Nothing}
 use Rattle.types.specs.declared.member.Ty.the-variants.{Struct}
 use Rattle.types.specs.Lookup.{typeNamed}
 use Rattle.types.specs.Names.{sameName}

@@ -4,6 +4,7 @@ pub mod Entries
 pub mod Defs
 pub mod Digits
 pub mod Handle
+pub mod Header
 pub mod Ids
 pub mod Laid
 pub mod Layout

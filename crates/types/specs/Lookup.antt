@@ -5,8 +5,8 @@ use mathlib.Core.List.{List}
 use lib.ListN.{length}
 use Rattle.types.specs.declared.atomic.FoundAtomic.{FoundAtomic}
 use Rattle.types.specs.declared.atomic.FoundAtomic.the-variants.{Is as found, Nothing as none}
-use Rattle.types.specs.declared.lookup.FoundTy.{FoundTy}
-use Rattle.types.specs.declared.lookup.FoundTy.the-variants.{Is, Nothing}
+use Rattle.types.specs.declared.lookups.FoundTy.{FoundTy}
+use Rattle.types.specs.declared.lookups.FoundTy.the-variants.{Is, Nothing}
 use Rattle.types.specs.declared.member.Ty.the-variants.{Atomic, Struct}
 use Rattle.types.specs.Atomic.{atomicNamed}
 use Rattle.types.specs.Defs.{nameIn}

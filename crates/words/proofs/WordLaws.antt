@@ -122,3 +122,10 @@ bytes-back (suc n) s at b h =
     let g : at + 1 ≡ suc at = omega arith in
     rw (e, f, drop-cons s at 0 (omega arith), ← g)
     (ap (λ (l : List ℕ). getD s at 0 ∷ l) (bytes-back n s (at + 1) b (omega arith)))
+
+-- the two bytes of a word of 16 bits
+pub two-bytes : (x : ℕ) → x < 65536 → x % 256 ∷ x / 256 ∷ [] ≡ bytesOf 2 x
+unfolding bytesOf
+two-bytes x h =
+    let e : x / 256 % 256 ≡ x / 256 = omega arith in
+    rw e

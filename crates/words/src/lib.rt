@@ -11,6 +11,8 @@ pub use load::load8;
 pub use load::load16;
 pub use load::load32;
 pub use load::load64;
+pub use store::high8;
+pub use store::low8;
 pub use store::store8;
 pub use store::store16;
 pub use store::store32;

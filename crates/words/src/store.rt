@@ -6,13 +6,14 @@ ghost use lib.ListN.{length};
 ghost use lib.Seq.{sets};
 ghost use Rattle.words.specs.Words.{bytesOf};
 
-fn low8(x: u16) -> u8
+// The low and the high byte of a word.
+pub fn low8(x: u16) -> u8
     ensures { λ r. ⌜ r ≡ x % 256 ^ 1 ⌝ }
 {
     (x % 0x100) as u8
 }
 
-fn high8(x: u16) -> u8
+pub fn high8(x: u16) -> u8
     ensures { λ r. ⌜ r ≡ x / 256 ^ 1 ⌝ }
 {
     (x / 0x100) as u8

@@ -2,8 +2,8 @@
 use borrow.Author.Needs.{needs}
 use mathlib.Core.Path.{sym, _∙_}
 use Rattle.types.specs.Lookup.{typeOf}
-use Rattle.types.proofs.lookup.lookup.Statement.{statement}
-use Rattle.types.proofs.lookup.lookup.Tie as tie
+use Rattle.types.proofs.lookups.lookup.Statement.{statement}
+use Rattle.types.proofs.lookups.lookup.Tie as tie
 
 from-name-requires : tie.Need-from-name-requires
 from-name-requires c κs = search needs

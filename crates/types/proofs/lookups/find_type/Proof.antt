@@ -9,8 +9,8 @@ use Rattle.types.specs.Lookup.{typeNamed, rowName, NamesInside}
 use Rattle.types.specs.Names.{sameName}
 use Rattle.types.proofs.LookupLaws.{named-here, named-later, named-never}
 use Rattle.types.proofs.StoreOneLaws.{lent-name}
-use Rattle.types.proofs.lookup.find_type.Statement.{statement}
-use Rattle.types.proofs.lookup.find_type.Tie as tie
+use Rattle.types.proofs.lookups.find_type.Statement.{statement}
+use Rattle.types.proofs.lookups.find_type.Tie as tie
 
 abbrev Inv-loop : tie.InvT-loop
 Inv-loop types names n name i₀ i =
