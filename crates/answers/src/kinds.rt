@@ -17,7 +17,7 @@ fn malformed() -> bool {
 
 // Kind 8: an atomic's header is its code and 0, which as a word is its code.
 fn header(rest: &[u8]) -> bool {
-    if rest.len() != 2 {
+    if rest.len() < 2 {
         return malformed();
     }
     let found = Atomic::from_code(load16(rest, 0));

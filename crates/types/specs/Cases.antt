@@ -1,6 +1,6 @@
 -- The reference cases that document 01 marks P, each by computation: layouts from their declared members, the size of a
 -- string, and the fold of one byte.
-use Prim.Native.Nat.{ℕ, _+_, _/_, min}
+use Prim.Native.Nat.{ℕ}
 use mathlib.Core.Path.{_≡_, refl}
 use mathlib.Core.Bool.{Bool, true, false, cond}
 use mathlib.Core.List.{List, [], _∷_, _++_, getLast?}
@@ -22,6 +22,7 @@ use Rattle.words.specs.Words.{bytesOf}
 use Rattle.types.specs.Atomic.{codeOf, sizeOf}
 use Rattle.types.specs.Defs.{Part, Def}
 use Rattle.types.specs.Digits.{hostName}
+use Rattle.types.specs.Entries.{boolArray, storedTy, storedCount, resolved}
 use Rattle.types.specs.Handle.{foldFrom}
 use Rattle.types.specs.Layout.{accessOk, isBool, alignUp, times, boolAt, otherAt, opened, nextBit, closed}
 use Rattle.types.specs.Layout.{startOf, endOf, placeBool, placeOther, placed}
@@ -33,19 +34,10 @@ use Rattle.types.specs.Waste.{visibleBits, wasteOf}
 
 -- ---- declared members, and what is asked of their layout
 
--- so many elements of an atomic type; no name is asked for
+-- a member of an atomic type with a dim, as a book declares it; no name is asked for
 unfoldable pub declared : AtomicType → ℕ → Decl
-unfolding sizeOf
-declared a n =
-    record {
-      name = record { at = 0; long = 0 };
-      ty = Atomic a;
-      size = sizeOf a;
-      align = min (sizeOf a) 4;
-      count = n;
-      local = false;
-      access = 0;
-    }
+unfolding resolved storedTy storedCount boolArray isBool sizeOf
+declared a dim = resolved (λ n. 0) (Atomic a) dim (record { at = 0; long = 0 }) false 0
 
 abbrev pub bool : Decl
 bool = declared BOOL 0
@@ -53,9 +45,8 @@ bool = declared BOOL 0
 abbrev pub sint : Decl
 sint = declared SInt 0
 
--- BOOL with a dim becomes ceil(dim / 32) DWORDs
 abbrev pub boolDim : ℕ → Decl
-boolDim dim = declared DWord ((dim + 31) / 32)
+boolDim dim = declared BOOL dim
 
 -- what a case opens to compute one step
 unfoldable pub step : Cursor → Decl → Placed
