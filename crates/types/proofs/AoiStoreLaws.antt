@@ -1,6 +1,5 @@
 -- Laws of a stored AOI: its hosts, EnableIn and EnableOut, and its declared members have room one after the other,
--- and are
--- its parts.
+-- and are its parts.
 use Prim.Native.Nat.{ℕ, _+_, _*_, _≤_}
 use native.Mathlib.Omega.{arith}
 use mathlib.Core.Path.{_≡_, refl, sym, ap, _∙_}

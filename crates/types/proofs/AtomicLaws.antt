@@ -1,6 +1,5 @@
 -- Laws of the atomic types: places and atomics name each other; the code's table is the definition's rows; a search
--- over
--- the fifteen goes one after the other.
+-- over the fifteen goes one after the other.
 use Prim.Native.Nat.{ℕ, zero, suc, _+_, _≤_, _<_}
 use native.Mathlib.Nat.{not-suc-le-zero, le-of-suc-le-suc}
 use native.Mathlib.Numerals.{add-one}

@@ -1,6 +1,6 @@
 -- A book's declared members whose types were found are what the theorems about layouts ask for: of earlier types,
--- with those
--- types' sizes, and with names as long as their entries say. So every layout that the code measures is laid out well.
+-- with those types' sizes, and with names as long as their entries say. So every layout that the code measures is
+-- laid out well.
 use Prim.Native.Nat.{ℕ, zero, suc, _+_, _*_, _<_, _≤_}
 use native.Mathlib.Omega.{arith}
 use mathlib.Core.Path.{_≡_, refl}

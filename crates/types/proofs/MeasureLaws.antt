@@ -1,6 +1,5 @@
 -- Laws of the first pass of a layout: the ways out of one member, the members that are left, and how far a cursor can
--- have
--- come.
+-- have come.
 use Prim.Native.Nat.{ℕ, _+_, _≤_}
 use native.Mathlib.Omega.{arith}
 use mathlib.Core.Path.{_≡_, refl, sym, ap, _∙_}

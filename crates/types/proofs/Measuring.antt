@@ -63,7 +63,8 @@ module _ {types book tys name : List ℕ} {at n n₀ names j : ℕ} {c₀ c : Cu
       pub refused-far : one ≡ TooFar → TooFar ≡ measured (hostName name) c₀ n₀ (declsFrom types book tys at 0 n)
       refused-far q = sym (split ∙ measured-far (hostName name) c names _ _ (sym e ∙ q))
 
-      pub goes-on : {c′ : Cursor} {n′ : ℕ} → one ≡ Laid c′ n′ → Measuring types book tys name at n c₀ n₀ c′ n′ (j + 1)
+      pub goes-on : {c′ : Cursor} {n′ : ℕ} → one ≡ Laid c′ n′
+          → Measuring types book tys name at n c₀ n₀ c′ n′ (j + 1)
       goes-on {c′} {n′} q =
           let f : m .passed + j + 1 ≡ m .passed + (j + 1) = omega arith in
           record {

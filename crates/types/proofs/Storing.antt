@@ -1,6 +1,5 @@
 -- What the second pass of a layout keeps from one member to the next: all rows and names stand once those that are
--- left are
--- stored after the others.
+-- left are stored after the others.
 use Prim.Native.Nat.{ℕ, _+_, _-_, _*_, _<_, _≤_}
 use native.Mathlib.Nat.{add-zero, sub-zero}
 use native.Mathlib.Omega.{arith}

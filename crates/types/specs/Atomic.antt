@@ -1,6 +1,5 @@
 -- The atomic types (document 01, "Atomic types"): codes, sizes and names in the document's order, and the atomic of a
--- name
--- or of a code.
+-- name or of a code.
 use Prim.Native.Nat.{ℕ, _-_, _<_}
 use mathlib.Core.Path.{_≡_}
 use mathlib.Core.Bool.{Bool, true, false, cond, not, _&&_}
@@ -19,7 +18,8 @@ use Rattle.types.specs.Names.{sameName}
 -- the fifteen, in order
 abbrev pub atomics : List Atomic
 atomics =
-    BOOL ∷ SInt ∷ Int ∷ DInt ∷ LInt ∷ USInt ∷ UInt ∷ UDInt ∷ ULInt ∷ Real ∷ LReal ∷ Byte ∷ Word ∷ DWord ∷ LWord ∷ []
+    BOOL ∷ SInt ∷ Int ∷ DInt ∷ LInt ∷ USInt ∷ UInt ∷ UDInt ∷ ULInt ∷ Real ∷ LReal
+    ∷ Byte ∷ Word ∷ DWord ∷ LWord ∷ []
 
 -- the atomic at a place of the list, BOOL past its end
 unfoldable pub atomicAt : ℕ → Atomic
@@ -46,7 +46,8 @@ numOf LWord = 14
 -- codes C1 to CB, and D1 to D4
 abbrev codes : List ℕ
 codes =
-    0xC1 ∷ 0xC2 ∷ 0xC3 ∷ 0xC4 ∷ 0xC5 ∷ 0xC6 ∷ 0xC7 ∷ 0xC8 ∷ 0xC9 ∷ 0xCA ∷ 0xCB ∷ 0xD1 ∷ 0xD2 ∷ 0xD3 ∷ 0xD4 ∷ []
+    0xC1 ∷ 0xC2 ∷ 0xC3 ∷ 0xC4 ∷ 0xC5 ∷ 0xC6 ∷ 0xC7 ∷ 0xC8 ∷ 0xC9 ∷ 0xCA ∷ 0xCB
+    ∷ 0xD1 ∷ 0xD2 ∷ 0xD3 ∷ 0xD4 ∷ []
 
 -- sizes 1, 1, 2, 4, 8, 1, 2, 4, 8, 4, 8, 1, 2, 4, 8
 abbrev sizes : List ℕ

@@ -1,6 +1,5 @@
 -- The declaration book (document 01, "Declaration book"): a table of contents, then the bodies; its entries, and when
--- the
--- whole is well formed.
+-- the whole is well formed.
 use Prim.Native.Nat.{ℕ, zero, suc, _+_, _*_, _/_, _%_, _<_, _^_}
 use mathlib.Core.Path.{_≡_}
 use mathlib.Core.Bool.{Bool, true, _&&_, _||_}
@@ -20,8 +19,7 @@ abbrev pub membersIn : List ℕ → ℕ
 membersIn s = wordAt 2 s 2
 
 -- T type entries of 16 bytes: name place u32, name length u8, flags u8, template id u16, string length u32, member
--- count
--- u16, u16 zero
+-- count u16, u16 zero
 unfoldable pub typeEntry : List ℕ → ℕ → TypeEntry
 typeEntry s i =
     record {
@@ -34,17 +32,19 @@ typeEntry s i =
     }
 
 -- then M member entries of 16: name place u32, name length u8, type name length u8, local u8, access u8, dim u32,
--- type name
--- place u32
-unfoldable pub memberEntry : List ℕ → ℕ → ℕ → MemberEntry
-memberEntry s t i =
+-- type name place u32
+abbrev pub entryAt : List ℕ → ℕ → MemberEntry
+entryAt s at =
     record {
-      name = record { at = wordAt 4 s (4 + 16 * t + 16 * i); long = wordAt 1 s (4 + 16 * t + 16 * i + 4) };
-      ty = record { at = wordAt 4 s (4 + 16 * t + 16 * i + 12); long = wordAt 1 s (4 + 16 * t + 16 * i + 5) };
-      local = wordAt 1 s (4 + 16 * t + 16 * i + 6);
-      access = wordAt 1 s (4 + 16 * t + 16 * i + 7);
-      dim = wordAt 4 s (4 + 16 * t + 16 * i + 8);
+      name = record { at = wordAt 4 s at; long = wordAt 1 s (at + 4) };
+      ty = record { at = wordAt 4 s (at + 12); long = wordAt 1 s (at + 5) };
+      local = wordAt 1 s (at + 6);
+      access = wordAt 1 s (at + 7);
+      dim = wordAt 4 s (at + 8);
     }
+
+abbrev pub memberEntry : List ℕ → ℕ → ℕ → MemberEntry
+memberEntry s t i = entryAt s (4 + 16 * t + 16 * i)
 
 -- the bodies begin after both
 abbrev pub bodiesAt : List ℕ → ℕ

@@ -1,6 +1,5 @@
 -- A structure with everything that a caller may ask of it, and the structure that the tables hold at a row: its name
--- and
--- the names of its members as bytes, its members as values.
+-- and the names of its members as bytes, its members as values.
 use Prim.Native.Nat.{ℕ, zero, suc, _+_, _<_, _≤_}
 use mathlib.Core.Path.{_≡_}
 use mathlib.Core.List.{List, [], _∷_}

@@ -1,18 +1,18 @@
 -- Declared members whose types were found (document 01, "Declaration book" and "Layout"): a book's entry as a
--- declaration, and
--- those of one type, in order.
+-- declaration, and those of one type, in order.
 use Prim.Native.Nat.{ℕ, zero, suc, _+_, _*_, _/_, _<_, _≤_, min}
 use mathlib.Core.Bool.{Bool, cond, not, _&&_}
 use mathlib.Core.List.{List, [], _∷_}
 use lib.Dec.{eqb}
 use lib.ListN.{length, getD}
-use Rattle.words.specs.Words.{wordAt}
 use Rattle.types.specs.declared.atomic.Atomic.the-variants.{DWord}
+use Rattle.types.specs.declared.book.MemberEntry.{MemberEntry}
 use Rattle.types.specs.declared.layout.Decl.{Decl}
 use Rattle.types.specs.declared.member.Span.{Span}
 use Rattle.types.specs.declared.member.Ty.{Ty}
 use Rattle.types.specs.declared.member.Ty.the-variants.{Atomic, Struct}
 use Rattle.types.specs.Atomic.{sizeOf}
+use Rattle.types.specs.Book.{entryAt}
 use Rattle.types.specs.Layout.{isBool}
 use Rattle.types.specs.Tables.{TyFits, tyOf}
 use Rattle.types.specs.Waste.{sizeIn, sizesIn}
@@ -49,15 +49,12 @@ plain sizes ty count name local access =
 unfoldable pub resolved : (ℕ → ℕ) → Ty → ℕ → Span → Bool → ℕ → Decl
 resolved sizes ty dim name local access = plain sizes (storedTy ty dim) (storedCount ty dim) name local access
 
--- the j-th entry of 16 bytes: name place u32, name length u8, type name length u8, local u8, access u8, dim u32, type
--- name place
--- u32; its type is the j-th of those found
+abbrev pub declared : (ℕ → ℕ) → Ty → MemberEntry → Decl
+declared sizes ty e = resolved sizes ty (e .dim) (e .name) (eqb (e .local) 1) (e .access)
+
+-- a type's members stand one after the other from a place on; the type of the j-th is the j-th of those found
 unfoldable pub declAt : List ℕ → List ℕ → List ℕ → ℕ → ℕ → Decl
-declAt types book tys at j =
-    resolved (sizesIn types) (tyOf (getD tys j 0)) (wordAt 4 book (at + 16 * j + 8))
-    (record { at = wordAt 4 book (at + 16 * j); long = wordAt 1 book (at + 16 * j + 4) })
-    (eqb (wordAt 1 book (at + 16 * j + 6)) 1)
-    (wordAt 1 book (at + 16 * j + 7))
+declAt types book tys at j = declared (sizesIn types) (tyOf (getD tys j 0)) (entryAt book (at + 16 * j))
 
 -- n of them, from the j-th on
 unfoldable pub declsFrom : List ℕ → List ℕ → List ℕ → ℕ → ℕ → ℕ → List Decl

@@ -61,8 +61,7 @@ boolAt d byte bit =
       bit = At bit;
       hidden = false;
       local = d .local;
-      access = d
-          .access;
+      access = d .access;
     }
 
 -- any other declared member at an offset
@@ -75,8 +74,7 @@ otherAt d o =
       bit = None;
       hidden = false;
       local = d .local;
-      access = d
-          .access;
+      access = d .access;
     }
 
 -- a hidden host opens at the current offset, which grows by 1, and the BOOL takes its bit 0
@@ -91,8 +89,7 @@ nextBit c d byte bit host =
     One (boolAt d byte bit) (record { offset = c .offset; host = host; members = c .members + 1 })
 
 -- a BOOL takes the next bit of the open host; with no host, or eight used, a host opens. In an AOI the i-th BOOL is
--- at byte
--- 4 * floor(i / 32) + floor((i mod 32) / 8), bit i mod 8
+-- at byte 4 * floor(i / 32) + floor((i mod 32) / 8), bit i mod 8
 unfoldable pub placeBool : Host → Cursor → Decl → Placed
 placeBool Closed c d = opened c d
 placeBool (Open byte bit) c d = cond (ltb bit 8) (nextBit c d byte bit (Open byte (bit + 1))) (opened c d)

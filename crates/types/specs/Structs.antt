@@ -1,6 +1,5 @@
 -- Whole layouts (document 01, "Layout"): a UDT's and an AOI's parts from their declared members, a string's and the
--- predefined
--- types' parts, and their sizes.
+-- predefined types' parts, and their sizes.
 use Prim.Native.Nat.{ℕ, zero, suc, _+_, _-_, _*_, _/_, _%_, _^_, _<_, _≤_}
 use mathlib.Core.Path.{_≡_}
 use mathlib.Core.Bool.{Bool, true, false, cond}

@@ -4,7 +4,7 @@ ghost use mathlib.Core.Path.{_≡_};
 ghost use Prim.Native.Nat.{_+_, _*_, _<_, _≤_};
 ghost use mathlib.Core.Bool.{_||_};
 ghost use lib.ListN.{length};
-ghost use Rattle.types.specs.Book.{typeEntry, memberEntry, inBodies, typeOk, memberOk, every, listFrom};
+ghost use Rattle.types.specs.Book.{typeEntry, entryAt, memberEntry, inBodies, typeOk, memberOk, every, listFrom};
 ghost use Rattle.types.specs.Book.{CountsSum, bookOk};
 use crate::member::Span;
 use words::load8;
@@ -32,7 +32,8 @@ pub struct MemberEntry {
     pub dim: u32,
 }
 
-fn wide16(x: u16) -> usize
+// A count of entries.
+fn count_of(x: u16) -> usize
     ensures { λ r. ⌜ (r ≡ x) × (r < 65536) ⌝ }
 {
     x as usize
@@ -61,12 +62,11 @@ pub fn type_entry(book: &[u8], i: usize) -> TypeEntry
     }
 }
 
-// The i-th member entry of a book with t types.
-pub fn member_entry(book: &[u8], t: usize, i: usize) -> MemberEntry
-    requires { ⌜ 20 + 16 * t + 16 * i ≤ length (now book) ⌝ }
-    ensures { λ r. ⌜ r ≡ memberEntry (now (book .entry)) t i ⌝ }
+// The member entry at a place.
+pub fn entry_at(book: &[u8], at: usize) -> MemberEntry
+    requires { ⌜ at + 16 ≤ length (now book) ⌝ }
+    ensures { λ r. ⌜ r ≡ entryAt (now (book .entry)) at ⌝ }
 {
-    let at = 4 + 16 * t + 16 * i;
     let place = load32(book, at);
     let long = wide8(load8(book, at + 4));
     let type_long = wide8(load8(book, at + 5));
@@ -84,6 +84,14 @@ pub fn member_entry(book: &[u8], t: usize, i: usize) -> MemberEntry
         access,
         dim,
     }
+}
+
+// The i-th member entry of a book with t types.
+pub fn member_entry(book: &[u8], t: usize, i: usize) -> MemberEntry
+    requires { ⌜ 20 + 16 * t + 16 * i ≤ length (now book) ⌝ }
+    ensures { λ r. ⌜ r ≡ memberEntry (now (book .entry)) t i ⌝ }
+{
+    entry_at(book, 4 + 16 * t + 16 * i)
 }
 
 // A name lies wholly in the bodies; one of length 0 may lie at their end.
@@ -173,7 +181,7 @@ fn sum_counts(book: &[u8], n: usize) -> usize
     let mut i: usize = 0;
     while i < n {
         let e = type_entry(book, i);
-        sum += wide16(e.count);
+        sum += count_of(e.count);
         i += 1;
     }
     sum
@@ -205,8 +213,8 @@ pub fn book_ok(book: &[u8]) -> bool
     if book.len() < 4 {
         return false;
     }
-    let t = wide16(load16(book, 0));
-    let m = wide16(load16(book, 2));
+    let t = count_of(load16(book, 0));
+    let m = count_of(load16(book, 2));
     let start = 4 + 16 * t + 16 * m;
     if book.len() < start {
         return false;

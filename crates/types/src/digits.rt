@@ -6,6 +6,7 @@ ghost use lib.ListN.{length};
 ghost use lib.Seq.{sets};
 ghost use Rattle.types.specs.Digits.{Spelled, HostLong, TwoDigits, hostName};
 use crate::tables::NameTable;
+use words::copy;
 
 // A number's digits: the first `long` of these bytes.
 pub struct Digits {
@@ -67,16 +68,12 @@ fn spell(x: u32) -> Digits
     }
 }
 
-// Stores bytes from a place on; the other bytes stay.
+// Bytes among the names, from a place on; the other bytes stay.
 pub fn put_bytes(names: &mut NameTable, at: usize, s: &[u8])
     requires { ⌜ at + length (now s) ≤ 32768 ⌝ }
     ensures { λ _. ⌜ now (names .exit) ≡ sets (now (names .entry)) at (now (s .entry)) ⌝ }
 {
-    let mut i: usize = 0;
-    while i < s.len() {
-        names[at + i] = s[i];
-        i += 1;
-    }
+    copy(names, at, s);
 }
 
 fn at_most_ten(n: usize) -> usize

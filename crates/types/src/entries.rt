@@ -6,6 +6,7 @@ ghost use Rattle.types.specs.Entries.{plain as plainOf, resolved as reso
 ghost use Rattle.types.specs.Waste.{sizesIn};
 ghost use Rattle.types.specs.Tables.{TyFits};
 use crate::atomic::Atomic;
+use crate::book::entry_at;
 use crate::layout::Decl;
 use crate::layout::is_bool;
 use crate::member::Span;
@@ -13,8 +14,6 @@ use crate::member::Ty;
 use crate::tables::TypeTable;
 use crate::tables::ty_of;
 use crate::tables::type_at;
-use words::load8;
-use words::load32;
 use words::wide8;
 use words::wide16;
 
@@ -89,12 +88,8 @@ pub fn decl_at(types: &TypeTable, book: &[u8], tys: &[u16], at: usize, j: usize)
     requires { ⌜ Found (now book) (now tys) at (j + 1) ⌝ }
     ensures { λ r. ⌜ r ≡ declAt (now (types .entry)) (now (book .entry)) (now (tys .entry)) at j ⌝ }
 {
-    let entry = at + 16 * j;
-    let place = load32(book, entry);
-    let long = wide8(load8(book, entry + 4));
-    let local = load8(book, entry + 6);
-    let access = load8(book, entry + 7);
-    let dim = load32(book, entry + 8);
+    let e = entry_at(book, at + 16 * j);
     let ty = ty_of(wide16(tys[j]));
-    resolved(types, ty, dim, Span { at: place, long }, local == 1, access)
+    let name = e.name;
+    resolved(types, ty, e.dim, name, e.local == 1, e.access)
 }

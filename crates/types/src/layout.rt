@@ -8,6 +8,7 @@ use crate::member::Bit;
 use crate::member::Member;
 use crate::member::Span;
 use crate::member::Ty;
+use words::wide64;
 
 // The most bytes of a member's end.
 const MOST: u64 = 67108864;
@@ -53,12 +54,6 @@ pub enum Placed {
     TooFar,
 }
 
-pub fn wide(x: u32) -> u64
-    ensures { λ r. ⌜ r ≡ x ⌝ }
-{
-    x as u64
-}
-
 // How many elements a count stands for: 0 is one.
 pub fn elements(count: u32) -> u64
     ensures { λ r. ⌜ Times count r ⌝ }
@@ -66,14 +61,14 @@ pub fn elements(count: u32) -> u64
     if count == 0 {
         return 1;
     }
-    wide(count)
+    wide64(count)
 }
 
 // The end of a member of `count` elements of `size` bytes each at `offset`, where it is not past 2^26.
 pub fn member_end(offset: u32, size: u32, count: u32) -> End
     ensures { λ r. ⌜ r ≡ memberEnd offset size count ⌝ }
 {
-    let end = wide(offset) + wide(size) * elements(count);
+    let end = wide64(offset) + wide64(size) * elements(count);
     if end <= MOST {
         return End::At(end as u32);
     }
@@ -188,7 +183,7 @@ fn place_bool(c: Cursor, d: Decl) -> Placed
     }
 }
 
-// What lies at an offset once the host is closed: an AOI's hosts are shared to the end.
+// The host after any other member: none is open. An AOI's hosts are shared to the end.
 fn close(host: Host) -> Host
     ensures { λ r. ⌜ r ≡ closed host ⌝ }
 {

@@ -6,24 +6,13 @@ ghost use lib.ListN.{length};
 ghost use lib.Seq.{sets};
 ghost use Rattle.types.specs.Sink.{Room, Emitted};
 use crate::handle::fold_handle;
+use words::copy;
 
 // How many bytes came, the fold over them, and whether they are stored.
 pub struct Sink {
     pub at: usize,
     pub fold: u16,
     pub writes: bool,
-}
-
-// Stores bytes at a place; the others are kept.
-fn copy(out: &mut [u8], at: usize, s: &[u8])
-    requires { ⌜ at + length (now s) ≤ length (now out) ⌝ }
-    ensures { λ _. ⌜ now (out .exit) ≡ sets (now (out .entry)) at (now (s .entry)) ⌝ }
-{
-    let mut i: usize = 0;
-    while i < s.len() {
-        out[at + i] = s[i];
-        i += 1;
-    }
 }
 
 // Some more bytes come.

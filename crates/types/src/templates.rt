@@ -27,6 +27,7 @@ use crate::tables::NameTable;
 use crate::tables::TYPES;
 use crate::tables::TypeTable;
 use crate::tables::type_at;
+use words::wide;
 
 // A template's length, or why there is none.
 pub enum Wrote {
@@ -142,10 +143,9 @@ pub fn write_template(
 
 // The object definition size of a template of n bytes.
 pub fn object_definition_size(n: u32) -> u32
-    requires { ⌜ n < 0x8000_0000 ⌝ }
     ensures { λ r. ⌜ r ≡ objectSize n ⌝ }
 {
-    (n + 23 + 3) / 4
+    ((wide(n) + 23 + 3) / 4) as u32
 }
 
 // The template of the structure with a number.

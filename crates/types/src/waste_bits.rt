@@ -6,7 +6,6 @@ ghost use mathlib.Core.List.{List};
 ghost use Rattle.types.specs.Tables.{TyFits};
 ghost use Rattle.types.specs.Waste.{sizeIn, sizesIn, Fitting, SeenBits, Countable, wasteIn};
 use crate::layout::elements;
-use crate::layout::wide;
 use crate::member::Bit;
 use crate::member::Member;
 use crate::member::StructDef;
@@ -15,12 +14,8 @@ use crate::tables::MemberTable;
 use crate::tables::TypeTable;
 use crate::tables::member_at;
 use crate::tables::type_at;
-
-fn row(x: u32) -> usize
-    ensures { λ r. ⌜ r ≡ x ⌝ }
-{
-    x as usize
-}
+use words::wide;
+use words::wide64;
 
 // The bytes of a type.
 fn size_in(types: &TypeTable, ty: Ty) -> u64
@@ -31,7 +26,7 @@ fn size_in(types: &TypeTable, ty: Ty) -> u64
         Ty::Atomic(a) => a.size() as u64,
         Ty::Struct(n) => {
             let d = type_at(types, n);
-            wide(d.size)
+            wide64(d.size)
         }
     }
 }
@@ -64,9 +59,9 @@ pub fn waste(types: &TypeTable, members: &MemberTable, d: StructDef) -> u64
     requires { ⌜ Countable (now types) (now members) d ⌝ }
     ensures { λ r. ⌜ ((names : List ℕ) → r ≡ wasteIn (now (types .entry)) (now (members .entry)) names d) ⌝ }
 {
-    let first = row(d.first);
-    let n = row(d.count);
-    let total = 8 * wide(d.size);
+    let first = wide(d.first);
+    let n = wide(d.count);
+    let total = 8 * wide64(d.size);
     let mut bits: u64 = 0;
     let mut i: usize = 0;
     while i < n {

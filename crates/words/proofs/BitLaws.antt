@@ -1,6 +1,5 @@
 -- Laws of bits: of a number, of a list of bytes, of bits put over others; one bit set or cleared; a word as the
--- number of
--- its bits.
+-- number of its bits.
 use Prim.Native.Nat.{ℕ, zero, suc, _+_, _-_, _*_, _/_, _%_, _^_, _≤_, _<_, min, max}
 use native.Mathlib.Nat.{zero-add, suc-add, pow-suc, pow-succ', mul-assoc, mul-comm, div-div-eq-div-mul, div-one}
 use native.Mathlib.Nat.{one-mul, mod-eq-of-lt}

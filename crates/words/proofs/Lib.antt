@@ -2,3 +2,4 @@
 pub mod Lists
 pub mod WordLaws
 pub mod BitLaws
+pub mod Copying

@@ -1,6 +1,5 @@
 -- Laws of a run of stores (`sets`) and of a part of a list (`part`), over any element. A run of stores changes just
--- its own
--- places; runs that meet are one run; a part is read from the front, one element after the other.
+-- its own places; runs that meet are one run; a part is read from the front, one element after the other.
 use Prim.Native.Nat.{ℕ, zero, suc, _+_, _-_, _≤_, _<_, min}
 use native.Mathlib.Decide.{decLe}
 use native.Mathlib.Nat.{add-zero, add-sub-cancel-left}
@@ -92,17 +91,6 @@ module _ {A : Type 0} where
       let e6 : a + 6 ≡ suc (suc (suc (suc (suc (suc a))))) = omega arith in
       let e7 : a + 7 ≡ suc (suc (suc (suc (suc (suc (suc a)))))) = omega arith in
       rw (e1, e2, e3, e4, e5, e6, e7)
-
-  -- one element of a copy from the front, and a copy that is done
-  pub copy-on : (l s : List A) (at i : ℕ) (d : A) → i < length s
-      → sets l (at + i) (drop i s) ≡ sets (set l (at + i) (getD s i d)) (at + (i + 1)) (drop (i + 1) s)
-  copy-on l s at i d h =
-      let e : at + (i + 1) ≡ suc (at + i) = omega arith in
-      let f : i + 1 ≡ suc i = omega arith in
-      rw (e, f, drop-cons s i d h)
-
-  pub copy-done : (l s : List A) (at i : ℕ) → length s ≤ i → sets l at (drop i s) ≡ l
-  copy-done l s at i h = rw (drop-of-length-le s h)
 
   -- at most n elements, whichever way the count is given
   pub take-least : (n : ℕ) (l : List A) → take (min n (length l)) l ≡ take n l

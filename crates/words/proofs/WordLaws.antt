@@ -1,6 +1,5 @@
 -- Laws of little-endian words, over the width: a word is its two halves, in a list and as bytes; what was stored is
--- loaded;
--- what was loaded can be stored again.
+-- loaded; what was loaded can be stored again.
 use Prim.Native.Nat.{ℕ, zero, suc, _+_, _-_, _*_, _/_, _%_, _^_, _≤_, _<_}
 use native.Mathlib.Nat.{add-zero, zero-add, suc-add, pow-suc, pow-succ', mul-assoc, mul-comm, div-div-eq-div-mul}
 use native.Mathlib.Nat.{one-le-pow, mod-one, div-one}

@@ -1,5 +1,5 @@
-// Little-endian words written to a place of a slice, a half after the other: the bytes around them
-// are kept.
+// Little-endian words written to a place of a slice, a half after the other, and copies of whole slices:
+// the bytes around them are kept.
 ghost use mathlib.Core.Path.{_≡_};
 ghost use Prim.Native.Nat.{_+_, _≤_, _/_, _%_, _^_};
 ghost use lib.ListN.{length};
@@ -72,4 +72,16 @@ pub fn store64(s: &mut [u8], at: usize, x: u64)
 {
     store32(s, at, low32(x));
     store32(s, at + 4, high32(x));
+}
+
+// Some bytes at a place.
+pub fn copy(out: &mut [u8], at: usize, s: &[u8])
+    requires { ⌜ at + length (now s) ≤ length (now out) ⌝ }
+    ensures { λ _. ⌜ now (out .exit) ≡ sets (now (out .entry)) at (now (s .entry)) ⌝ }
+{
+    let mut i: usize = 0;
+    while i < s.len() {
+        out[at + i] = s[i];
+        i += 1;
+    }
 }

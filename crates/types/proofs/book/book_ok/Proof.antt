@@ -10,13 +10,13 @@ use Rattle.types.proofs.book.book_ok.Statement.{statement}
 use Rattle.types.proofs.book.book_ok.Tie as tie
 
 -- T and M, as they were read
-types-in : (c : tie.After-wide162)
-    → c .before .before .wide16 .result ≡ typesIn (c .before .before .before .before .before .before .args .book .now)
-types-in c = c .before .before .wide16 .ensures .0 ∙ c .before .before .before .load16 .ensures
+types-in : (c : tie.After-count-of2)
+    → c .before .before .count-of .result ≡ typesIn (c .before .before .before .before .before .before .args .book .now)
+types-in c = c .before .before .count-of .ensures .0 ∙ c .before .before .before .load16 .ensures
 
-members-in : (c : tie.After-wide162)
-    → c .wide162 .result ≡ membersIn (c .before .before .before .before .before .before .args .book .now)
-members-in c = c .wide162 .ensures .0 ∙ c .before .load162 .ensures
+members-in : (c : tie.After-count-of2)
+    → c .count-of2 .result ≡ membersIn (c .before .before .before .before .before .before .args .book .now)
+members-in c = c .count-of2 .ensures .0 ∙ c .before .load162 .ensures
 
 -- the check of the type entries, and the sum of their counts
 checked : (c : tie.After-types-ok)
@@ -36,14 +36,14 @@ returns c = book-short (c .before .before .args .book .now) (c .if1 .taken)
 load16-requires : tie.Need-load16-requires
 load16-requires c κs = search needs
 
-wide16-requires : tie.Need-wide16-requires
-wide16-requires c κs = search needs
+count-of-requires : tie.Need-count-of-requires
+count-of-requires c κs = search needs
 
 load16-requires-2 : tie.Need-load16-requires-2
 load16-requires-2 c κs = search needs
 
-wide16-requires-2 : tie.Need-wide16-requires-2
-wide16-requires-2 c κs = search needs
+count-of-requires-2 : tie.Need-count-of-requires-2
+count-of-requires-2 c κs = search needs
 
 mul-start : tie.Need-mul-start
 mul-start c = search needs
@@ -110,9 +110,9 @@ book-ok-spec =
     (tie.spec
     returns
     load16-requires
-    wide16-requires
+    count-of-requires
     load16-requires-2
-    wide16-requires-2
+    count-of-requires-2
     mul-start
     add-start
     mul-start-2

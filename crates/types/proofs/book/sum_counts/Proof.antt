@@ -20,8 +20,8 @@ loop-holds c = sum-start (c .before .args .book .now) (c .before .args .n)
 type-entry-requires : tie.Need-type-entry-requires Inv-loop μ-loop
 type-entry-requires c κs = omega (arith, c .before .before .before .pre .0, c .loop-test .taken)
 
-wide16-requires : tie.Need-wide16-requires Inv-loop μ-loop
-wide16-requires c κs = search needs
+count-of-requires : tie.Need-count-of-requires Inv-loop μ-loop
+count-of-requires c κs = search needs
 
 add-sum : tie.Need-add-sum Inv-loop μ-loop
 add-sum c =
@@ -29,7 +29,7 @@ add-sum c =
       arith,
       c .before .before .before .loop .inv .small,
       c .before .before .before .loop .inv .done,
-      c .wide16
+      c .count-of
           .ensures .1,
       c .before .before .before .before .before .pre .1,
     )
@@ -44,7 +44,7 @@ loop-again : tie.Need-loop-again Inv-loop μ-loop
 loop-again c =
     let at-loop = c .before .before .before in
     sum-on (at-loop .loop .inv) (c .before .before .loop-test .taken)
-    (c .wide16 .ensures .0 ∙ ap (λ (e : TypeEntry). e .count) (c .before .type-entry .ensures)) (c .wide16 .ensures .1)
+    (c .count-of .ensures .0 ∙ ap (λ (e : TypeEntry). e .count) (c .before .type-entry .ensures)) (c .count-of .ensures .1)
 
 returns : tie.Need-returns Inv-loop μ-loop
 returns c = sum-done (c .before .loop .inv) (c .loop-test .left)
@@ -57,7 +57,7 @@ sum-counts-spec =
     μ-loop
     loop-holds
     type-entry-requires
-    wide16-requires
+    count-of-requires
     add-sum
     add-i
     loop-less

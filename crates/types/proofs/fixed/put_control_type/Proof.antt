@@ -1,5 +1,5 @@
--- `types::put_control_type` meets its contract: CONTROL's names, in the document's order, are the
--- parts of the two byte strings.
+-- `types::put_control_type` meets its contract: CONTROL's names, in the document's order, are the parts of the two
+-- byte strings.
 use borrow.Author.Needs.{needs}
 use Rattle.words.specs.Words.{part}
 use Rattle.types.specs.Structs.{pairs, controlTypeParts}

@@ -8,19 +8,19 @@ use Rattle.types.proofs.LayoutLaws.{product-most, end-at, end-over}
 use Rattle.types.proofs.layout.member_end.Statement.{statement}
 use Rattle.types.proofs.layout.member_end.Tie as tie
 
-product : (c : tie.After-elements) → c .before .wide2 .result * c .elements .result ≤ 0xFFFF_FFFE_0000_0001
+product : (c : tie.After-elements) → c .before .wide642 .result * c .elements .result ≤ 0xFFFF_FFFE_0000_0001
 product c = product-most (omega arith) (c .elements .ensures .small)
 
-sum : (c : tie.After-elements) → c .before .before .wide .result + c .before .wide2 .result * c .elements .result
+sum : (c : tie.After-elements) → c .before .before .wide64 .result + c .before .wide642 .result * c .elements .result
     ≡ c .before .before .before .args .offset + c .before .before .before .args .size * times
     (c .before .before .before .args .count)
-sum c = rw (c .before .before .wide .ensures, c .before .wide2 .ensures, c .elements .ensures .is)
+sum c = rw (c .before .before .wide64 .ensures, c .before .wide642 .ensures, c .elements .ensures .is)
 
-wide-requires : tie.Need-wide-requires
-wide-requires c κs = search needs
+wide64-requires : tie.Need-wide64-requires
+wide64-requires c κs = search needs
 
-wide-requires-2 : tie.Need-wide-requires-2
-wide-requires-2 c κs = search needs
+wide64-requires-2 : tie.Need-wide64-requires-2
+wide64-requires-2 c κs = search needs
 
 elements-requires : tie.Need-elements-requires
 elements-requires c κs = search needs
@@ -48,8 +48,8 @@ pub member-end-spec : {M : Type 1} → statement M
 member-end-spec =
     tie.close
     (tie.spec
-    wide-requires
-    wide-requires-2
+    wide64-requires
+    wide64-requires-2
     elements-requires
     mul-end
     add-end

@@ -18,14 +18,14 @@ enum-known-ty-2 c = search needs
 type-at-requires : tie.Need-type-at-requires
 type-at-requires c κs = rw (c .before .ty2 .given .1) at (c .before .before .before .pre)
 
-wide-requires : tie.Need-wide-requires
-wide-requires c κs = search needs
+wide64-requires : tie.Need-wide64-requires
+wide64-requires c κs = search needs
 
 returns : tie.Need-returns
 returns c = rw (c .before .before .ty .given .1) (c .size .ensures)
 
 returns-2 : tie.Need-returns-2
-returns-2 c = rw (c .before .before .before .ty2 .given .1, c .wide .ensures, c .before .type-at .ensures)
+returns-2 c = rw (c .before .before .before .ty2 .given .1, c .wide64 .ensures, c .before .type-at .ensures)
 
 pub size-in-spec : {M : Type 1} → statement M
 size-in-spec =
@@ -36,6 +36,6 @@ size-in-spec =
     cast-result
     enum-known-ty-2
     type-at-requires
-    wide-requires
+    wide64-requires
     returns
     returns-2)

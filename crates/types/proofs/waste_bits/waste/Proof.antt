@@ -14,14 +14,14 @@ Inv-loop types members first n total bits₀ i₀ bits i = Counting types member
 abbrev μ-loop : tie.MeasureT-loop
 μ-loop types members first n total bits₀ i₀ bits i = n - i
 
-row-requires : tie.Need-row-requires Inv-loop μ-loop
-row-requires c κs = search needs
-
-row-requires-2 : tie.Need-row-requires-2 Inv-loop μ-loop
-row-requires-2 c κs = search needs
-
 wide-requires : tie.Need-wide-requires Inv-loop μ-loop
 wide-requires c κs = search needs
+
+wide-requires-2 : tie.Need-wide-requires-2 Inv-loop μ-loop
+wide-requires-2 c κs = search needs
+
+wide64-requires : tie.Need-wide64-requires Inv-loop μ-loop
+wide64-requires c κs = search needs
 
 mul-total : tie.Need-mul-total Inv-loop μ-loop
 mul-total c = search needs
@@ -31,14 +31,14 @@ loop-holds c =
     let at-first = c .before .before in
     let at-start = at-first .before in
     let a = at-start .args in
-    count-first (a .types .now) (a .members .now) (at-first .row .result) (c .before .row2 .result)
+    count-first (a .types .now) (a .members .now) (at-first .wide .result) (c .before .wide2 .result)
 
 add-member-at : tie.Need-add-member-at Inv-loop μ-loop
 add-member-at c =
     let at-n = c .before .before .before in
     let at-first = at-n .before in
     let at-start = at-first .before in
-    let inside = row-inside (at-first .row .ensures) (at-n .row2 .ensures) (c .loop-test .taken)
+    let inside = row-inside (at-first .wide .ensures) (at-n .wide2 .ensures) (c .loop-test .taken)
     (at-start .pre .rows) in
     omega arith
 
@@ -47,7 +47,7 @@ member-at-requires c κs =
     let at-n = c .before .before .before in
     let at-first = at-n .before in
     let at-start = at-first .before in
-    row-inside (at-first .row .ensures) (at-n .row2 .ensures) (c .loop-test .taken)
+    row-inside (at-first .wide .ensures) (at-n .wide2 .ensures) (c .loop-test .taken)
     (at-start .pre .rows)
 
 seen-bits-requires : tie.Need-seen-bits-requires Inv-loop μ-loop
@@ -56,7 +56,7 @@ seen-bits-requires c κs =
     let at-first = at-n .before in
     let at-start = at-first .before in
     rw (c .member-at .ensures)
-    (row-fitting (at-first .row .ensures) (at-n .row2 .ensures) (c .before .loop-test .taken) (at-start .pre))
+    (row-fitting (at-first .wide .ensures) (at-n .wide2 .ensures) (c .before .loop-test .taken) (at-start .pre))
 
 add-bits : tie.Need-add-bits Inv-loop μ-loop
 add-bits c =
@@ -65,7 +65,7 @@ add-bits c =
     let at-n = at-loop .before .before in
     let at-first = at-n .before in
     let at-start = at-first .before in
-    let inside = row-inside (at-first .row .ensures) (at-n .row2 .ensures) (turn .loop-test .taken)
+    let inside = row-inside (at-first .wide .ensures) (at-n .wide2 .ensures) (turn .loop-test .taken)
     (at-start .pre .rows) in
     omega (arith, at-loop .loop .inv .small, c .seen-bits .ensures .small)
 
@@ -89,8 +89,8 @@ returns c =
     let at-n = at-size .before in
     let at-first = at-n .before in
     let at-start = at-first .before in
-    let done = count-done (at-loop .loop .inv) (at-start .args .d) (at-first .row .ensures) (at-n .row2 .ensures)
-    (ap (λ (x : ℕ). 8 * x) (at-size .wide .ensures)) (c .before .loop-test .left) in
+    let done = count-done (at-loop .loop .inv) (at-start .args .d) (at-first .wide .ensures) (at-n .wide2 .ensures)
+    (ap (λ (x : ℕ). 8 * x) (at-size .wide64 .ensures)) (c .before .loop-test .left) in
     λ names. omega (arith, done names, c .if1 .taken)
 
 returns-2 : tie.Need-returns-2 Inv-loop μ-loop
@@ -100,8 +100,8 @@ returns-2 c =
     let at-n = at-size .before in
     let at-first = at-n .before in
     let at-start = at-first .before in
-    let done = count-done (at-loop .loop .inv) (at-start .args .d) (at-first .row .ensures) (at-n .row2 .ensures)
-    (ap (λ (x : ℕ). 8 * x) (at-size .wide .ensures)) (c .before .loop-test .left) in
+    let done = count-done (at-loop .loop .inv) (at-start .args .d) (at-first .wide .ensures) (at-n .wide2 .ensures)
+    (ap (λ (x : ℕ). 8 * x) (at-size .wide64 .ensures)) (c .before .loop-test .left) in
     done
 
 pub waste-spec : {M : Type 1} → statement M
@@ -110,9 +110,9 @@ waste-spec =
     (tie.spec
     Inv-loop
     μ-loop
-    row-requires
-    row-requires-2
     wide-requires
+    wide-requires-2
+    wide64-requires
     mul-total
     loop-holds
     add-member-at

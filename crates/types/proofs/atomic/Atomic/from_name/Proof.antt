@@ -1,6 +1,5 @@
 -- `types::Atomic::from_name` meets its contract. The invariant: the first of the fifteen with the name is the first
--- of those
--- that are left.
+-- of those that are left.
 use native.Mathlib.Omega.{arith}
 use borrow.Author.Needs.{needs}
 use Prim.Native.Nat.{ℕ, _+_, _-_, _≤_}

@@ -1,20 +1,7 @@
--- `types::member_entry` meets its contract: each field is read from its own bytes.
+-- `types::entry_at` meets its contract: each field is read from its own bytes.
 use borrow.Author.Needs.{needs}
-use Rattle.types.specs.Book.{memberEntry}
-use Rattle.types.proofs.book.member_entry.Statement.{statement}
-use Rattle.types.proofs.book.member_entry.Tie as tie
-
-mul-at : tie.Need-mul-at
-mul-at c = search needs
-
-add-at : tie.Need-add-at
-add-at c = search needs
-
-mul-at-2 : tie.Need-mul-at-2
-mul-at-2 c = search needs
-
-add-at-2 : tie.Need-add-at-2
-add-at-2 c = search needs
+use Rattle.types.proofs.book.entry_at.Statement.{statement}
+use Rattle.types.proofs.book.entry_at.Tie as tie
 
 load32-requires : tie.Need-load32-requires
 load32-requires c κs = search needs
@@ -62,7 +49,6 @@ load32-requires-3 : tie.Need-load32-requires-3
 load32-requires-3 c κs = search needs
 
 returns : tie.Need-returns
-unfolding memberEntry
 returns c =
     let access = c .before .before in
     let ty = access .before .before in
@@ -79,14 +65,10 @@ returns c =
       long .before .before .load32 .ensures,
     )
 
-pub member-entry-spec : {M : Type 1} → statement M
-member-entry-spec =
+pub entry-at-spec : {M : Type 1} → statement M
+entry-at-spec =
     tie.close
     (tie.spec
-    mul-at
-    add-at
-    mul-at-2
-    add-at-2
     load32-requires
     add-load8
     load8-requires

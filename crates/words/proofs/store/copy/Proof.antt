@@ -1,10 +1,10 @@
--- `types::copy` meets its contract. The invariant: storing all is storing what is left in what stands now.
+-- `words::copy` meets its contract. The invariant: storing all is storing what is left in what stands now.
 use native.Mathlib.Omega.{arith}
 use Prim.Native.Nat.{_-_}
 use lib.ListN.{length}
-use Rattle.types.proofs.SinkLaws.{Copying, copy-start, copy-on, copy-done}
-use Rattle.types.proofs.sink.copy.Statement.{statement}
-use Rattle.types.proofs.sink.copy.Tie as tie
+use Rattle.words.proofs.Copying.{Copying, copy-start, copy-on, copy-done}
+use Rattle.words.proofs.store.copy.Statement.{statement}
+use Rattle.words.proofs.store.copy.Tie as tie
 
 abbrev Inv-loop : tie.InvT-loop
 Inv-loop out₀ at s i₀ out i = Copying out₀ at s out i
