@@ -1,12 +1,21 @@
--- Template ids (document 01, "Ids"): the lowest id in 0x100..0xEFF that no type holds.
-use Prim.Native.Nat.{ℕ, _+_, _*_, _<_, _≤_}
+-- Template ids (document 01, "Ids" and refusals 4 to 6): a given id, or the lowest id in 0x100..0xEFF that no type
+-- holds.
+use Prim.Native.Nat.{ℕ, zero, suc, _+_, _*_, _<_, _≤_}
 use mathlib.Core.Path.{_≡_}
-use mathlib.Core.List.{List}
+use mathlib.Core.Bool.{Bool, false, cond, _&&_, _||_}
+use mathlib.Core.List.{List, [], _∷_}
+use lib.Dec.{eqb, leb, ltb}
 use lib.ListN.{getD}
+use Rattle.types.specs.declared.ids.Picked.{Picked}
+use Rattle.types.specs.declared.ids.Picked.the-variants.{Free, OutsideRange, InUse, NoneFree}
+
+-- the id in a row
+abbrev pub idWord : List ℕ → ℕ → ℕ
+idWord types i = getD types (8 * i + 2) 0
 
 -- one of the first n types holds the id
 abbrev pub Held : List ℕ → ℕ → ℕ → Type 0
-Held types n id = (i : ℕ) × (i < n) × (getD types (8 * i + 2) 0 ≡ id)
+Held types n id = (i : ℕ) × (i < n) × (idWord types i ≡ id)
 
 -- each id below r is held, and r is not; 0xF00 where every id is held
 pub record Lowest (types : List ℕ) (n r : ℕ) : Type 0 where
@@ -14,3 +23,23 @@ pub record Lowest (types : List ℕ) (n r : ℕ) : Type 0 where
   pub high : r ≤ 0xF00
   pub taken : (k : ℕ) → 0x100 ≤ k → k < r → Held types n k
   pub free : r < 0xF00 → Held types n r → ⊥
+
+-- ---- over the list of the ids that are held
+
+unfoldable pub inUse : ℕ → List ℕ → Bool
+inUse id [] = false
+inUse id (x ∷ xs) = eqb x id || inUse id xs
+
+-- the first of m ids from k on that is free, k + m where each is held
+unfoldable pub lowestFrom : List ℕ → ℕ → ℕ → ℕ
+lowestFrom ids k zero = k
+lowestFrom ids k (suc m) = cond (inUse k ids) (lowestFrom ids (k + 1) m) k
+
+unfoldable pub lowestFree : List ℕ → ℕ
+lowestFree ids = lowestFrom ids 0x100 0xE00
+
+-- a given id is outside 0x100..0xEFF (4) or in use (5); where none is given, none is free (6)
+unfoldable pub idFor : List ℕ → Bool → ℕ → Picked
+idFor ids given id =
+    cond given (cond (leb 0x100 id && leb id 0xEFF) (cond (inUse id ids) InUse (Free id)) OutsideRange)
+    (cond (ltb (lowestFree ids) 0xF00) (Free (lowestFree ids)) NoneFree)

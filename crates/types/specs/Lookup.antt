@@ -1,7 +1,7 @@
 -- The type of a name: the atomics first, then the types in order (document 01, "Atomic types"; 000's lookup).
-use Prim.Native.Nat.{ℕ, zero, suc, _+_, _<_, _≤_}
+use Prim.Native.Nat.{ℕ, _+_, _<_, _≤_}
 use mathlib.Core.Bool.{cond}
-use mathlib.Core.List.{List}
+use mathlib.Core.List.{List, [], _∷_}
 use lib.ListN.{length}
 use Rattle.types.specs.declared.atomic.FoundAtomic.{FoundAtomic}
 use Rattle.types.specs.declared.atomic.FoundAtomic.the-variants.{Is as found, Nothing as none}
@@ -9,6 +9,7 @@ use Rattle.types.specs.declared.lookups.FoundTy.{FoundTy}
 use Rattle.types.specs.declared.lookups.FoundTy.the-variants.{Is, Nothing}
 use Rattle.types.specs.declared.member.Ty.the-variants.{Atomic, Struct}
 use Rattle.types.specs.Atomic.{atomicNamed}
+use Rattle.types.specs.Book.{listFrom}
 use Rattle.types.specs.Defs.{nameIn}
 use Rattle.types.specs.Names.{sameName}
 use Rattle.types.specs.Tables.{typeAt}
@@ -17,18 +18,26 @@ use Rattle.types.specs.Tables.{typeAt}
 abbrev pub rowName : List ℕ → List ℕ → ℕ → List ℕ
 rowName types names i = nameIn names (typeAt types i .name)
 
--- the first of n structures with a name, from the i-th on
-unfoldable pub typeNamed : (ℕ → List ℕ) → List ℕ → ℕ → ℕ → FoundTy
-typeNamed nameOf s i zero = Nothing
-typeNamed nameOf s i (suc n) = cond (sameName (nameOf i) s) (Is (Struct i)) (typeNamed nameOf s (i + 1) n)
+-- the first structure with a name; the structures are numbered from i on
+unfoldable pub namedAmong : List (List ℕ) → List ℕ → ℕ → FoundTy
+namedAmong [] s i = Nothing
+namedAmong (x ∷ xs) s i = cond (sameName x s) (Is (Struct i)) (namedAmong xs s (i + 1))
 
 -- an atomic, else the first structure
 abbrev pub atomicOr : FoundAtomic → FoundTy → FoundTy
 atomicOr (found a) other = Is (Atomic a)
 atomicOr none other = other
 
-unfoldable pub typeOf : List ℕ → List ℕ → ℕ → List ℕ → FoundTy
-typeOf types names n s = atomicOr (atomicNamed s) (typeNamed (rowName types names) s 0 n)
+-- the type of a name among structures with those names
+unfoldable pub typeAmong : List (List ℕ) → List ℕ → FoundTy
+typeAmong known s = atomicOr (atomicNamed s) (namedAmong known s 0)
+
+-- the names of the first n structures of the tables
+abbrev pub rowNames : List ℕ → List ℕ → ℕ → List (List ℕ)
+rowNames types names n = listFrom (rowName types names) 0 n
+
+abbrev pub typeOf : List ℕ → List ℕ → ℕ → List ℕ → FoundTy
+typeOf types names n s = typeAmong (rowNames types names n) s
 
 -- the names of the first n structures lie among the names
 pub record NamesInside (types names : List ℕ) (n : ℕ) : Type 0 where

@@ -21,6 +21,7 @@ mod store;
 mod tables;
 mod templates;
 mod udt;
+mod used;
 mod waste_bits;
 
 pub use aoi::measure_aoi;

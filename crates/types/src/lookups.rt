@@ -1,14 +1,17 @@
 // Looking a type up by its name (document 01, "Atomic types": names compare without ASCII case): an atomic
 // first, then the types in order.
 ghost use mathlib.Core.Path.{_≡_};
-ghost use Prim.Native.Nat.{_≤_};
-ghost use Rattle.types.specs.Lookup.{NamesInside, rowName, typeNamed, typeOf};
+ghost use Prim.Native.Nat.{_+_, _<_, _≤_};
+ghost use lib.ListN.{length};
+ghost use Rattle.types.specs.Lookup.{NamesInside, rowName, rowNames, namedAmong, typeOf};
+ghost use Rattle.types.specs.Names.{sameName};
+ghost use Rattle.types.specs.Tables.{typeAt};
 use crate::atomic::Atomic;
 use crate::atomic::FoundAtomic;
 use crate::member::Ty;
 use crate::names::same_name;
+use crate::tables::TYPE_WORDS;
 use crate::tables::TypeTable;
-use crate::tables::type_at;
 use words::wide;
 
 // A type, where one was found.
@@ -17,18 +20,28 @@ pub enum FoundTy {
     Nothing,
 }
 
+// The structure in a row has a name. A name of another length is told apart without being read.
+fn row_named(types: &TypeTable, names: &[u8], i: usize, name: &[u8]) -> bool
+    requires { ⌜ (i < 200) × (typeAt (now types) i .name .at + typeAt (now types) i .name .long ≤ length (now names)) ⌝ }
+    ensures { λ r. ⌜ r ≡ sameName (rowName (now (types .entry)) (now (names .entry)) i) (now (name .entry)) ⌝ }
+{
+    let long = wide(types[TYPE_WORDS * i + 1]);
+    if long != name.len() {
+        return false;
+    }
+    let start = wide(types[TYPE_WORDS * i]);
+    let end = start + long;
+    same_name(&names[start..end], name)
+}
+
 // The first of n structures with a name.
 fn find_type(types: &TypeTable, names: &[u8], n: usize, name: &[u8]) -> FoundTy
     requires { ⌜ NamesInside (now types) (now names) n ⌝ }
-    ensures { λ r. ⌜ r ≡ typeNamed (rowName (now (types .entry)) (now (names .entry))) (now (name .entry)) 0 n ⌝ }
+    ensures { λ r. ⌜ r ≡ namedAmong (rowNames (now (types .entry)) (now (names .entry)) n) (now (name .entry)) 0 ⌝ }
 {
     let mut i: usize = 0;
     while i < n {
-        let d = type_at(types, i);
-        let span = d.name;
-        let start = wide(span.at);
-        let end = start + wide(span.long);
-        let same = same_name(&names[start..end], name);
+        let same = row_named(types, names, i, name);
         if same {
             return FoundTy::Is(Ty::Struct(i));
         }

@@ -1,7 +1,7 @@
 -- `types::lookup` meets its contract: an atomic, else the first structure.
 use borrow.Author.Needs.{needs}
 use mathlib.Core.Path.{sym, _∙_}
-use Rattle.types.specs.Lookup.{typeOf}
+use Rattle.types.specs.Lookup.{typeAmong}
 use Rattle.types.proofs.lookups.lookup.Statement.{statement}
 use Rattle.types.proofs.lookups.lookup.Tie as tie
 
@@ -18,13 +18,13 @@ find-type-requires : tie.Need-find-type-requires
 find-type-requires c κs = search needs
 
 returns : tie.Need-returns
-unfolding typeOf
+unfolding typeAmong
 returns c =
     let found = c .before .before .before in
     rw (sym (found .from-name .ensures) ∙ c .before .atomic .given .1)
 
 returns-2 : tie.Need-returns-2
-unfolding typeOf
+unfolding typeAmong
 returns-2 c =
     let found = c .before .before .before in
     c .find-type .ensures ∙ rw (sym (found .from-name .ensures) ∙ c .before .enum-told .given .1)
