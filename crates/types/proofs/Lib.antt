@@ -18,6 +18,7 @@ pub mod FreeLaws
 pub mod LaidLaws
 pub mod BookLaws
 pub mod BoundLaws
+pub mod ShapeLaws
 pub mod SinkLaws
 pub mod StoreLaws
 pub mod Storing

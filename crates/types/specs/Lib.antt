@@ -12,6 +12,7 @@ pub mod Lookup
 pub mod Names
 pub mod Pieces
 pub mod Refusal
+pub mod Shape
 pub mod Sink
 pub mod Structs
 pub mod Tables
@@ -19,3 +20,4 @@ pub mod Template
 pub mod Waste
 pub mod Book
 pub mod Cases
+pub mod ShapeCases

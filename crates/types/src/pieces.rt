@@ -35,7 +35,7 @@ fn info_of(bit: Bit, count: u32) -> u16
 }
 
 // Code, or 0x8000 plus the id of the structure.
-fn type_in(types: &TypeTable, ty: Ty) -> u32
+pub fn type_in(types: &TypeTable, ty: Ty) -> u32
     requires { ⌜ TyFits ty ⌝ }
     ensures { λ r. ⌜ r ≡ typeIn (idsIn (now (types .entry))) ty ⌝ }
 {

@@ -18,7 +18,7 @@ use words::wide;
 use words::wide64;
 
 // The bytes of a type.
-fn size_in(types: &TypeTable, ty: Ty) -> u64
+pub fn size_in(types: &TypeTable, ty: Ty) -> u64
     requires { ⌜ TyFits ty ⌝ }
     ensures { λ r. ⌜ r ≡ sizeIn (sizesIn (now (types .entry))) ty ⌝ }
 {

@@ -1,0 +1,326 @@
+-- Laws of tag shapes (document 01, "Tag shape"): the ways out of the tests, the product of the lengths one after the
+-- other, a test of a product that does not multiply, and that a symbol type fits 16 bits.
+use Prim.Native.Nat.{ℕ, _+_, _-_, _*_, _/_, _^_, _≤_, _<_}
+use native.Mathlib.Decide.{decLe}
+use native.Mathlib.Nat.{mul-comm, mul-assoc, le-mul-of-pos-right, le-div-iff-mul-le, div-lt-iff-lt-mul}
+use native.Mathlib.Numerals.{add-one}
+use native.Mathlib.Omega.{arith}
+use mathlib.Core.Path.{_≡_, refl, sym, ap, _∙_}
+use mathlib.Core.Bool.{Bool, true, false, cond, not, _&&_}
+use mathlib.Core.List.{List, [], _∷_}
+use borrow.Author.Tests.{eq-eqb, ne-eqb, eqb-false, le-leb, lt-leb, leb-true, leb-false, lt-ltb, le-ltb, ltb-true}
+use borrow.Author.Tests.{not-true}
+use lib.Dec.{eqb, leb, ltb, lit<}
+use lib.ListN.{length, getD, drop, drop-of-length-le}
+use lib.Seq.{drop-cons}
+use Rattle.types.specs.declared.atomic.Atomic.{Atomic as Kind}
+use Rattle.types.specs.declared.atomic.Atomic.the-variants.{Bool as BOOL, SInt, Int, DInt, LInt, USInt, UInt}
+use Rattle.types.specs.declared.atomic.Atomic.the-variants.{UDInt}
+use Rattle.types.specs.declared.atomic.Atomic.the-variants.{ULInt, Real, LReal, Byte, Word, DWord, LWord}
+use Rattle.types.specs.declared.member.StructDef.{StructDef}
+use Rattle.types.specs.declared.member.Ty.{Ty}
+use Rattle.types.specs.declared.member.Ty.the-variants.{Atomic, Struct}
+use Rattle.types.specs.declared.refusal.Refusal.{Refusal}
+use Rattle.types.specs.declared.refusal.Refusal.the-variants.{NoSuchType, LengthsWrong, TagTooLarge}
+use Rattle.types.specs.declared.shape.Fit.the-variants.{Fits, Refused}
+use Rattle.types.specs.declared.shape.Product.{Product}
+use Rattle.types.specs.declared.shape.Product.the-variants.{Is, Over}
+use Rattle.types.specs.declared.shape.Shape.{Shape}
+use Rattle.types.specs.declared.shape.Shaped.{Shaped}
+use Rattle.types.specs.Atomic.{codeOf}
+use Rattle.types.specs.Layout.{most, isBool, alignUp}
+use Rattle.types.specs.Shape.{given, refused, isThere, mostLengths, noneZero, lengthsOk, product, three, within}
+use Rattle.types.specs.Shape.{boolTag, boolShape, plainShape, shapeOf, productOf, IdFits, Symbolic}
+use Rattle.types.specs.Tables.{TyFits, typeAt}
+use Rattle.types.specs.Template.{typeIn, idsIn}
+use Rattle.types.specs.Waste.{sizeIn, sizesIn}
+
+-- ---- the types that are there
+
+pub no-row : (types : List ℕ) (n : ℕ) → 200 ≤ n → false ≡ isThere types (Struct n)
+no-row types n h = simp (le-ltb n 200 h)
+
+pub row-used : (types : List ℕ) (n : ℕ) {d : StructDef} → n < 200 → d ≡ typeAt types n
+    → not (eqb (d .id) 0) ≡ isThere types (Struct n)
+row-used types n h e = rw e (simp (lt-ltb n 200 h))
+
+and-left : (a b : Bool) → (a && b) ≡ true → a ≡ true
+and-left true b e = refl
+and-left false b e = e
+
+and-right : (a b : Bool) → (a && b) ≡ true → b ≡ true
+and-right true b e = e
+and-right false b e = cc
+
+pub there-fits : (types : List ℕ) (t : Ty) → isThere types t ≡ true → TyFits t
+there-fits types (Atomic a) e = tt
+there-fits types (Struct n) e = ltb-true n 200 (and-left (ltb n 200) _ e)
+
+-- ---- the lengths
+
+pub most-bool : (t : Ty) → isBool t ≡ true → 1 ≡ mostLengths t
+unfolding mostLengths
+most-bool t b = rw b
+
+pub most-other : (t : Ty) → isBool t ≡ false → 3 ≡ mostLengths t
+unfolding mostLengths
+most-other t b = rw b
+
+module _ (s : List ℕ) (i : ℕ) (l : i < length s) where
+  pub none-off : getD s i 0 ≡ 0 → noneZero (drop i s) ≡ false
+  unfolding noneZero
+  none-off e = rw (drop-cons s i 0 l) (simp (eq-eqb _ 0 e))
+
+  pub none-on : (getD s i 0 ≡ 0 → ⊥) → noneZero (drop i s) ≡ noneZero (drop (i + 1) s)
+  unfolding noneZero
+  none-on n = rw (add-one, drop-cons s i 0 l) (simp (ne-eqb _ 0 n))
+
+pub none-done : (s : List ℕ) (i : ℕ) → length s ≤ i → noneZero (drop i s) ≡ true
+unfolding noneZero
+none-done s i l = rw (drop-of-length-le s l)
+
+module _ (t : Ty) (s : List ℕ) where
+  pub too-many : mostLengths t < length s → false ≡ lengthsOk t s
+  unfolding lengthsOk
+  too-many h = simp (lt-leb (length s) (mostLengths t) h)
+
+  pub few : length s ≤ mostLengths t → noneZero s ≡ lengthsOk t s
+  unfolding lengthsOk
+  few h = simp (le-leb (length s) (mostLengths t) h)
+
+  ok-few : lengthsOk t s ≡ true → length s ≤ mostLengths t
+  unfolding lengthsOk
+  ok-few e = leb-true (length s) (mostLengths t) (and-left _ (noneZero s) e)
+
+  pub ok-none : lengthsOk t s ≡ true → noneZero s ≡ true
+  unfolding lengthsOk
+  ok-none e = and-right (leb (length s) (mostLengths t)) (noneZero s) e
+
+  pub tag-bool : isBool t ≡ true → ltb 0 (length s) ≡ boolTag t s
+  unfolding boolTag
+  tag-bool b = rw b
+
+  pub tag-other : isBool t ≡ false → false ≡ boolTag t s
+  unfolding boolTag
+  tag-other b = rw b
+
+-- ---- products
+
+pub fits-zero : (a b m : ℕ) → a ≡ 0 → true ≡ leb (a * b) m
+fits-zero a b m e = rw e (sym (le-leb (0 * b) m (omega arith)))
+
+pub fits-div : (a b m : ℕ) → (a ≡ 0 → ⊥) → leb b (m / a) ≡ leb (a * b) m
+fits-div a b m n = go (decLe b (m / a))
+  where
+    some : 0 < a
+    some = omega (arith, n)
+
+    go : Dec (b ≤ m / a) → leb b (m / a) ≡ leb (a * b) m
+    go (yes h) = le-leb b (m / a) h ∙ sym (le-leb (a * b) m (rw (mul-comm a b) (le-div-iff-mul-le some .0 h)))
+    go (no h) =
+        let l : m / a < b = omega (arith, h) in
+        lt-leb b (m / a) l ∙ sym (lt-leb (a * b) m (rw (mul-comm a b) (div-lt-iff-lt-mul some .0 l)))
+
+-- where none is 0 the product is not
+product-least : (s : List ℕ) → noneZero s ≡ true → 0 < product s
+unfolding product noneZero
+product-least [] e = omega arith
+product-least (n ∷ s) e =
+    let h : n ≡ 0 → ⊥ = eqb-false n 0 (not-true (eqb n 0) (and-left _ (noneZero s) e)) in
+    let l = product-least s (and-right (not (eqb n 0)) (noneZero s) e) in
+    let k = le-mul-of-pos-right n l in
+    omega (arith, h)
+
+-- the product of the lengths before the i-th, and of those from it on, is the product of all
+pub record Multiplying (s : List ℕ) (n i : ℕ) : Type 0 where
+  pub inside : i ≤ length s
+  pub small : n ≤ 2 ^ 64 - 1
+  pub none : noneZero (drop i s) ≡ true
+  pub rest : product s ≡ n * product (drop i s)
+
+pub mul-start : (s : List ℕ) → noneZero s ≡ true → Multiplying s 1 0
+mul-start s e = record { inside = omega arith; small = omega arith; none = e; rest = omega arith }
+
+module _ {s : List ℕ} {n i : ℕ} (w : Multiplying s n i) where
+  module _ (l : i < length s) {x : ℕ} (e : x ≡ getD s i 0) where
+    next-none : noneZero (drop (i + 1) s) ≡ true
+    unfolding noneZero
+    next-none = and-right (not (eqb (getD s i 0) 0)) _ (rw add-one (rw (drop-cons s i 0 l) at (w .none)))
+
+    next-rest : product s ≡ n * x * product (drop (i + 1) s)
+    unfolding product
+    next-rest = w .rest ∙ rw (add-one, drop-cons s i 0 l, ← e) (sym (mul-assoc n x _))
+
+    pub mul-on : leb (n * x) (2 ^ 64 - 1) ≡ true → Multiplying s (n * x) (i + 1)
+    mul-on f =
+        record { inside = omega arith; small = leb-true (n * x) (2 ^ 64 - 1) f; none = next-none; rest = next-rest }
+
+    pub mul-over : leb (n * x) (2 ^ 64 - 1) ≡ false → Over ≡ productOf s
+    unfolding productOf
+    mul-over f =
+        let h = leb-false (n * x) (2 ^ 64 - 1) f in
+        let k = le-mul-of-pos-right (n * x) (product-least (drop (i + 1) s) next-none) in
+        simp (lt-leb (product s) (2 ^ 64 - 1) (omega (arith, next-rest)))
+
+  pub mul-done : length s ≤ i → Is n ≡ productOf s
+  unfolding productOf product
+  mul-done l =
+      let e : product s ≡ n = w .rest ∙ rw (drop-of-length-le s l) (omega arith) in
+      rw e (simp (le-leb n (2 ^ 64 - 1) (w .small)))
+
+-- ---- the shapes
+
+module _ (sizes : ℕ → ℕ) (t : Ty) (lengths : List ℕ) (used n : ℕ) {size : ℕ} (e : size ≡ sizeIn sizes t) where
+  pub within-fits : leb (size * n) most ≡ true
+      → given (record { ty = t; lengths = lengths; used = used; elements = n; bytes = size * n })
+      ≡ within sizes t lengths used n
+  unfolding within
+  within-fits f = rw (← e) (simp f)
+
+  pub within-over : leb (size * n) most ≡ false → refused TagTooLarge ≡ within sizes t lengths used n
+  unfolding within
+  within-over f = rw (← e) (simp f)
+
+module _ (sizes : ℕ → ℕ) (n up : ℕ) (e : up ≡ alignUp n 32) where
+  pub bool-over : 2 ^ 32 - 1 < up → refused TagTooLarge ≡ boolShape sizes n
+  unfolding boolShape
+  bool-over h = rw (← e) (simp (lt-leb up (2 ^ 32 - 1) h))
+
+  pub bool-within : up ≤ 2 ^ 32 - 1 → within sizes (Atomic DWord) (three (up ∷ [])) 1 (up / 32) ≡ boolShape sizes n
+  unfolding boolShape
+  bool-within h = rw (← e) (simp (le-leb up (2 ^ 32 - 1) h))
+
+-- a product that was found decides
+over-go : (b : Bool) (n : ℕ) (s : Shaped) → cond b (Is n) Over ≡ Over
+    → refused TagTooLarge ≡ cond b s (refused TagTooLarge)
+over-go true n s q = cc
+over-go false n s q = refl
+
+is-go : (b : Bool) (n m : ℕ) (f : ℕ → Shaped) → cond b (Is n) Over ≡ Is m → f m ≡ cond b (f n) (refused TagTooLarge)
+is-go true n m f q =
+    let z : m ≡ n = cc in
+    ap f z
+is-go false n m f q = cc
+
+module _ (sizes : ℕ → ℕ) (t : Ty) (s : List ℕ) {p : Product} (e : p ≡ productOf s) where
+  pub plain-over : p ≡ Over → refused TagTooLarge ≡ plainShape sizes t s
+  unfolding plainShape productOf
+  plain-over q = over-go (leb (product s) (2 ^ 64 - 1)) _ _ (sym e ∙ q)
+
+  pub plain-is : (n : ℕ) → p ≡ Is n → within sizes t (three s) (length s) n ≡ plainShape sizes t s
+  unfolding plainShape productOf
+  plain-is n q =
+      is-go (leb (product s) (2 ^ 64 - 1)) _ n (λ (x : ℕ). within sizes t (three s) (length s) x) (sym e ∙ q)
+
+-- ---- the ways out
+
+module _ (types : List ℕ) (t : Ty) (s : List ℕ) where
+  pub not-there : isThere types t ≡ false → refused NoSuchType ≡ shapeOf types t s
+  unfolding shapeOf
+  not-there a = rw a
+
+  pub lengths-wrong : isThere types t ≡ true → lengthsOk t s ≡ false → refused LengthsWrong ≡ shapeOf types t s
+  unfolding shapeOf
+  lengths-wrong a b = rw (a, b)
+
+  pub bools : isThere types t ≡ true → lengthsOk t s ≡ true → boolTag t s ≡ true
+      → boolShape (sizesIn types) (getD s 0 0) ≡ shapeOf types t s
+  unfolding shapeOf
+  bools a b d = rw (a, b, d)
+
+  pub others : isThere types t ≡ true → lengthsOk t s ≡ true → boolTag t s ≡ false
+      → plainShape (sizesIn types) t s ≡ shapeOf types t s
+  unfolding shapeOf
+  others a b d = rw (a, b, d)
+
+-- ---- the symbol type
+
+code-below : (a : Kind) → codeOf a < 0x9000
+unfolding codeOf
+code-below BOOL = lit< tt
+code-below SInt = lit< tt
+code-below Int = lit< tt
+code-below DInt = lit< tt
+code-below LInt = lit< tt
+code-below USInt = lit< tt
+code-below UInt = lit< tt
+code-below UDInt = lit< tt
+code-below ULInt = lit< tt
+code-below Real = lit< tt
+code-below LReal = lit< tt
+code-below Byte = lit< tt
+code-below Word = lit< tt
+code-below DWord = lit< tt
+code-below LWord = lit< tt
+
+pub type-below : (types : List ℕ) (t : Ty) → IdFits types t → typeIn (idsIn types) t < 0x9000
+type-below types (Atomic a) h = code-below a
+type-below types (Struct n) h = omega arith
+
+-- ---- the shapes that are given, over a table whose ids are below 0x1000
+
+-- a shape that is given can be asked for its symbol type
+record Asked (types : List ℕ) (r : Shaped) : Type 0 where
+  ask : (x : Shape) → r ≡ given x → Symbolic types x
+
+module _ (types : List ℕ) (small : (n : ℕ) → n < 200 → typeAt types n .id < 0x1000) where
+  ids-fit : (t : Ty) → TyFits t → IdFits types t
+  ids-fit (Atomic a) f = tt
+  ids-fit (Struct n) f = small n f
+
+  asked-refused : (why : Refusal) → Asked types (refused why)
+  asked-refused why =
+      record {
+        ask = λ x e.
+            let f : Refused why ≡ Fits = ap (λ (r : Shaped). r .fit) e in
+            let z : _≡_ {A = ℕ} 0 1 = cc in
+            absurd (omega arith);
+      }
+
+  asked-if : (b : Bool) {p q : Shaped} → (b ≡ true → Asked types p) → Asked types q → Asked types (cond b p q)
+  asked-if true f g = f refl
+  asked-if false f g = g
+
+  asked-within : (sizes : ℕ → ℕ) (t : Ty) (lengths : List ℕ) (used n : ℕ) → TyFits t → used ≤ 3
+      → Asked types (within sizes t lengths used n)
+  unfolding within
+  asked-within sizes t lengths used n f h =
+      asked-if (leb (sizeIn sizes t * n) most)
+      (λ b.
+      record {
+        ask = λ x e.
+            let p : t ≡ x .ty = ap (λ (r : Shaped). r .shape .ty) e in
+            let q : used ≡ x .used = ap (λ (r : Shaped). r .shape .used) e in
+            record { ty = rw p at f; id = rw p at (ids-fit t f); used = omega arith };
+      })
+      (asked-refused TagTooLarge)
+
+  most-three : (t : Ty) → mostLengths t ≤ 3
+  unfolding mostLengths
+  most-three t = go (isBool t)
+    where
+      go : (b : Bool) → cond b 1 3 ≤ 3
+      go true = omega arith
+      go false = omega arith
+
+  asked-shape : (t : Ty) (s : List ℕ) → Asked types (shapeOf types t s)
+  unfolding shapeOf boolShape plainShape
+  asked-shape t s =
+      asked-if (isThere types t)
+      (λ a.
+      asked-if (lengthsOk t s)
+      (λ b.
+      let few : length s ≤ 3 = omega (arith, ok-few t s b, most-three t) in
+      asked-if (boolTag t s)
+      (λ d.
+      asked-if (leb (alignUp (getD s 0 0) 32) (2 ^ 32 - 1))
+      (λ h. asked-within (sizesIn types) (Atomic DWord) _ 1 _ tt (omega arith))
+      (asked-refused TagTooLarge))
+      (asked-if (leb (product s) (2 ^ 64 - 1))
+      (λ h. asked-within (sizesIn types) t _ (length s) _ (there-fits types t a) few)
+      (asked-refused TagTooLarge)))
+      (asked-refused LengthsWrong))
+      (asked-refused NoSuchType)
+
+  pub shape-symbolic : (t : Ty) (s : List ℕ) (x : Shape) → shapeOf types t s ≡ given x → Symbolic types x
+  shape-symbolic t s = asked-shape t s .ask

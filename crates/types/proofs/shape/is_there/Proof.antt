@@ -1,0 +1,32 @@
+-- `types::is_there` meets its contract.
+use borrow.Author.Needs.{needs}
+use Rattle.types.proofs.ShapeLaws.{no-row, row-used}
+use Rattle.types.proofs.shape.is_there.Statement.{statement}
+use Rattle.types.proofs.shape.is_there.Tie as tie
+
+enum-told : tie.Need-enum-told
+enum-told c = search needs
+
+returns : tie.Need-returns
+returns c = search needs
+
+enum-known-ty : tie.Need-enum-known-ty
+enum-known-ty c = search needs
+
+returns-2 : tie.Need-returns-2
+returns-2 c =
+    let arm = c .before .before in
+    rw (arm .ty .given .1) (no-row (arm .before .before .args .types .now) _ (c .if1 .taken))
+
+type-at-requires : tie.Need-type-at-requires
+type-at-requires c κs = search needs
+
+returns-3 : tie.Need-returns-3
+returns-3 c =
+    let arm = c .before .before .before in
+    rw (arm .ty .given .1)
+    (row-used (arm .before .before .args .types .now) _ (c .before .if1 .left) (c .type-at .ensures))
+
+pub is-there-spec : {M : Type 1} → statement M
+is-there-spec =
+    tie.close (tie.spec enum-told returns enum-known-ty returns-2 type-at-requires returns-3)

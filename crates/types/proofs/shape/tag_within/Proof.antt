@@ -1,0 +1,46 @@
+-- `types::tag_within` meets its contract: the bytes decide.
+use native.Mathlib.Omega.{arith}
+use borrow.Author.Needs.{needs}
+use borrow.Author.Tests.{leb-true}
+use Prim.Native.Nat.{_*_, _≤_}
+use mathlib.Core.Path.{sym, _∙_}
+use Rattle.types.specs.Layout.{most}
+use Rattle.types.proofs.ShapeLaws.{within-fits, within-over}
+use Rattle.types.proofs.shape.tag_within.Statement.{statement}
+use Rattle.types.proofs.shape.tag_within.Tie as tie
+
+-- the bytes are few enough to multiply
+small : (c : tie.Then1) → c .before .before .size-in .result * c .before .before .before .args .n ≤ most
+small c = leb-true _ most (sym (c .before .product-fits .ensures) ∙ c .if1 .taken)
+
+size-in-requires : tie.Need-size-in-requires
+size-in-requires c κs = search needs
+
+product-fits-requires : tie.Need-product-fits-requires
+product-fits-requires c κs = search needs
+
+mul-t10 : tie.Need-mul-t10
+mul-t10 c = omega (arith, small c)
+
+returns : tie.Need-returns
+returns c =
+    let at-size = c .before .before in
+    let a = at-size .before .args in
+    within-fits _ (a .ty) (a .lengths) (a .used) (a .n) (at-size .size-in .ensures)
+    (sym (c .before .product-fits .ensures) ∙ c .if1 .taken)
+
+refused-requires : tie.Need-refused-requires
+refused-requires c κs = search needs
+
+returns-2 : tie.Need-returns-2
+returns-2 c =
+    let at-fits = c .before .before in
+    let a = at-fits .before .before .args in
+    c .refused .ensures
+    ∙ within-over _ (a .ty) (a .lengths) (a .used) (a .n) (at-fits .before .size-in .ensures)
+    (sym (at-fits .product-fits .ensures) ∙ c .before .if1 .left)
+
+pub tag-within-spec : {M : Type 1} → statement M
+tag-within-spec =
+    tie.close
+    (tie.spec size-in-requires product-fits-requires mul-t10 returns refused-requires returns-2)

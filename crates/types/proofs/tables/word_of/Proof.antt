@@ -1,0 +1,18 @@
+-- `types::word_of` meets its contract: the word of a type that fits is below 0x8000 + 200.
+use borrow.Author.Needs.{needs}
+use native.Mathlib.Omega.{arith}
+use Rattle.types.proofs.TableLaws.{word-below}
+use Rattle.types.proofs.tables.word_of.Statement.{statement}
+use Rattle.types.proofs.tables.word_of.Tie as tie
+
+ty-word-requires : tie.Need-ty-word-requires
+ty-word-requires c κs = search needs
+
+cast-result : tie.Need-cast-result
+cast-result c = rw (c .ty-word .ensures) (word-below (c .before .args .ty) (c .before .pre))
+
+returns : tie.Need-returns
+returns c = search needs
+
+pub word-of-spec : {M : Type 1} → statement M
+word-of-spec = tie.close (tie.spec ty-word-requires cast-result returns)

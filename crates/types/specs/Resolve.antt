@@ -1,0 +1,53 @@
+-- The member types of a type that waits (document 01, "Order of building"): one is added when all its member types are
+-- known. Each is found by its name; its word is kept for the layout.
+use Prim.Native.Nat.{ℕ, _+_, _*_, _<_, _≤_}
+use mathlib.Core.Path.{_≡_}
+use mathlib.Core.Bool.{Bool, true, false, _&&_}
+use mathlib.Core.List.{List, [], _∷_}
+use lib.ListN.{length}
+use lib.Seq.{sets}
+use Rattle.types.specs.declared.lookups.FoundTy.{FoundTy}
+use Rattle.types.specs.declared.lookups.FoundTy.the-variants.{Is, Nothing}
+use Rattle.types.specs.Book.{entryAt, listFrom}
+use Rattle.types.specs.Defs.{nameIn}
+use Rattle.types.specs.Lookup.{typeAmong, NamesInside}
+use Rattle.types.specs.Tables.{tyWord}
+
+-- the type name of the j-th entry from a place on
+abbrev pub typeName : List ℕ → ℕ → ℕ → List ℕ
+typeName book at j = nameIn book (entryAt book (at + 16 * j) .ty)
+
+-- those of n entries, from the j-th on
+abbrev pub typeNames : List ℕ → ℕ → ℕ → ℕ → List (List ℕ)
+typeNames book at j n = listFrom (typeName book at) j n
+
+abbrev pub isFound : FoundTy → Bool
+isFound (Is ty) = true
+isFound Nothing = false
+
+-- each of the names is an atomic's or that of one of the known types
+unfoldable pub allKnown : List (List ℕ) → List (List ℕ) → Bool
+allKnown known [] = true
+allKnown known (s ∷ ss) = isFound (typeAmong known s) && allKnown known ss
+
+-- the words of the types with these names, up to the first that is not known
+abbrev pub thenWord : FoundTy → List ℕ → List ℕ
+thenWord (Is ty) rest = tyWord ty ∷ rest
+thenWord Nothing rest = []
+
+unfoldable pub foundWords : List (List ℕ) → List (List ℕ) → List ℕ
+foundWords known [] = []
+foundWords known (s ∷ ss) = thenWord (typeAmong known s) (foundWords known ss)
+
+-- the words stand in a scratch from its start on, and their number is answered
+pub record Resolves (known names : List (List ℕ)) (tys₀ tys : List ℕ) (r : ℕ) : Type 0 where
+  pub is : r ≡ length (foundWords known names)
+  pub words : tys ≡ sets tys₀ 0 (foundWords known names)
+
+-- n entries lie in the book from a place on, with their type names, and the scratch has room for their words
+pub record Resolvable (types names book tys : List ℕ) (known at n : ℕ) : Type 0 where
+  pub rows : NamesInside types names known
+  pub inside : at + 16 * n ≤ length book
+  pub uses : (k : ℕ) → k < n
+      → entryAt book (at + 16 * k) .ty .at + entryAt book (at + 16 * k) .ty .long ≤ length book
+  pub room : n ≤ length tys

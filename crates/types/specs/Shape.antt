@@ -1,0 +1,114 @@
+-- Tag shapes (document 01, "Tag shape"): up to three lengths, none 0; BOOL with a length has one only, rounded up to
+-- 32s, stored as DWORDs; and the refusals 15, 23 and 24, in this order.
+use Prim.Native.Nat.{ℕ, _+_, _-_, _*_, _/_, _^_, _≤_, _<_}
+use mathlib.Core.Path.{_≡_}
+use mathlib.Core.Bool.{Bool, true, cond, not, _&&_}
+use mathlib.Core.List.{List, [], _∷_}
+use lib.Dec.{eqb, leb, ltb}
+use lib.ListN.{length, getD}
+use Rattle.types.specs.declared.atomic.Atomic.the-variants.{Bool as BOOL, DWord}
+use Rattle.types.specs.declared.member.Ty.{Ty}
+use Rattle.types.specs.declared.member.Ty.the-variants.{Atomic, Struct}
+use Rattle.types.specs.declared.refusal.Refusal.{Refusal}
+use Rattle.types.specs.declared.refusal.Refusal.the-variants.{NoSuchType, LengthsWrong, TagTooLarge}
+use Rattle.types.specs.declared.shape.Fit.the-variants.{Fits, Refused}
+use Rattle.types.specs.declared.shape.Product.{Product}
+use Rattle.types.specs.declared.shape.Product.the-variants.{Is, Over}
+use Rattle.types.specs.declared.shape.Shape.{Shape}
+use Rattle.types.specs.declared.shape.Shaped.{Shaped}
+use Rattle.types.specs.Layout.{most, isBool, alignUp}
+use Rattle.types.specs.Tables.{TyFits, typeAt}
+use Rattle.types.specs.Template.{typeIn, hasTemplate}
+use Rattle.types.specs.Waste.{sizeIn, sizesIn}
+
+-- a shape that is given; and a refusal, with zeros for a shape
+abbrev pub given : Shape → Shaped
+given s = record { fit = Fits; shape = s }
+
+abbrev pub noShape : Shape
+noShape = record { ty = Atomic BOOL; lengths = 0 ∷ 0 ∷ 0 ∷ []; used = 0; elements = 0; bytes = 0 }
+
+abbrev pub refused : Refusal → Shaped
+refused why = record { fit = Refused why; shape = noShape }
+
+-- an atomic is always there; a structure where the table has it, as for its template
+abbrev pub isThere : List ℕ → Ty → Bool
+isThere types (Atomic a) = true
+isThere types (Struct n) = hasTemplate types (Struct n)
+
+-- up to three lengths, BOOL one only
+unfoldable pub mostLengths : Ty → ℕ
+mostLengths ty = cond (isBool ty) 1 3
+
+unfoldable pub noneZero : List ℕ → Bool
+noneZero [] = true
+noneZero (n ∷ ns) = not (eqb n 0) && noneZero ns
+
+unfoldable pub lengthsOk : Ty → List ℕ → Bool
+lengthsOk ty ns = leb (length ns) (mostLengths ty) && noneZero ns
+
+-- with no length there is one element
+unfoldable pub product : List ℕ → ℕ
+product [] = 1
+product (n ∷ ns) = n * product ns
+
+-- the lengths that a shape holds: 0 where it has fewer
+abbrev pub three : List ℕ → List ℕ
+three ns = getD ns 0 0 ∷ getD ns 1 0 ∷ getD ns 2 0 ∷ []
+
+-- n elements of a stored type, not above 2^26 bytes
+unfoldable pub within : (ℕ → ℕ) → Ty → List ℕ → ℕ → ℕ → Shaped
+within sizes ty lengths used n =
+    cond (leb (sizeIn sizes ty * n) most)
+    (given (record { ty = ty; lengths = lengths; used = used; elements = n; bytes = sizeIn sizes ty * n }))
+    (refused TagTooLarge)
+
+-- BOOL with a length
+unfoldable pub boolTag : Ty → List ℕ → Bool
+boolTag ty ns = isBool ty && ltb 0 (length ns)
+
+-- its length is rounded up to 32s, not above 2^32 - 1, and stored as DWORDs
+unfoldable pub boolShape : (ℕ → ℕ) → ℕ → Shaped
+boolShape sizes n =
+    cond (leb (alignUp n 32) (2 ^ 32 - 1))
+    (within sizes (Atomic DWord) (three (alignUp n 32 ∷ [])) 1 (alignUp n 32 / 32))
+    (refused TagTooLarge)
+
+-- any other tag has as many elements as the product of its lengths says, not above 2^64 - 1
+unfoldable pub plainShape : (ℕ → ℕ) → Ty → List ℕ → Shaped
+plainShape sizes ty ns =
+    cond (leb (product ns) (2 ^ 64 - 1)) (within sizes ty (three ns) (length ns) (product ns)) (refused TagTooLarge)
+
+unfoldable pub shapeOf : List ℕ → Ty → List ℕ → Shaped
+shapeOf types ty ns =
+    cond (isThere types ty)
+    (cond (lengthsOk ty ns)
+    (cond (boolTag ty ns) (boolShape (sizesIn types) (getD ns 0 0)) (plainShape (sizesIn types) ty ns))
+    (refused LengthsWrong))
+    (refused NoSuchType)
+
+-- code or 0x8000 plus id, plus 8,192 per length
+abbrev pub symbolOf : (ℕ → ℕ) → Ty → ℕ → ℕ
+symbolOf ids ty used = typeIn ids ty + 8192 * used
+
+-- ---- what the code's steps ask and give
+
+-- the product, where 64 bits hold it
+unfoldable pub productOf : List ℕ → Product
+productOf ns = cond (leb (product ns) (2 ^ 64 - 1)) (Is (product ns)) Over
+
+-- a type that is there, and lengths that are none 0
+pub record Plain (t : Ty) (ns : List ℕ) : Type 0 where
+  pub ty : TyFits t
+  pub lengths : noneZero ns ≡ true
+
+-- a structure's id is below 0x1000
+abbrev pub IdFits : List ℕ → Ty → Type 0
+IdFits types (Atomic a) = Unit {0}
+IdFits types (Struct n) = typeAt types n .id < 0x1000
+
+-- a shape as `tag_shape` gives it, over a table whose ids are below 0x1000 (`ShapeLaws.shape-symbolic`)
+pub record Symbolic (types : List ℕ) (s : Shape) : Type 0 where
+  pub ty : TyFits (s .ty)
+  pub id : IdFits types (s .ty)
+  pub used : s .used ≤ 3

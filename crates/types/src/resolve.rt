@@ -1,0 +1,46 @@
+// The member types of a type that waits (document 01, "Order of building"): each is looked up by its name, and
+// its word is kept in a scratch for the layout.
+ghost use mathlib.Core.Path.{_≡_};
+ghost use Rattle.types.specs.Lookup.{rowNames};
+ghost use Rattle.types.specs.Resolve.{typeNames, Resolves, Resolvable};
+use crate::book::entry_at;
+use crate::lookups::FoundTy;
+use crate::lookups::lookup;
+use crate::tables::TypeTable;
+use crate::tables::word_of;
+use words::wide;
+
+// Looks n members' types up among the first `known` types; answers how many were found before the first that
+// was not.
+pub fn resolve(
+    types: &TypeTable,
+    names: &[u8],
+    known: usize,
+    book: &[u8],
+    at: usize,
+    n: usize,
+    tys: &mut [u16],
+) -> usize
+    requires { ⌜ Resolvable (now types) (now names) (now book) (now tys) known at n ⌝ }
+    ensures { λ r. ⌜ Resolves (rowNames (now (types .entry)) (now (names .entry)) known)
+        (typeNames (now (book .entry)) at 0 n) (now (tys .entry)) (now (tys .exit)) r ⌝ }
+{
+    let mut j: usize = 0;
+    while j < n {
+        let e = entry_at(book, at + 16 * j);
+        let span = e.ty;
+        let start = wide(span.at);
+        let end = start + wide(span.long);
+        let found = lookup(types, names, known, &book[start..end]);
+        match found {
+            FoundTy::Is(ty) => {
+                tys[j] = word_of(ty);
+            }
+            FoundTy::Nothing => {
+                return j;
+            }
+        }
+        j += 1;
+    }
+    j
+}

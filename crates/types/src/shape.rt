@@ -1,0 +1,272 @@
+// Tag shapes (document 01, "Tag shape"): a type with up to three lengths, and the bytes that a tag of it
+// takes; or why there is no such tag.
+ghost use mathlib.Core.Path.{_≡_};
+ghost use Prim.Native.Nat.{_*_};
+ghost use mathlib.Core.Bool.{true};
+ghost use lib.Dec.{leb};
+ghost use lib.ListN.{getD};
+ghost use Rattle.types.specs.Shape.{isThere, mostLengths, noneZero, lengthsOk, boolTag, three, productOf, within};
+ghost use Rattle.types.specs.Shape.{refused as refusedFor, boolShape, plainShape, shapeOf, symbolOf};
+ghost use Rattle.types.specs.Shape.{Plain, Symbolic};
+ghost use Rattle.types.specs.Tables.{TyFits};
+ghost use Rattle.types.specs.Template.{idsIn};
+ghost use Rattle.types.specs.Waste.{sizesIn};
+use crate::atomic::Atomic;
+use crate::layout::is_bool;
+use crate::member::Ty;
+use crate::pieces::type_in;
+use crate::refusal::Refusal;
+use crate::tables::TYPES;
+use crate::tables::TypeTable;
+use crate::tables::type_at;
+use crate::waste_bits::size_in;
+use words::wide64;
+
+// The most bytes of a tag.
+const MOST: u64 = 67108864;
+
+// The most elements.
+const MOST_ELEMENTS: u64 = 18446744073709551615;
+
+// The stored type, the lengths in use and zeros after them, how many of them are in use, the stored elements
+// and their bytes. A BOOL array has its BOOLs as the length, and DWORDs as elements.
+pub struct Shape {
+    pub ty: Ty,
+    pub lengths: [u32; 3],
+    pub used: usize,
+    pub elements: u64,
+    pub bytes: u64,
+}
+
+// Whether there is such a tag.
+pub enum Fit {
+    Fits,
+    Refused(Refusal),
+}
+
+// A tag's shape, or why there is none; then the shape has zeros. (The array stands beside the enum: one that
+// holds an array is not covered.)
+pub struct Shaped {
+    pub fit: Fit,
+    pub shape: Shape,
+}
+
+// A product, where 64 bits hold it.
+enum Product {
+    Is(u64),
+    Over,
+}
+
+// A refusal, with the shape that stands for none.
+fn refused(why: Refusal) -> Shaped
+    ensures { λ r. ⌜ r ≡ refusedFor why ⌝ }
+{
+    let none = Shape {
+        ty: Ty::Atomic(Atomic::Bool),
+        lengths: [0, 0, 0],
+        used: 0,
+        elements: 0,
+        bytes: 0,
+    };
+    Shaped {
+        fit: Fit::Refused(why),
+        shape: none,
+    }
+}
+
+// An atomic, or a structure of the table.
+fn is_there(types: &TypeTable, ty: Ty) -> bool
+    ensures { λ r. ⌜ r ≡ isThere (now (types .entry)) ty ⌝ }
+{
+    match ty {
+        Ty::Atomic(_) => {
+            return true;
+        }
+        Ty::Struct(n) => {
+            if TYPES <= n {
+                return false;
+            }
+            let d = type_at(types, n);
+            let id = d.id;
+            return id != 0;
+        }
+    }
+}
+
+// BOOL has one length at most, any other type three.
+fn most_lengths(ty: Ty) -> usize
+    ensures { λ r. ⌜ r ≡ mostLengths ty ⌝ }
+{
+    let bool = is_bool(ty);
+    if bool {
+        return 1;
+    }
+    3
+}
+
+fn none_zero(lengths: &[u32]) -> bool
+    ensures { λ r. ⌜ r ≡ noneZero (now (lengths .entry)) ⌝ }
+{
+    let mut i: usize = 0;
+    while i < lengths.len() {
+        if lengths[i] == 0 {
+            return false;
+        }
+        i += 1;
+    }
+    true
+}
+
+fn lengths_ok(ty: Ty, lengths: &[u32]) -> bool
+    ensures { λ r. ⌜ r ≡ lengthsOk ty (now (lengths .entry)) ⌝ }
+{
+    let most = most_lengths(ty);
+    if most < lengths.len() {
+        return false;
+    }
+    none_zero(lengths)
+}
+
+// BOOL with a length.
+fn bool_tag(ty: Ty, lengths: &[u32]) -> bool
+    ensures { λ r. ⌜ r ≡ boolTag ty (now (lengths .entry)) ⌝ }
+{
+    let bool = is_bool(ty);
+    if bool {
+        return 0 < lengths.len();
+    }
+    false
+}
+
+// The length at a place, 0 past the last.
+fn length_at(lengths: &[u32], i: usize) -> u32
+    ensures { λ r. ⌜ r ≡ getD (now (lengths .entry)) i 0 ⌝ }
+{
+    if i < lengths.len() {
+        return lengths[i];
+    }
+    0
+}
+
+// Up to three lengths, as a shape has them.
+fn three_of(lengths: &[u32]) -> [u32; 3]
+    ensures { λ r. ⌜ r ≡ three (now (lengths .entry)) ⌝ }
+{
+    let a = length_at(lengths, 0);
+    let b = length_at(lengths, 1);
+    let c = length_at(lengths, 2);
+    [a, b, c]
+}
+
+// A product is at or below a number: without the product, which may not fit.
+fn product_fits(a: u64, b: u64, most: u64) -> bool
+    ensures { λ r. ⌜ r ≡ leb (a * b) most ⌝ }
+{
+    if a == 0 {
+        return true;
+    }
+    b <= most / a
+}
+
+// The product of the lengths.
+fn multiplied(lengths: &[u32]) -> Product
+    requires { ⌜ noneZero (now lengths) ≡ true ⌝ }
+    ensures { λ r. ⌜ r ≡ productOf (now (lengths .entry)) ⌝ }
+{
+    let mut n: u64 = 1;
+    let mut i: usize = 0;
+    while i < lengths.len() {
+        let x = wide64(lengths[i]);
+        let fits = product_fits(n, x, MOST_ELEMENTS);
+        if !fits {
+            return Product::Over;
+        }
+        n *= x;
+        i += 1;
+    }
+    Product::Is(n)
+}
+
+// A tag of n elements of a stored type.
+fn tag_within(types: &TypeTable, ty: Ty, lengths: [u32; 3], used: usize, n: u64) -> Shaped
+    requires { ⌜ TyFits ty ⌝ }
+    ensures { λ r. ⌜ r ≡ within (sizesIn (now (types .entry))) ty lengths used n ⌝ }
+{
+    let size = size_in(types, ty);
+    let fits = product_fits(size, n, MOST);
+    if fits {
+        let shape = Shape {
+            ty,
+            lengths,
+            used,
+            elements: n,
+            bytes: size * n,
+        };
+        return Shaped {
+            fit: Fit::Fits,
+            shape,
+        };
+    }
+    refused(Refusal::TagTooLarge)
+}
+
+// A tag of so many BOOLs: rounded up to 32s, and stored as DWORDs.
+fn bool_shape(types: &TypeTable, n: u32) -> Shaped
+    ensures { λ r. ⌜ r ≡ boolShape (sizesIn (now (types .entry))) n ⌝ }
+{
+    let up = (wide64(n) + 31) / 32 * 32;
+    if 0xFFFFFFFF < up {
+        return refused(Refusal::TagTooLarge);
+    }
+    let long = up as u32;
+    tag_within(types, Ty::Atomic(Atomic::DWord), [long, 0, 0], 1, up / 32)
+}
+
+// A tag of any other type, or of one BOOL.
+fn plain_shape(types: &TypeTable, ty: Ty, lengths: &[u32]) -> Shaped
+    requires { ⌜ Plain ty (now lengths) ⌝ }
+    ensures { λ r. ⌜ r ≡ plainShape (sizesIn (now (types .entry))) ty (now (lengths .entry)) ⌝ }
+{
+    let all = multiplied(lengths);
+    match all {
+        Product::Is(n) => {
+            let kept = three_of(lengths);
+            return tag_within(types, ty, kept, lengths.len(), n);
+        }
+        Product::Over => {
+            return refused(Refusal::TagTooLarge);
+        }
+    }
+}
+
+// The shape of a tag of a type with lengths; or 15, 23 or 24.
+pub fn tag_shape(types: &TypeTable, ty: Ty, lengths: &[u32]) -> Shaped
+    ensures { λ r. ⌜ r ≡ shapeOf (now (types .entry)) ty (now (lengths .entry)) ⌝ }
+{
+    let there = is_there(types, ty);
+    if there {
+        let ok = lengths_ok(ty, lengths);
+        if ok {
+            let bools = bool_tag(ty, lengths);
+            if bools {
+                let n = length_at(lengths, 0);
+                return bool_shape(types, n);
+            }
+            return plain_shape(types, ty, lengths);
+        }
+        return refused(Refusal::LengthsWrong);
+    }
+    refused(Refusal::NoSuchType)
+}
+
+// The symbol type of a tag: the word of its type, and how many lengths it has.
+pub fn symbol_type(types: &TypeTable, s: Shape) -> u16
+    requires { ⌜ Symbolic (now types) s ⌝ }
+    ensures { λ r. ⌜ r ≡ symbolOf (idsIn (now (types .entry))) (s .ty) (s .used) ⌝ }
+{
+    let ty = s.ty;
+    let used = s.used;
+    let base = type_in(types, ty);
+    let sum = base + 8192 * (used as u32);
+    sum as u16
+}
