@@ -17,6 +17,7 @@ pub mod PlaceLaws
 pub mod FreeLaws
 pub mod LaidLaws
 pub mod BookLaws
+pub mod CheckLaws
 pub mod BoundLaws
 pub mod ShapeLaws
 pub mod SinkLaws

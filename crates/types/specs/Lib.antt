@@ -19,5 +19,6 @@ pub mod Tables
 pub mod Template
 pub mod Waste
 pub mod Book
+pub mod Checks
 pub mod Cases
 pub mod ShapeCases

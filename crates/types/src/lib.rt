@@ -3,6 +3,7 @@
 mod aoi;
 mod atomic;
 mod book;
+mod checks;
 mod digits;
 mod entries;
 mod fixed;

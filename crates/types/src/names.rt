@@ -4,7 +4,7 @@ ghost use mathlib.Core.Path.{_≡_};
 ghost use Rattle.types.specs.Names.{lowerOf, sameName, nameByte, goodName};
 
 // A capital letter as its small one; any other byte as it is.
-fn lower(x: u8) -> u8
+pub fn lower(x: u8) -> u8
     ensures { λ r. ⌜ r ≡ lowerOf x ⌝ }
 {
     if x < b'A' {

@@ -1,0 +1,42 @@
+-- `types::look` meets its contract: a name whose mark was not seen is new, any other is compared.
+use borrow.Author.Needs.{needs}
+use Rattle.types.proofs.CheckLaws.{looked-new, looked-on}
+use Rattle.types.proofs.checks.look.Statement.{statement}
+use Rattle.types.proofs.checks.look.Tie as tie
+
+mark-requires : tie.Need-mark-requires
+mark-requires c κs = search needs
+
+element-copy-out-if1 : tie.Need-element-copy-out-if1
+element-copy-out-if1 c = search needs
+
+element-write-seen : tie.Need-element-write-seen
+element-write-seen c = search needs
+
+returns : tie.Need-returns
+returns c =
+    let marked = c .before .before in
+    let start = marked .before .before .before in
+    looked-new (start .args .book .now) (start .args .at) (start .args .j) (start .pre .1 .0) (start .pre .1 .1)
+    (marked .mark .ensures) (c .if1 .taken)
+
+among-first-requires : tie.Need-among-first-requires
+among-first-requires c κs = search needs
+
+returns-2 : tie.Need-returns-2
+returns-2 c =
+    let marked = c .before .before .before in
+    let start = marked .before .before .before in
+    looked-on (start .args .book .now) (start .args .at) (start .args .j) (start .pre .1 .0) (start .pre .1 .1)
+    (marked .mark .ensures) (c .before .if1 .left) (c .among-first .ensures)
+
+pub look-spec : {M : Type 1} → statement M
+look-spec =
+    tie.close
+    (tie.spec
+    mark-requires
+    element-copy-out-if1
+    element-write-seen
+    returns
+    among-first-requires
+    returns-2)
