@@ -28,3 +28,4 @@ pub mod TableLaws
 pub mod TemplateLaws
 pub mod WalkLaws
 pub mod WasteLaws
+pub mod ResolveLaws

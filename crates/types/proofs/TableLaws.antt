@@ -24,7 +24,7 @@ use Rattle.types.specs.declared.member.StructKind.the-variants.{Udt, Pre
 use Rattle.types.specs.declared.member.StructDef.{StructDef}
 use Rattle.types.specs.Atomic.{numOf, atomicAt}
 use Rattle.types.specs.Tables.{tyWord, tyOf, bitWord, bitOf, flagsOf, kindWord, kindOf, memberRow, memberAt}
-use Rattle.types.specs.Tables.{nameAt, typeRow, typeAt}
+use Rattle.types.specs.Tables.{TyFits, nameAt, typeRow, typeAt}
 use Rattle.types.proofs.AtomicLaws.{at-num, num-below}
 
 -- ---- words
@@ -35,6 +35,10 @@ ty-back (atomic a) = simp (lt-ltb (numOf a) 0x8000 (omega (arith, num-below a)),
 ty-back (Struct n) =
     let e : 0x8000 + n - 0x8000 ≡ n = omega arith in
     simp (le-ltb (0x8000 + n) 0x8000 (omega arith), e)
+
+pub word-below : (t : Ty) → TyFits t → tyWord t < 65536
+word-below (atomic a) f = omega (arith, num-below a)
+word-below (Struct n) f = omega arith
 
 -- a bit is one of eight
 abbrev pub BitFits : Bit → Type 0

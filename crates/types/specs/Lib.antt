@@ -22,3 +22,4 @@ pub mod Book
 pub mod Checks
 pub mod Cases
 pub mod ShapeCases
+pub mod Resolve

@@ -8,14 +8,15 @@ use lib.ListN.{length}
 use lib.Seq.{sets}
 use Rattle.types.specs.declared.lookups.FoundTy.{FoundTy}
 use Rattle.types.specs.declared.lookups.FoundTy.the-variants.{Is, Nothing}
-use Rattle.types.specs.Book.{entryAt, listFrom}
+use Rattle.types.specs.Book.{listFrom}
+use Rattle.types.specs.Checks.{entryOf}
 use Rattle.types.specs.Defs.{nameIn}
 use Rattle.types.specs.Lookup.{typeAmong, NamesInside}
 use Rattle.types.specs.Tables.{tyWord}
 
 -- the type name of the j-th entry from a place on
 abbrev pub typeName : List ℕ → ℕ → ℕ → List ℕ
-typeName book at j = nameIn book (entryAt book (at + 16 * j) .ty)
+typeName book at j = nameIn book (entryOf book at j .ty)
 
 -- those of n entries, from the j-th on
 abbrev pub typeNames : List ℕ → ℕ → ℕ → ℕ → List (List ℕ)
@@ -49,5 +50,5 @@ pub record Resolvable (types names book tys : List ℕ) (known at n : ℕ) : Typ
   pub rows : NamesInside types names known
   pub inside : at + 16 * n ≤ length book
   pub uses : (k : ℕ) → k < n
-      → entryAt book (at + 16 * k) .ty .at + entryAt book (at + 16 * k) .ty .long ≤ length book
+      → entryOf book at k .ty .at + entryOf book at k .ty .long ≤ length book
   pub room : n ≤ length tys

@@ -18,6 +18,7 @@ mod names;
 mod pieces;
 mod refusal;
 mod shape;
+mod resolve;
 mod sink;
 mod store;
 mod tables;

@@ -41,6 +41,14 @@ fn ty_word(ty: Ty) -> u32
     }
 }
 
+// The same as it stands in a scratch of found types.
+pub fn word_of(ty: Ty) -> u16
+    requires { ⌜ TyFits ty ⌝ }
+    ensures { λ r. ⌜ r ≡ tyWord ty ⌝ }
+{
+    ty_word(ty) as u16
+}
+
 pub fn ty_of(w: u32) -> Ty
     ensures { λ r. ⌜ r ≡ tyOf w ⌝ }
 {

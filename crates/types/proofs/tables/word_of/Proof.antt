@@ -9,7 +9,7 @@ ty-word-requires : tie.Need-ty-word-requires
 ty-word-requires c κs = search needs
 
 cast-result : tie.Need-cast-result
-cast-result c = rw (c .ty-word .ensures) (word-below (c .before .args .ty) (c .before .pre))
+cast-result c = omega (arith, c .ty-word .ensures, word-below (c .before .args .ty) (c .before .pre))
 
 returns : tie.Need-returns
 returns c = search needs

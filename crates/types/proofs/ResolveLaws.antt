@@ -1,0 +1,105 @@
+-- Laws of resolving member types: what is found is one of the known types, and the words of all are those found so far
+-- and those of the rest.
+use Prim.Native.Nat.{ℕ, zero, suc, _+_, _-_, _*_, _<_, _≤_}
+use native.Mathlib.Omega.{arith}
+use native.Mathlib.Nat.{zero-add}
+use mathlib.Core.Path.{_≡_, refl, sym, ap, _∙_}
+use mathlib.Core.Bool.{Bool, true, false, cond}
+use mathlib.Core.List.{List, [], _∷_}
+use lib.ListN.{length, set, length-set}
+use lib.Seq.{sets}
+use Rattle.types.specs.declared.atomic.FoundAtomic.{FoundAtomic}
+use Rattle.types.specs.declared.atomic.FoundAtomic.the-variants.{Is as found, Nothing as none}
+use Rattle.types.specs.declared.lookups.FoundTy.{FoundTy}
+use Rattle.types.specs.declared.lookups.FoundTy.the-variants.{Is, Nothing}
+use Rattle.types.specs.declared.member.Ty.{Ty}
+use Rattle.types.specs.declared.member.Ty.the-variants.{Atomic, Struct}
+use Rattle.types.specs.Atomic.{atomicNamed}
+use Rattle.types.specs.Laid.{Earlier}
+use Rattle.types.specs.Lookup.{namedAmong, typeAmong, atomicOr}
+use Rattle.types.specs.Names.{sameName}
+use Rattle.types.specs.Resolve.{typeName, typeNames, thenWord, foundWords, Resolves}
+use Rattle.types.specs.Tables.{TyFits, tyWord}
+use Rattle.types.proofs.BookLaws.{from-cons, from-none}
+
+-- ---- what is found
+
+abbrev Below : ℕ → FoundTy → Type 0
+Below n (Is ty) = Earlier n ty
+Below n Nothing = Unit {0}
+
+among-below : (known : List (List ℕ)) (s : List ℕ) (i : ℕ) → Below (i + length known) (namedAmong known s i)
+unfolding namedAmong
+among-below [] s i = tt
+among-below (x ∷ xs) s i = go (sameName x s) (among-below xs s (i + 1))
+  where
+    up : (f : FoundTy) → Below (i + 1 + length xs) f → Below (i + suc (length xs)) f
+    up (Is (Atomic a)) b = tt
+    up (Is (Struct n)) b = omega arith
+    up Nothing b = tt
+
+    go : (b : Bool) → Below (i + 1 + length xs) (namedAmong xs s (i + 1))
+        → Below (i + suc (length xs)) (cond b (Is (Struct i)) (namedAmong xs s (i + 1)))
+    go true b = omega arith
+    go false b = up (namedAmong xs s (i + 1)) b
+
+found-below : (known : List (List ℕ)) (s : List ℕ) → Below (length known) (typeAmong known s)
+unfolding typeAmong
+found-below known s = go (atomicNamed s)
+  where
+    go : (a : FoundAtomic) → Below (length known) (atomicOr a (namedAmong known s 0))
+    go (found a) = tt
+    go none = rw zero-add at (among-below known s 0)
+
+-- an atomic, or one of the known types
+pub found-earlier : (known : List (List ℕ)) (s : List ℕ) (ty : Ty) → typeAmong known s ≡ Is ty
+    → Earlier (length known) ty
+found-earlier known s ty e = rw e at (found-below known s)
+
+pub earlier-fits : (n : ℕ) → n ≤ 200 → (ty : Ty) → Earlier n ty → TyFits ty
+earlier-fits n l (Atomic a) e = tt
+earlier-fits n l (Struct k) e = omega arith
+
+-- ---- the words that are left
+
+pub record Left (known : List (List ℕ)) (book : List ℕ) (at n : ℕ) (tys₀ tys : List ℕ) (j : ℕ) : Type 0 where
+  pub count : length (foundWords known (typeNames book at 0 n))
+      ≡ j + length (foundWords known (typeNames book at j (n - j)))
+  pub words : sets tys₀ 0 (foundWords known (typeNames book at 0 n))
+      ≡ sets tys j (foundWords known (typeNames book at j (n - j)))
+  pub long : length tys ≡ length tys₀
+
+module _ (known : List (List ℕ)) (book : List ℕ) (at n : ℕ) {tys₀ tys : List ℕ} (j : ℕ)
+    (w : Left known book at n tys₀ tys j) where
+  module _ (l : j < n) where
+    names-cons : typeNames book at j (n - j) ≡ typeName book at j ∷ typeNames book at (j + 1) (n - (j + 1))
+    names-cons = from-cons (typeName book at) n j l
+
+    -- one more was found
+    pub left-on : (ty : Ty) → typeAmong known (typeName book at j) ≡ Is ty
+        → Left known book at n tys₀ (set tys j (tyWord ty)) (j + 1)
+    unfolding foundWords
+    left-on ty e =
+        let a : j + 1 ≡ suc j = omega arith in
+        record {
+          count = w .count ∙ rw (names-cons, e) (omega arith);
+          words = w .words ∙ rw (names-cons, e) (rw a);
+          long = length-set tys j (tyWord ty) ∙ w .long;
+        }
+
+    -- one is not known
+    pub left-stop : typeAmong known (typeName book at j) ≡ Nothing
+        → Resolves known (typeNames book at 0 n) tys₀ tys j
+    unfolding foundWords
+    left-stop e =
+        record {
+          is = sym (w .count ∙ rw (names-cons, e) (omega arith));
+          words = sym (w .words ∙ rw (names-cons, e));
+        }
+
+  -- all were found
+  pub left-end : n ≤ j → Resolves known (typeNames book at 0 n) tys₀ tys j
+  unfolding foundWords
+  left-end l =
+      let e = from-none (typeName book at) n j l in
+      record { is = sym (w .count ∙ rw e (omega arith)); words = sym (w .words ∙ rw e) }
