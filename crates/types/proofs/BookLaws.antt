@@ -16,11 +16,6 @@ use Rattle.types.specs.Book.{membersIn, bodiesAt, typeEntries, memberEnt
 
 -- ---- entries one after the other
 
-pub length-list : {A : Type 0} (f : ℕ → A) (i n : ℕ) → length (listFrom f i n) ≡ n
-unfolding listFrom
-length-list f i zero = refl
-length-list f i (suc n) = ap suc (length-list f (i + 1) n)
-
 module _ {A : Type 0} (f : ℕ → A) (n i : ℕ) where
   pub from-cons : i < n → listFrom f i (n - i) ≡ f i ∷ listFrom f (i + 1) (n - (i + 1))
   unfolding listFrom

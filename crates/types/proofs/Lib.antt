@@ -1,10 +1,12 @@
 -- Laws over the definitions of crate `types`, a file for each idea.
+pub mod AgreeLaws
 pub mod AoiLaws
 pub mod AoiStoreLaws
 pub mod AtomicLaws
 pub mod MeasureLaws
 pub mod Measuring
 pub mod NameLaws
+pub mod DefLaws
 pub mod DigitLaws
 pub mod EntryLaws
 pub mod FixedLaws

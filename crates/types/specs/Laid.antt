@@ -60,7 +60,7 @@ pub record Resolved (sizes : ℕ → ℕ) (i : ℕ) (d : Decl) : Type 0 where
   pub earlier : Earlier i (d .ty)
   pub align : 0 < d .align
 
--- each of the declared members is so
-unfoldable pub Every : (Decl → Type 0) → List Decl → Type 0
+-- each element is so
+unfoldable pub Every : {A : Type 0} → (A → Type 0) → List A → Type 0
 Every P [] = Unit {0}
-Every P (d ∷ ds) = P d × Every P ds
+Every P (x ∷ xs) = P x × Every P xs

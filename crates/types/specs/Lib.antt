@@ -13,6 +13,7 @@ pub mod Names
 pub mod Pieces
 pub mod Refusal
 pub mod Shape
+pub mod Registry
 pub mod Sink
 pub mod Structs
 pub mod Tables

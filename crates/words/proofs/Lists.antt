@@ -10,7 +10,7 @@ use mathlib.Core.Logic.{_⊎_, inl, inr, ⊎-elim}
 use lib.ListN.{length, getD, set, take, drop, length-append, length-take, length-drop, drop-of-length-le}
 use lib.ListN.{List·getD-append}
 use lib.Seq.{sets, sets-eq, set-comm, set-set, drop-cons, drop-drop, length-sets, getD-append-add, getD-set-other}
-use lib.Seq.{length-take-le, take-all, take-length}
+use lib.Seq.{length-take-le, take-all, take-length, take-set-le, take-append-seam, drop-set-add, drop-set-lt, drop-at}
 use Rattle.words.specs.Words.{part}
 
 module _ {A : Type 0} where
@@ -61,6 +61,30 @@ module _ {A : Type 0} where
   pub length-part : (s : List A) (at n : ℕ) → at + n ≤ length s → length (part s at n) ≡ n
   unfolding part
   length-part s at n h = simp (length-take, length-drop) (omega arith)
+
+  -- a part beside a store, and beside a run of stores
+  part-set : (l : List A) (i : ℕ) (a : A) (at n : ℕ) → (at + n ≤ i) ⊎ (i < at) → part (set l i a) at n ≡ part l at n
+  unfolding part
+  part-set l i a at n (inl h) =
+      let e : i ≡ at + (i - at) = omega arith in
+      ap (λ (k : ℕ). take n (drop at (set l k a))) e ∙ ap (λ (m : List A). take n m) (drop-set-add at l (i - at) a)
+      ∙ take-set-le n (drop at l) (i - at) a (omega arith)
+  part-set l i a at n (inr h) = ap (λ (m : List A). take n m) (drop-set-lt at l i a h)
+
+  pub part-beside : (l : List A) (i : ℕ) (vs : List A) (at n : ℕ) → (at + n ≤ i) ⊎ (i + length vs ≤ at)
+      → part (sets l i vs) at n ≡ part l at n
+  part-beside l i [] at n h = refl
+  part-beside l i (v ∷ vs) at n h =
+      part-beside (set l i v) (suc i) vs at n (⊎-elim (λ a. inl (omega arith)) (λ b. inr (omega arith)) h)
+      ∙ part-set l i v at n (⊎-elim (λ a. inl (omega arith)) (λ b. inr (omega arith)) h)
+
+  -- the part that a run of stores fills
+  pub part-run : (l : List A) (i : ℕ) (vs : List A) → i + length vs ≤ length l → part (sets l i vs) i (length vs) ≡ vs
+  unfolding part
+  part-run l i vs h =
+      let n : length (take i l) ≡ i = length-take-le i l (omega arith) in
+      rw (sets-eq vs l i h, append-assoc, drop-at (take i l) (vs ++ drop (i + length vs) l) i n)
+      (take-append-seam vs _)
 
   -- the first of the elements that are left, and those after it
   pub part-cons : (s : List A) (at n i : ℕ) (d : A) → i < n → at + n ≤ length s

@@ -1,0 +1,112 @@
+-- Laws of what is known by numbers (document 01, "Template and handle" and "Declaration book": the tables): where ids
+-- or sizes agree below n, templates and declared members that name only those types are the same; the list of the
+-- first n values.
+use Prim.Native.Nat.{ℕ, zero, suc, _+_, _<_}
+use native.Mathlib.Nat.{add-zero}
+use native.Mathlib.Omega.{arith}
+use mathlib.Core.Path.{_≡_, refl, ap, _∙_}
+use mathlib.Core.Bool.{Bool, true, false, cond}
+use mathlib.Core.List.{List, [], _∷_, _++_}
+use lib.ListN.{length, getD}
+use Rattle.types.specs.declared.atomic.Atomic.the-variants.{DWord}
+use Rattle.types.specs.declared.book.MemberEntry.{MemberEntry}
+use Rattle.types.specs.declared.member.Ty.{Ty}
+use Rattle.types.specs.declared.member.Ty.the-variants.{Atomic, Struct}
+use Rattle.types.specs.Book.{listFrom}
+use Rattle.types.specs.Defs.{Part, Def}
+use Rattle.types.specs.Entries.{boolArray, storedTy, resolved, declared}
+use Rattle.types.specs.Laid.{Earlier, Every}
+use Rattle.types.specs.Template.{typeIn, infoBytes, infos, frontOf, templateOf}
+use Rattle.types.specs.Waste.{sizeIn}
+use Rattle.types.proofs.DefLaws.{PartFits}
+
+-- ---- numbers that agree below n
+
+module _ (f g : ℕ → ℕ) (n : ℕ) (same : (k : ℕ) → k < n → f k ≡ g k) where
+  type-same : (ty : Ty) → Earlier n ty → typeIn f ty ≡ typeIn g ty
+  type-same (Atomic a) e = refl
+  type-same (Struct k) e = rw (same k e)
+
+  infos-same : (ps : List Part) → Every (PartFits n) ps → infos f ps ≡ infos g ps
+  unfolding infos infoBytes Every
+  infos-same [] e = refl
+  infos-same (p ∷ ps) e = rw (type-same (p .member .ty) (e .0 .earlier), infos-same ps (e .1))
+
+  -- a template by either ids
+  pub template-same : (d : Def) → Every (PartFits n) (d .parts) → templateOf f d ≡ templateOf g d
+  unfolding templateOf frontOf
+  template-same d e = rw (infos-same (d .parts) e)
+
+  size-same : (ty : Ty) → Earlier n ty → sizeIn f ty ≡ sizeIn g ty
+  size-same (Atomic a) e = refl
+  size-same (Struct k) e = same k e
+
+  stored-same : (ty : Ty) (dim : ℕ) → Earlier n ty → sizeIn f (storedTy ty dim) ≡ sizeIn g (storedTy ty dim)
+  unfolding storedTy
+  stored-same ty dim e = go (boolArray ty dim)
+    where
+      go : (b : Bool) → sizeIn f (cond b (Atomic DWord) ty) ≡ sizeIn g (cond b (Atomic DWord) ty)
+      go true = refl
+      go false = size-same ty e
+
+  -- a declared member by either sizes
+  pub declared-same : (ty : Ty) (e : MemberEntry) → Earlier n ty → declared f ty e ≡ declared g ty e
+  unfolding resolved
+  declared-same ty e h = rw (stored-same ty (e .dim) h)
+
+-- ---- the first n values
+
+module _ {A : Type 0} where
+  pub length-list : (f : ℕ → A) (i n : ℕ) → length (listFrom f i n) ≡ n
+  unfolding listFrom
+  length-list f i zero = refl
+  length-list f i (suc n) = ap suc (length-list f (i + 1) n)
+
+  getD-from : (f : ℕ → A) (i n k : ℕ) (d : A) → k < n → getD (listFrom f i n) k d ≡ f (i + k)
+  unfolding listFrom
+  getD-from f i zero k d h = absurd (omega arith)
+  getD-from f i (suc n) zero d h = rw add-zero
+  getD-from f i (suc n) (suc k) d h =
+      let e : i + suc k ≡ i + 1 + k = omega arith in
+      rw e (getD-from f (i + 1) n k d (omega arith))
+
+  -- the k-th
+  pub getD-list : (f : ℕ → A) (n k : ℕ) (d : A) → k < n → getD (listFrom f 0 n) k d ≡ f k
+  getD-list f n k d h =
+      let e : 0 + k ≡ k = omega arith in
+      getD-from f 0 n k d h ∙ ap f e
+
+  snoc-from : (f : ℕ → A) (i n : ℕ) → listFrom f i (suc n) ≡ listFrom f i n ++ f (i + n) ∷ []
+  unfolding listFrom
+  snoc-from f i zero = rw add-zero
+  snoc-from f i (suc n) =
+      let e : i + suc n ≡ i + 1 + n = omega arith in
+      rw e (ap (λ (l : List A). f i ∷ l) (snoc-from f (i + 1) n))
+
+  -- and one more
+  pub list-snoc : (f : ℕ → A) (n : ℕ) → listFrom f 0 (n + 1) ≡ listFrom f 0 n ++ f n ∷ []
+  list-snoc f n =
+      let e : n + 1 ≡ suc n = omega arith in
+      let o : 0 + n ≡ n = omega arith in
+      rw e (snoc-from f 0 n ∙ ap (λ (k : ℕ). listFrom f 0 n ++ f k ∷ []) o)
+
+  from-same : (f g : ℕ → A) (i n : ℕ) → ((k : ℕ) → k < n → f (i + k) ≡ g (i + k)) → listFrom f i n ≡ listFrom g i n
+  unfolding listFrom
+  from-same f g i zero h = refl
+  from-same f g i (suc n) h =
+      let e : f i ≡ g i = rw add-zero at (h 0 (omega arith)) in
+      rw (e, from-same f g (i + 1) n later)
+    where
+      later : (k : ℕ) → k < n → f (i + 1 + k) ≡ g (i + 1 + k)
+      later k l =
+          let e : i + 1 + k ≡ i + suc k = omega arith in
+          rw e (h (suc k) (omega arith))
+
+  -- the same values below n
+  pub list-same : (f g : ℕ → A) (n : ℕ) → ((k : ℕ) → k < n → f k ≡ g k) → listFrom f 0 n ≡ listFrom g 0 n
+  list-same f g n h = from-same f g 0 n shifted
+    where
+      shifted : (k : ℕ) → k < n → f (0 + k) ≡ g (0 + k)
+      shifted k l =
+          let e : 0 + k ≡ k = omega arith in
+          rw e (h k l)

@@ -1,0 +1,121 @@
+-- The registry: the types that were added so far, in order, and the tables that hold them (document 01, "Declaration
+-- book": the tables; "Order of building"). Each type takes the next row, its members the next rows, its name and
+-- theirs the next bytes.
+use Prim.Native.Nat.{ℕ, _+_}
+use mathlib.Core.List.{List, [], _∷_, _++_, map}
+use lib.ListN.{length, getD, replicate}
+use lib.Seq.{sets}
+use Rattle.types.specs.declared.member.StructDef.{StructDef}
+use Rattle.types.specs.declared.used.Used.{Used}
+use Rattle.types.specs.Book.{listFrom}
+use Rattle.types.specs.Defs.{Def}
+use Rattle.types.specs.Ids.{idWord}
+use Rattle.types.specs.Lookup.{rowNames}
+use Rattle.types.specs.Structs.{namesOf, rowsOf}
+use Rattle.types.specs.Tables.{typeRow}
+use Rattle.types.specs.Waste.{sizesIn}
+
+-- what adding a type asks of those before it: their names, ids and sizes by their numbers, and how many members and
+-- bytes of names they have
+pub record View : Type 0 where
+  pub names : List (List ℕ)
+  pub ids : List ℕ
+  pub sizes : List ℕ
+  pub members : ℕ
+  pub bytes : ℕ
+
+abbrev pub idAt : View → ℕ → ℕ
+idAt v n = getD (v .ids) n 0
+
+abbrev pub sizeAt : View → ℕ → ℕ
+sizeAt v n = getD (v .sizes) n 0
+
+-- a type's names: its own, then its members'
+abbrev pub ownNames : Def → List ℕ
+ownNames d = d .name ++ namesOf (d .parts)
+
+unfoldable pub membersOf : List Def → ℕ
+membersOf [] = 0
+membersOf (d ∷ ds) = length (d .parts) + membersOf ds
+
+unfoldable pub bytesOf : List Def → List ℕ
+bytesOf [] = []
+bytesOf (d ∷ ds) = ownNames d ++ bytesOf ds
+
+-- what a registry shows
+unfoldable pub viewOf : List Def → View
+viewOf ds =
+    record {
+      names = map (λ d. d .name) ds;
+      ids = map (λ d. d .id) ds;
+      sizes = map (λ d. d .size) ds;
+      members = membersOf ds;
+      bytes = length (bytesOf ds);
+    }
+
+-- what tables show of which so much is used
+unfoldable pub viewIn : List ℕ → List ℕ → Used → View
+viewIn types names u =
+    record {
+      names = rowNames types names (u .types);
+      ids = listFrom (idWord types) 0 (u .types);
+      sizes = listFrom (sizesIn types) 0 (u .types);
+      members = u .members;
+      bytes = u .bytes;
+    }
+
+-- ---- the tables of a registry
+
+-- a type's row, whose names begin at a place and whose members begin at a row
+abbrev pub headOf : ℕ → ℕ → Def → StructDef
+headOf at row d =
+    record {
+      name = record { at = at; long = length (d .name) };
+      id = d .id;
+      handle = d .handle;
+      size = d .size;
+      kind = d .kind;
+      first = row;
+      count = length (d .parts);
+    }
+
+unfoldable pub typeRows : ℕ → ℕ → List Def → List ℕ
+typeRows at row [] = []
+typeRows at row (d ∷ ds) =
+    typeRow (headOf at row d) ++ typeRows (at + length (ownNames d)) (row + length (d .parts)) ds
+
+unfoldable pub memberRows : ℕ → List Def → List ℕ
+memberRows at [] = []
+memberRows at (d ∷ ds) = rowsOf (at + length (d .name)) (d .parts) ++ memberRows (at + length (ownNames d)) ds
+
+-- tables of zeros
+unfoldable pub noTypes : List ℕ
+noTypes = replicate 1600 0
+
+unfoldable pub noMembers : List ℕ
+noMembers = replicate 16000 0
+
+unfoldable pub noNames : List ℕ
+noNames = replicate 32768 0
+
+unfoldable pub typesTable : List Def → List ℕ
+typesTable ds = sets noTypes 0 (typeRows 0 0 ds)
+
+unfoldable pub membersTable : List Def → List ℕ
+membersTable ds = sets noMembers 0 (memberRows 0 ds)
+
+unfoldable pub namesTable : List Def → List ℕ
+namesTable ds = sets noNames 0 (bytesOf ds)
+
+-- how much of the tables a registry uses
+abbrev pub usedBy : List Def → Used
+usedBy ds = record { types = length ds; members = membersOf ds; bytes = length (bytesOf ds) }
+
+-- and with one type more
+abbrev pub usedMore : Used → Def → Used
+usedMore u d =
+    record {
+      types = u .types + 1;
+      members = u .members + length (d .parts);
+      bytes = u .bytes + length (ownNames d);
+    }
