@@ -31,3 +31,5 @@ pub mod TemplateLaws
 pub mod WalkLaws
 pub mod WasteLaws
 pub mod ResolveLaws
+pub mod RoundLaws
+pub mod OrderLaws

@@ -10,10 +10,12 @@ pub mod Laid
 pub mod Layout
 pub mod Lookup
 pub mod Names
+pub mod Order
 pub mod Pieces
 pub mod Refusal
 pub mod Shape
 pub mod Registry
+pub mod Rounds
 pub mod Sink
 pub mod Structs
 pub mod Tables
