@@ -202,7 +202,7 @@ earlier-fits : (n : ℕ) (ty : Ty) → n ≤ 200 → Earlier n ty → TyFits ty
 earlier-fits n (Atomic a) h e = tt
 earlier-fits n (Struct k) h e = omega arith
 
-within-fits : {m : List ℕ} {n edge row : ℕ} → n ≤ 200 → Within m n edge row → TyFits (memberAt m row .ty)
+pub within-fits : {m : List ℕ} {n edge row : ℕ} → n ≤ 200 → Within m n edge row → TyFits (memberAt m row .ty)
 within-fits {m} {n} {edge} {row} h w = earlier-fits n (memberAt m row .ty) h (w .earlier)
 
 -- its rows can be read

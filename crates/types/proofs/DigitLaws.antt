@@ -15,11 +15,11 @@ use Rattle.types.specs.Digits.{digitsIn, digits, tenZ, hostName, bitHost
 abbrev pub digitOf : ℕ → ℕ
 digitOf x = 48 + x % 10
 
-more : (n x : ℕ) → 10 ≤ x → digitsIn (suc n) x ≡ digitsIn n (x / 10) ++ (digitOf x ∷ [])
+pub more : (n x : ℕ) → 10 ≤ x → digitsIn (suc n) x ≡ digitsIn n (x / 10) ++ (digitOf x ∷ [])
 unfolding digitsIn
 more n x h = simp (le-ltb x 10 h)
 
-one : (n x : ℕ) → x < 10 → digitsIn (suc n) x ≡ digitOf x ∷ []
+pub one : (n x : ℕ) → x < 10 → digitsIn (suc n) x ≡ digitOf x ∷ []
 unfolding digitsIn
 one n x h =
     let e : x % 10 ≡ x = omega arith in
@@ -113,7 +113,7 @@ module _ (name : List ℕ) (k n : ℕ) (d : Digits) (s : Spelled k d) (e : n ≡
       (sym (sets-append t at tenZ (take 10 name ++ digits k)
       ∙ sets-append (sets t at tenZ) (at + 10) (take 10 name) (digits k) ∙ rw g))
 
-digits-most : (n x : ℕ) → length (digitsIn n x) ≤ n
+pub digits-most : (n x : ℕ) → length (digitsIn n x) ≤ n
 unfolding digitsIn
 digits-most zero x = omega arith
 digits-most (suc n) x =

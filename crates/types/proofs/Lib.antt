@@ -15,6 +15,7 @@ pub mod HandleLaws
 pub mod IdLaws
 pub mod LookupLaws
 pub mod LayoutLaws
+pub mod ListingLaws
 pub mod PlaceLaws
 pub mod FreeLaws
 pub mod LaidLaws
@@ -22,6 +23,7 @@ pub mod BookLaws
 pub mod CheckLaws
 pub mod BoundLaws
 pub mod ShapeLaws
+pub mod ShownLaws
 pub mod SinkLaws
 pub mod StoreLaws
 pub mod Storing
@@ -30,6 +32,11 @@ pub mod TableLaws
 pub mod TemplateLaws
 pub mod WalkLaws
 pub mod WasteLaws
+pub mod RegistryLaws
 pub mod ResolveLaws
 pub mod RoundLaws
 pub mod OrderLaws
+pub mod AddLaws
+pub mod RoomLaws
+pub mod AddStoreLaws
+pub mod AddUdtLaws

@@ -26,7 +26,7 @@ pub one-name : (n : List ℕ) (m : Member) → n ≡ namesOf (named n m ∷ [])
 unfolding namesOf
 one-name n m = sym (append-nil n)
 
-row-long : (at : ℕ) (ps : List Part) → length (rowsOf at ps) ≡ 8 * length ps
+pub row-long : (at : ℕ) (ps : List Part) → length (rowsOf at ps) ≡ 8 * length ps
 unfolding rowsOf memberRow
 row-long at [] = refl
 row-long at (p ∷ ps) = simp length-append (omega (arith, row-long (at + length (p .name)) ps))

@@ -8,6 +8,7 @@ pub mod Header
 pub mod Ids
 pub mod Laid
 pub mod Layout
+pub mod Listing
 pub mod Lookup
 pub mod Names
 pub mod Order
@@ -26,3 +27,5 @@ pub mod Checks
 pub mod Cases
 pub mod ShapeCases
 pub mod Resolve
+pub mod Add
+pub mod ListingCases

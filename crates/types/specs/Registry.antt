@@ -6,6 +6,7 @@ use mathlib.Core.List.{List, [], _∷_, _++_, map}
 use lib.ListN.{length, getD, replicate}
 use lib.Seq.{sets}
 use Rattle.types.specs.declared.member.StructDef.{StructDef}
+use Rattle.types.specs.declared.member.StructKind.{StructKind}
 use Rattle.types.specs.declared.used.Used.{Used}
 use Rattle.types.specs.Book.{listFrom}
 use Rattle.types.specs.Defs.{Def}
@@ -79,6 +80,32 @@ headOf at row d =
       count = length (d .parts);
     }
 
+-- the row of a type after what is used, still without its handle
+abbrev pub bareHead : Used → ℕ → ℕ → ℕ → StructKind → ℕ → StructDef
+bareHead u long id size kind count =
+    record {
+      name = record { at = u .bytes; long = long };
+      id = id;
+      handle = 0;
+      size = size;
+      kind = kind;
+      first = u .members;
+      count = count;
+    }
+
+-- the same with a handle
+abbrev pub withHandle : StructDef → ℕ → StructDef
+withHandle h handle =
+    record {
+      name = h .name;
+      id = h .id;
+      handle = handle;
+      size = h .size;
+      kind = h .kind;
+      first = h .first;
+      count = h .count;
+    }
+
 unfoldable pub typeRows : ℕ → ℕ → List Def → List ℕ
 typeRows at row [] = []
 typeRows at row (d ∷ ds) =
@@ -112,10 +139,9 @@ abbrev pub usedBy : List Def → Used
 usedBy ds = record { types = length ds; members = membersOf ds; bytes = length (bytesOf ds) }
 
 -- and with one type more
+abbrev pub usedWith : Used → ℕ → ℕ → Used
+usedWith u members bytes =
+    record { types = u .types + 1; members = u .members + members; bytes = u .bytes + bytes }
+
 abbrev pub usedMore : Used → Def → Used
-usedMore u d =
-    record {
-      types = u .types + 1;
-      members = u .members + length (d .parts);
-      bytes = u .bytes + length (ownNames d);
-    }
+usedMore u d = usedWith u (length (d .parts)) (length (ownNames d))

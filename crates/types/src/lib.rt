@@ -1,5 +1,7 @@
 // Types and layouts (document 01's first crate): the atomic types, names, the book's entries, refusals, rows
 // of the lent tables, layouts, templates and waste.
+mod add;
+// of the lent tables, layouts, templates, waste and the lines of a listing.
 mod aoi;
 mod atomic;
 mod book;
@@ -11,6 +13,7 @@ mod handle;
 mod header;
 mod ids;
 mod layout;
+mod listing;
 mod lookups;
 mod measure;
 mod member;
@@ -54,6 +57,10 @@ pub use layout::Host;
 pub use layout::Placed;
 pub use layout::member_end;
 pub use layout::place;
+pub use listing::put_decimal;
+pub use listing::put_member_line;
+pub use listing::put_refused_line;
+pub use listing::put_type_line;
 pub use lookups::FoundTy;
 pub use lookups::lookup;
 pub use measure::Measured;

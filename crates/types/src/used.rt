@@ -1,9 +1,37 @@
 // How much of the lent tables is used, and what a waiting type's turn in a round gives (document 01, "Order of
 // building").
+ghost use mathlib.Core.Path.{_≡_};
+ghost use Prim.Native.Nat.{_+_, _≤_, _^_};
+ghost use Rattle.types.specs.Add.{hasRoom};
+use crate::refusal::Refusal;
+use crate::tables::MEMBERS;
+use crate::tables::NAME_BYTES;
+use crate::tables::TYPES;
 
 // So many types, members and bytes of names stand in the tables.
 pub struct Used {
     pub types: usize,
     pub members: usize,
     pub bytes: usize,
+}
+
+// A type waits, is refused, or was added, and so much is used then.
+pub enum Turn {
+    Waits,
+    Refused(Refusal),
+    Added(Used),
+}
+
+// The tables have room for one more type, with so many members and bytes of names.
+pub fn has_room(u: Used, members: usize, bytes: usize) -> bool
+    requires { ⌜ (u .members + members ≤ 2 ^ 40) × (u .bytes + bytes ≤ 2 ^ 40) ⌝ }
+    ensures { λ r. ⌜ r ≡ hasRoom u members bytes ⌝ }
+{
+    if TYPES <= u.types {
+        return false;
+    }
+    if MEMBERS < u.members + members {
+        return false;
+    }
+    u.bytes + bytes <= NAME_BYTES
 }

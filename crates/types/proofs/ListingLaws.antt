@@ -1,0 +1,305 @@
+-- Laws of the lines that the program `layout` prints (document 01, end of "Reference cases"): digits stored from the
+-- last one on, fields put one after the other, and how long a line can be.
+use Prim.Native.Nat.{ℕ, zero, suc, _+_, _-_, _/_, _^_, _≤_, _<_}
+use native.Mathlib.Nat.{pow-suc}
+use native.Mathlib.Omega.{arith}
+use mathlib.Core.Path.{_≡_, refl, sym, ap, _∙_}
+use mathlib.Core.Bool.{Bool, true, false}
+use mathlib.Core.List.{List, [], _∷_, _++_, append-assoc, append-nil}
+use lib.ListN.{length, set, take, drop, replicate, length-append, length-drop, length-set}
+use lib.Seq.{set-split, drop-at, length-take-le, length-sets, take-all}
+use Rattle.words.proofs.Lists.{sets-append}
+use Rattle.types.specs.declared.atomic.Atomic.{Atomic as AtomicType}
+use Rattle.types.specs.declared.atomic.Atomic.the-variants.{Bool as BOOL, SInt, Int, DInt, LInt, USInt, UInt}
+use Rattle.types.specs.declared.atomic.Atomic.the-variants.{UDInt}
+use Rattle.types.specs.declared.atomic.Atomic.the-variants.{ULInt, Real, LReal, Byte, Word, DWord, LWord}
+use Rattle.types.specs.declared.listing.Decimal.{Decimal}
+use Rattle.types.specs.declared.member.Bit.{Bit}
+use Rattle.types.specs.declared.member.Bit.the-variants.{None, At}
+use Rattle.types.specs.declared.member.Member.{Member}
+use Rattle.types.specs.declared.member.Span.{Span}
+use Rattle.types.specs.declared.member.StructDef.{StructDef}
+use Rattle.types.specs.declared.member.Ty.{Ty}
+use Rattle.types.specs.declared.member.Ty.the-variants.{Atomic, Struct}
+use Rattle.types.specs.Atomic.{nameOf}
+use Rattle.types.specs.Defs.{nameIn}
+use Rattle.types.specs.Digits.{digitsIn, digits}
+use Rattle.types.specs.Listing.{ended, line, typeWord, typeNumbers, typeLine, seen, bitText, memberPlace}
+use Rattle.types.specs.Listing.{memberLine, refusedWord, refusedLine, typeName, structNames, Short, StructNamed}
+use Rattle.types.specs.Listing.{TypeNamed, Listable, Fits, Added, Lined, Spelt}
+use Rattle.types.specs.Tables.{memberAt, nameAt}
+use Rattle.types.proofs.DigitLaws.{digitOf, more, one, digits-most}
+use Rattle.types.proofs.TemplateLaws.{name-long}
+
+-- ---- a number's digits, stored from the last one on
+
+-- of the digits of x, those of y are left for the places up to `from`
+pub record Spelling (x : ℕ) (bytes : List ℕ) (from y : ℕ) : Type 0 where
+  pub long : length bytes ≡ 20
+  pub inside : from < 20
+  pub small : y < 10 ^ suc from
+  pub left : digits x ≡ digitsIn (suc from) y ++ drop (suc from) bytes
+
+pub spell-first : (x : ℕ) → x < 2 ^ 64 → Spelling x (replicate 20 0) 19 x
+unfolding digits
+spell-first x h =
+    record {
+      long = refl;
+      inside = omega arith;
+      small = omega arith;
+      left = sym (append-nil (digitsIn 20 x));
+    }
+
+stored : (l : List ℕ) (i v : ℕ) → i < length l → drop i (set l i v) ≡ v ∷ drop (suc i) l
+stored l i v h = rw (set-split l i v h) (drop-at (take i l) _ i (length-take-le i l (omega arith)))
+
+module _ {x from y v : ℕ} {bytes : List ℕ} (w : Spelling x bytes from y) (e : v ≡ digitOf y) where
+  pub spell-more : 10 ≤ y → 1 ≤ from
+  spell-more h = at-least from (w .small)
+    where
+      at-least : (n : ℕ) → y < 10 ^ suc n → 1 ≤ n
+      at-least zero k = omega arith
+      at-least (suc n) k = omega arith
+
+  pub spell-on : 10 ≤ y → Spelling x (set bytes from v) (from - 1) (y / 10)
+  spell-on h =
+      let n : suc (from - 1) ≡ from = omega (arith, spell-more h) in
+      record {
+        long = length-set bytes from v ∙ w .long;
+        inside = omega (arith, w .inside);
+        small = rw n (smaller (w .small));
+        left = w .left ∙ rw (n, stored bytes from v (omega (arith, w .long, w .inside)), e, more from y h)
+            (append-assoc (digitsIn from (y / 10)) _ _);
+      }
+    where
+      smaller : y < 10 ^ suc from → y / 10 < 10 ^ from
+      smaller k = omega (arith, pow-suc 10 from)
+
+  pub spell-done : y < 10 → Spelt x (record { bytes = set bytes from v; from = from })
+  spell-done h =
+      record {
+        is = rw (stored bytes from v (omega (arith, w .long, w .inside)), e) (sym (w .left ∙ rw (one from y h)));
+        inside = omega (arith, w .inside);
+        long = length-set bytes from v ∙ w .long;
+      }
+
+-- the digits are the part of the bytes from `from` on
+pub spelt-part : {x : ℕ} {d : Decimal} → Spelt x d → take (20 - d .from) (drop (d .from) (d .bytes)) ≡ digits x
+spelt-part {x} {d} s =
+    take-all (20 - d .from) (drop (d .from) (d .bytes)) (simp length-drop (omega (arith, s .long))) ∙ s .is
+
+-- ---- bytes put one after the other
+
+pub added-both : {s t : List ℕ} {at m r : ℕ} {out mid left : List ℕ} → Added s at out m mid → Added t m mid r left
+    → Added (s ++ t) at out r left
+added-both {s} {t} {at} {m} {r} {out} {mid} {left} a b =
+    record {
+      next = omega (arith, a .next, b .next, length-append s t);
+      bytes = b .bytes ∙ rw (a .bytes, a .next) (sym (sets-append out at s t));
+    }
+
+-- some bytes fit where more do, and so do the others after them
+pub fits-first : {at : ℕ} {out : List ℕ} (s t : List ℕ) → Fits (s ++ t) at out → Fits s at out
+fits-first s t h = record { room = omega (arith, h .room, length-append s t) }
+
+pub fits-then : {s t : List ℕ} {at m : ℕ} {out mid : List ℕ} → Fits (s ++ t) at out → Added s at out m mid
+    → Fits t m mid
+fits-then {s} {t} {at} {m} {out} {mid} h a =
+    let n : length mid ≡ length out = ap length (a .bytes) ∙ length-sets out at s in
+    record { room = omega (arith, h .room, length-append s t, a .next, n) }
+
+pub lined : {s : List ℕ} {r : ℕ} {out left : List ℕ} → Added s 0 out r left → Lined s out r left
+lined a = record { long = omega (arith, a .next); bytes = a .bytes }
+
+-- any number's digits fit into twenty places
+pub digits-20 : (x : ℕ) → length (digits x) ≤ 20
+unfolding digits
+digits-20 x = digits-most 20 x
+
+pub digits-fit : (x at : ℕ) (out : List ℕ) → at + 20 ≤ length out → Fits (digits x) at out
+digits-fit x at out h = record { room = omega (arith, digits-20 x) }
+
+-- ---- the fields of a line, one after the other
+
+-- of a whole that is put at a place of the buffer first, a line of the fields fs is left for a place of the buffer now
+pub record Left (whole : List ℕ) (start : ℕ) (first : List ℕ) (fs : List (List ℕ)) (at : ℕ) (now : List ℕ)
+    : Type 0 where
+  pub fits : Fits (line fs) at now
+  pub then : (r : ℕ) (last : List ℕ) → Added (line fs) at now r last → Added whole start first r last
+
+pub left-all : {at : ℕ} {out : List ℕ} (fs : List (List ℕ)) → Fits (line fs) at out → Left (line fs) at out fs at out
+left-all fs h = record { fits = h; then = λ r last a. a }
+
+module _ {whole : List ℕ} {start : ℕ} {first f : List ℕ} {at : ℕ} {now : List ℕ} where
+  module _ {g : List ℕ} {fs : List (List ℕ)} (l : Left whole start first (f ∷ g ∷ fs) at now) where
+    -- the next field fits
+    pub left-room : Fits (ended f 32) at now
+    unfolding line
+    left-room = fits-first (ended f 32) (line (g ∷ fs)) (l .fits)
+
+    -- the next field was put
+    pub left-on : {r : ℕ} {next : List ℕ} → Added (ended f 32) at now r next → Left whole start first (g ∷ fs) r next
+    unfolding line
+    left-on a = record { fits = fits-then (l .fits) a; then = λ r last b. l .then r last (added-both a b) }
+
+  module _ (l : Left whole start first (f ∷ []) at now) where
+    -- the last field fits
+    pub last-room : Fits (ended f 10) at now
+    unfolding line
+    last-room = l .fits
+
+    -- the last field was put
+    pub left-done : {r : ℕ} {last : List ℕ} → Added (ended f 10) at now r last → Added whole start first r last
+    unfolding line
+    left-done {r} {last} a = l .then r last a
+
+-- all of a line's end is left, as the code has its fields
+pub numbers-left : (d : StructDef) (bits : ℕ) {id size count long bytes at : ℕ} {out : List ℕ} → id ≡ d .id
+    → size ≡ d .size → count ≡ d .count → long ≡ bytes
+    → Fits (line (typeNumbers (d .id) (d .size) (d .count) bytes bits)) at out
+    → Left (line (typeNumbers (d .id) (d .size) (d .count) bytes bits)) at out (typeNumbers id size count long bits)
+    at out
+numbers-left d bits {bytes = bytes} p q r s h =
+    rw (p, q, r, s) (left-all (typeNumbers (d .id) (d .size) (d .count) bytes bits) h)
+
+pub place-left : (m : Member) (name : List ℕ) {count offset at : ℕ} {out : List ℕ} → count ≡ m .count
+    → offset ≡ m .offset → Fits (line (memberPlace m name)) at out
+    → Left (line (memberPlace m name)) at out (digits count ∷ digits offset ∷ bitText (m .bit) ∷ name ∷ []) at out
+place-left m name p q h = rw (p, q) (left-all (memberPlace m name) h)
+
+-- ---- lines of 512 bytes
+
+bit-20 : (b : Bit) → length (bitText b) ≤ 20
+bit-20 None = omega arith
+bit-20 (At k) = digits-20 k
+
+seen-1 : (b : Bool) → length (seen b) ≡ 1
+seen-1 true = refl
+seen-1 false = refl
+
+atomic-5 : (a : AtomicType) → length (nameOf a) ≤ 5
+unfolding nameOf
+atomic-5 BOOL = omega arith
+atomic-5 SInt = omega arith
+atomic-5 Int = omega arith
+atomic-5 DInt = omega arith
+atomic-5 LInt = omega arith
+atomic-5 USInt = omega arith
+atomic-5 UInt = omega arith
+atomic-5 UDInt = omega arith
+atomic-5 ULInt = omega arith
+atomic-5 Real = omega arith
+atomic-5 LReal = omega arith
+atomic-5 Byte = omega arith
+atomic-5 Word = omega arith
+atomic-5 DWord = omega arith
+atomic-5 LWord = omega arith
+
+short-long : (names : List ℕ) {s : Span} → Short s → length (nameIn names s) ≤ 200
+short-long names {s} h = omega (arith, name-long names (s .at) (s .long), h .most)
+
+type-long : (types names : List ℕ) (t : Ty) → TypeNamed types t → length (typeName (structNames types names) t) ≤ 200
+type-long types names (Atomic a) h = omega (arith, atomic-5 a)
+type-long types names (Struct n) h = short-long names (h .name)
+
+-- a type's line
+module _ (names : List ℕ) (d : StructDef) (bytes bits : ℕ) where
+  abbrev pub typeFields : List (List ℕ)
+  typeFields = typeWord ∷ nameIn names (d .name) ∷ typeNumbers (d .id) (d .size) (d .count) bytes bits
+
+  pub type-left : {out : List ℕ} → Short (d .name) → 512 ≤ length out → Left (line typeFields) 0 out typeFields 0 out
+  unfolding line
+  type-left h k =
+      left-all typeFields record {
+        room = simp length-append
+            (omega (
+              arith,
+              short-long names h,
+              digits-20 (d .id),
+              digits-20 (d .size),
+              digits-20 (d .count),
+              digits-20 bytes,
+              digits-20 bits,
+            ));
+      }
+
+  pub type-lined : {r : ℕ} {out left : List ℕ} → Added (line typeFields) 0 out r left
+      → Lined (typeLine (nameIn names (d .name)) (d .id) (d .size) (d .count) bytes bits) out r left
+  unfolding typeLine
+  type-lined a = lined a
+
+-- a member's line
+module _ (types names : List ℕ) (number : ℕ) (m : Member) (name : Span) where
+  abbrev pub memberFields : List (List ℕ)
+  memberFields =
+      digits number ∷ seen (m .hidden) ∷ typeName (structNames types names) (m .ty) ∷ memberPlace m (nameIn names name)
+
+  pub member-left : {out : List ℕ} → TypeNamed types (m .ty) → Short name → 512 ≤ length out
+      → Left (line memberFields) 0 out memberFields 0 out
+  unfolding line
+  member-left t h k =
+      left-all memberFields record {
+        room = simp length-append
+            (omega (
+              arith,
+              type-long types names (m .ty) t,
+              short-long names h,
+              seen-1 (m .hidden),
+              bit-20 (m .bit),
+              digits-20 number,
+              digits-20 (m .count),
+              digits-20 (m .offset),
+            ));
+      }
+
+  pub member-lined : {r : ℕ} {out left : List ℕ} → Added (line memberFields) 0 out r left
+      → Lined (memberLine number (typeName (structNames types names) (m .ty)) m (nameIn names name)) out r left
+  unfolding memberLine
+  member-lined a = lined a
+
+-- a refusal's line
+module _ (number place : ℕ) where
+  abbrev pub refusedFields : List (List ℕ)
+  refusedFields = refusedWord ∷ digits number ∷ digits place ∷ []
+
+  pub refused-left : {out : List ℕ} → 512 ≤ length out → Left (line refusedFields) 0 out refusedFields 0 out
+  unfolding line
+  refused-left k =
+      left-all refusedFields record {
+        room = simp length-append (omega (arith, digits-20 number, digits-20 place));
+      }
+
+  pub refused-lined : {r : ℕ} {out left : List ℕ} → Added (line refusedFields) 0 out r left
+      → Lined (refusedLine number place) out r left
+  unfolding refusedLine
+  refused-lined a = lined a
+
+-- ---- rows
+
+-- the structure that was read is the one that is asked for
+pub listed : {types members : List ℕ} {d e : StructDef} → d ≡ e → Listable types members e → Listable types members d
+listed q h = rw q h
+
+pub struct-named : {types : List ℕ} {t : Ty} {n : ℕ} → t ≡ Struct n → TypeNamed types t → StructNamed types n
+struct-named e h = rw e at h
+
+-- the k-th row of the structure that was read
+module _ {types members : List ℕ} {d e : StructDef} {first k : ℕ} (q : d ≡ e) (p : first ≡ d .first) (l : k < e .count)
+    (h : Listable types members e) where
+  pub row-same : first + k ≡ e .first + k
+  row-same = rw (p, q)
+
+  pub row-below : first + k < 2000
+  row-below = rw row-same (omega (arith, h .rows .rows .rows))
+
+  pub row-short : {name : Span} → name ≡ nameAt members (first + k) → Short name
+  row-short n = rw (n, row-same) (h .names k l)
+
+  pub row-named : {m : Member} → m ≡ memberAt members (first + k) → TypeNamed types (m .ty)
+  row-named n = rw (n, row-same) (h .tys k l)
+
+  -- all of its line is left
+  pub row-left : (names : List ℕ) {m : Member} {name : Span} {out : List ℕ} → m ≡ memberAt members (first + k)
+      → name ≡ nameAt members (first + k) → 512 ≤ length out
+      → Left (line (memberFields types names k m name)) 0 out (memberFields types names k m name) 0 out
+  row-left names {m} {name} a b g = member-left types names k m name (row-named a) (row-short b) g

@@ -1,0 +1,134 @@
+-- Laws of the registry's tables (document 01, "Declaration book": the tables; "Order of building"): one type more is
+-- its row after the rows, its members' rows after the members' rows, and its names after the names; and how long the
+-- tables are.
+use Prim.Native.Nat.{ℕ, _+_, _*_}
+use native.Mathlib.Nat.{add-zero, zero-add}
+use native.Mathlib.Omega.{arith}
+use mathlib.Core.Path.{_≡_, refl, sym, ap, _∙_}
+use mathlib.Core.List.{List, [], _∷_, _++_, append-assoc, append-nil}
+use lib.ListN.{length, length-append, length-replicate}
+use lib.Seq.{sets, length-sets}
+use Rattle.words.proofs.Lists.{sets-append}
+use Rattle.types.specs.Defs.{Def}
+use Rattle.types.specs.Registry.{ownNames, membersOf, bytesOf, headOf, typeRows, memberRows, usedBy, usedMore}
+use Rattle.types.specs.Registry.{noTypes, noMembers, noNames, typesTable, membersTable, namesTable}
+use Rattle.types.specs.Structs.{rowsOf}
+use Rattle.types.specs.Tables.{typeRow}
+use Rattle.types.proofs.StoreLaws.{row-long}
+
+-- ---- one type more: how many, and which rows
+
+pub length-snoc : (ds : List Def) (d : Def) → length (ds ++ d ∷ []) ≡ length ds + 1
+length-snoc ds d = length-append ds (d ∷ [])
+
+pub members-of-snoc : (ds : List Def) (d : Def) → membersOf (ds ++ d ∷ []) ≡ membersOf ds + length (d .parts)
+unfolding membersOf
+members-of-snoc [] d = omega arith
+members-of-snoc (x ∷ ds) d = omega (arith, members-of-snoc ds d)
+
+pub bytes-of-snoc : (ds : List Def) (d : Def) → bytesOf (ds ++ d ∷ []) ≡ bytesOf ds ++ ownNames d
+unfolding bytesOf
+bytes-of-snoc [] d = append-nil (ownNames d)
+bytes-of-snoc (x ∷ ds) d =
+    ap (λ (l : List ℕ). ownNames x ++ l) (bytes-of-snoc ds d)
+    ∙ sym (append-assoc (ownNames x) (bytesOf ds) (ownNames d))
+
+pub long-snoc : (ds : List Def) (d : Def)
+    → length (bytesOf (ds ++ d ∷ [])) ≡ length (bytesOf ds) + length (ownNames d)
+long-snoc ds d = rw (bytes-of-snoc ds d) (length-append (bytesOf ds) (ownNames d))
+
+type-rows-snoc : (at row : ℕ) (ds : List Def) (d : Def) → typeRows at row (ds ++ d ∷ [])
+    ≡ typeRows at row ds ++ typeRow (headOf (at + length (bytesOf ds)) (row + membersOf ds) d)
+unfolding typeRows bytesOf membersOf
+type-rows-snoc at row [] d = rw (add-zero at, add-zero row) (append-nil _)
+type-rows-snoc at row (x ∷ ds) d =
+    let e : at + length (ownNames x) + length (bytesOf ds) ≡ at + length (ownNames x ++ bytesOf ds) =
+    omega (arith, length-append (ownNames x) (bytesOf ds)) in
+    let f : row + length (x .parts) + membersOf ds ≡ row + (length (x .parts) + membersOf ds) = omega arith in
+    rw (append-assoc (typeRow (headOf at row x)), ← e, ← f) (ap (λ (l : List ℕ). typeRow (headOf at row x) ++ l)
+    (type-rows-snoc (at + length (ownNames x)) (row + length (x .parts)) ds d))
+
+member-rows-snoc : (at : ℕ) (ds : List Def) (d : Def) → memberRows at (ds ++ d ∷ [])
+    ≡ memberRows at ds ++ rowsOf (at + length (bytesOf ds) + length (d .name)) (d .parts)
+unfolding memberRows bytesOf
+member-rows-snoc at [] d = rw add-zero (append-nil _)
+member-rows-snoc at (x ∷ ds) d =
+    let e : at + length (ownNames x) + length (bytesOf ds) ≡ at + length (ownNames x ++ bytesOf ds) =
+    omega (arith, length-append (ownNames x) (bytesOf ds)) in
+    let first = rowsOf (at + length (x .name)) (x .parts) in
+    rw (append-assoc first, ← e) (ap (λ (l : List ℕ). first ++ l)
+    (member-rows-snoc (at + length (ownNames x)) ds d))
+
+type-rows-long : (at row : ℕ) (ds : List Def) → length (typeRows at row ds) ≡ 8 * length ds
+unfolding typeRows typeRow
+type-rows-long at row [] = refl
+type-rows-long at row (d ∷ ds) =
+    omega (arith, type-rows-long (at + length (ownNames d)) (row + length (d .parts)) ds)
+
+member-rows-long : (at : ℕ) (ds : List Def) → length (memberRows at ds) ≡ 8 * membersOf ds
+unfolding memberRows membersOf
+member-rows-long at [] = refl
+member-rows-long at (d ∷ ds) =
+    let own = rowsOf (at + length (d .name)) (d .parts) in
+    let rest = memberRows (at + length (ownNames d)) ds in
+    omega (
+      arith,
+      length-append own rest,
+      row-long (at + length (d .name)) (d .parts),
+      member-rows-long (at + length (ownNames d)) ds,
+    )
+
+-- ---- one type more: the tables
+
+pub types-more : (ds : List Def) (d : Def) → typesTable (ds ++ d ∷ [])
+    ≡ sets (typesTable ds) (8 * length ds) (typeRow (headOf (length (bytesOf ds)) (membersOf ds) d))
+unfolding typesTable
+types-more ds d =
+    let e : 0 + length (typeRows 0 0 ds) ≡ 8 * length ds = omega (arith, type-rows-long 0 0 ds) in
+    rw (type-rows-snoc 0 0 ds d, zero-add (length (bytesOf ds)), zero-add (membersOf ds))
+    (rw (← e) (sets-append noTypes 0 (typeRows 0 0 ds) _))
+
+pub members-more : (ds : List Def) (d : Def) → membersTable (ds ++ d ∷ [])
+    ≡ sets (membersTable ds) (8 * membersOf ds) (rowsOf (length (bytesOf ds) + length (d .name)) (d .parts))
+unfolding membersTable
+members-more ds d =
+    let e : 0 + length (memberRows 0 ds) ≡ 8 * membersOf ds = omega (arith, member-rows-long 0 ds) in
+    rw (member-rows-snoc 0 ds d, zero-add) (rw (← e) (sets-append noMembers 0 (memberRows 0 ds) _))
+
+pub names-more : (ds : List Def) (d : Def)
+    → namesTable (ds ++ d ∷ []) ≡ sets (namesTable ds) (length (bytesOf ds)) (ownNames d)
+unfolding namesTable
+names-more ds d =
+    let e : 0 + length (bytesOf ds) ≡ length (bytesOf ds) = omega arith in
+    rw (bytes-of-snoc ds d) (sets-append noNames 0 (bytesOf ds) (ownNames d)
+    ∙ ap (λ (k : ℕ). sets (sets noNames 0 (bytesOf ds)) k (ownNames d)) e)
+
+-- and how much of them is used
+pub used-more : (ds : List Def) (d : Def) → usedBy (ds ++ d ∷ []) ≡ usedMore (usedBy ds) d
+used-more ds d = rw (length-snoc ds d, members-of-snoc ds d, long-snoc ds d)
+
+-- ---- how long the tables are
+
+no-types-long : length noTypes ≡ 1600
+unfolding noTypes
+no-types-long = length-replicate {A = ℕ} 1600 0
+
+no-members-long : length noMembers ≡ 16000
+unfolding noMembers
+no-members-long = length-replicate {A = ℕ} 16000 0
+
+no-names-long : length noNames ≡ 32768
+unfolding noNames
+no-names-long = length-replicate {A = ℕ} 32768 0
+
+pub types-long : (ds : List Def) → length (typesTable ds) ≡ 1600
+unfolding typesTable
+types-long ds = length-sets noTypes 0 (typeRows 0 0 ds) ∙ no-types-long
+
+pub members-long : (ds : List Def) → length (membersTable ds) ≡ 16000
+unfolding membersTable
+members-long ds = length-sets noMembers 0 (memberRows 0 ds) ∙ no-members-long
+
+pub names-long : (ds : List Def) → length (namesTable ds) ≡ 32768
+unfolding namesTable
+names-long ds = length-sets noNames 0 (bytesOf ds) ∙ no-names-long

@@ -1,0 +1,22 @@
+-- Laws of the room in the tables (document 01, refusal 13): one test after the other.
+use Prim.Native.Nat.{ℕ, _+_, _<_, _≤_}
+use mathlib.Core.Path.{_≡_}
+use mathlib.Core.Bool.{false}
+use borrow.Author.Tests.{lt-ltb, le-ltb, le-leb, lt-leb}
+use lib.Dec.{leb}
+use Rattle.types.specs.declared.used.Used.{Used}
+use Rattle.types.specs.Add.{hasRoom}
+
+module _ (u : Used) (members bytes : ℕ) where
+  pub room-types : 200 ≤ u .types → false ≡ hasRoom u members bytes
+  unfolding hasRoom
+  room-types l = simp (le-ltb _ _ l)
+
+  module _ (l : u .types < 200) where
+    pub room-members : 2000 < u .members + members → false ≡ hasRoom u members bytes
+    unfolding hasRoom
+    room-members h = simp (lt-ltb _ _ l, lt-leb _ _ h)
+
+    pub room-bytes : u .members + members ≤ 2000 → leb (u .bytes + bytes) 32768 ≡ hasRoom u members bytes
+    unfolding hasRoom
+    room-bytes h = simp (lt-ltb _ _ l, le-leb _ _ h)

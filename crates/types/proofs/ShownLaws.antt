@@ -1,0 +1,303 @@
+-- Laws of what the tables of a registry show (document 01, "Declaration book": the tables; "Order of building"): every
+-- type that was added is read back from its row, the rows after them are unused, and one type more leaves the others.
+use Prim.Native.Nat.{ℕ, zero, suc, _+_, _*_, _≤_, _<_}
+use native.Mathlib.Decide.{decLt}
+use native.Mathlib.Nat.{add-zero, zero-add}
+use native.Mathlib.Omega.{arith}
+use mathlib.Core.Path.{_≡_, refl, ap, _∙_}
+use mathlib.Core.List.{List, [], _∷_, _++_, map}
+use mathlib.Core.Logic.{inl, inr}
+use lib.ListN.{length, getD, replicate, length-append, List·getD-append}
+use lib.Seq.{sets, getD-append-seam}
+use Rattle.words.specs.Words.{part}
+use Rattle.words.proofs.Lists.{getD-sets, getD-beside, part-beside}
+use Rattle.types.specs.declared.member.StructDef.{StructDef}
+use Rattle.types.specs.declared.member.StructKind.the-variants.{Udt}
+use Rattle.types.specs.Book.{listFrom}
+use Rattle.types.specs.Defs.{Def, defOf, Readable, AllReadable}
+use Rattle.types.specs.Ids.{idWord}
+use Rattle.types.specs.Laid.{Every}
+use Rattle.types.specs.Lookup.{rowName, NamesInside}
+use Rattle.types.specs.Registry.{ownNames, membersOf, bytesOf, headOf, typeRows, noTypes}
+use Rattle.types.specs.Registry.{typesTable, membersTable, namesTable, usedBy, viewIn, viewOf}
+use Rattle.types.specs.Structs.{namesOf, rowsOf}
+use Rattle.types.specs.Tables.{typeAt, typeRow}
+use Rattle.types.specs.Waste.{sizesIn}
+use Rattle.types.proofs.DefLaws.{PartFits, Within, type-stays, member-stays, name-stays}
+use Rattle.types.proofs.DefLaws.{parts-beside, def-back, rows-within, within-fits}
+use Rattle.types.proofs.RegistryLaws.{length-snoc, members-of-snoc, long-snoc, types-more, members-more}
+use Rattle.types.proofs.RegistryLaws.{names-more, types-long, members-long, names-long}
+use Rattle.types.proofs.TableLaws.{type-back}
+
+-- ---- what a type that is added has, and what the tables show
+
+-- what a type that is added to a registry has
+pub record Fits (ds : List Def) (d : Def) : Type 0 where
+  pub few : length ds < 200
+  pub rows : membersOf ds + length (d .parts) ≤ 2000
+  pub bytes : length (bytesOf ds) + length (ownNames d) ≤ 32768
+  pub parts : Every (PartFits (length ds)) (d .parts)
+  pub id : d .id < 0x1000
+  pub used : d .id ≡ 0 → ⊥
+  pub handle : d .handle < 65536
+
+-- row i shows the type: its names begin at a place, its members at a row
+pub record Row (ds : List Def) (i : ℕ) (d : Def) : Type 0 where
+  pub at : ℕ
+  pub row : ℕ
+  pub head : typeAt (typesTable ds) i ≡ headOf at row d
+  pub word : idWord (typesTable ds) i ≡ d .id
+  pub def : defOf (membersTable ds) (namesTable ds) (headOf at row d) ≡ d
+  pub bytes : at + length (ownNames d) ≤ length (bytesOf ds)
+  pub rows : row + length (d .parts) ≤ membersOf ds
+  pub within : (k : ℕ) → k < length (d .parts) → Within (membersTable ds) i (at + length (ownNames d)) (row + k)
+  pub parts : Every (PartFits i) (d .parts)
+  pub id : d .id < 0x1000
+  pub used : d .id ≡ 0 → ⊥
+
+-- no type
+unfoldable pub noDef : Def
+noDef = record { name = []; id = 0; handle = 0; size = 0; kind = Udt; parts = [] }
+
+-- each type of the registry is shown by its row, and the rows after them are unused
+pub record Shown (ds : List Def) : Type 0 where
+  pub few : length ds ≤ 200
+  pub members : membersOf ds ≤ 2000
+  pub bytes : length (bytesOf ds) ≤ 32768
+  pub rows : (i : ℕ) → i < length ds → Row ds i (getD ds i noDef)
+  pub unused : (i : ℕ) → length ds ≤ i → typeAt (typesTable ds) i .id ≡ 0
+
+-- ---- no type
+
+zeros : (n k : ℕ) → _≡_ {A = ℕ} (getD (replicate n 0) k 0) 0
+zeros zero k = refl
+zeros (suc n) zero = refl
+zeros (suc n) (suc k) = zeros n k
+
+no-word : (k : ℕ) → getD noTypes k 0 ≡ 0
+unfolding noTypes
+no-word k = zeros 1600 k
+
+pub shown-none : Shown []
+unfolding membersOf bytesOf typesTable typeRows typeAt
+shown-none =
+    record {
+      few = omega arith;
+      members = omega arith;
+      bytes = omega arith;
+      rows = λ i l. absurd (omega arith);
+      unused = λ i l. rw (no-word (8 * i + 2));
+    }
+
+-- ---- one type more
+
+-- its row, and its members' rows
+abbrev typeRun : List Def → Def → List ℕ
+typeRun ds d = typeRow (headOf (length (bytesOf ds)) (membersOf ds) d)
+
+abbrev memberRun : List Def → Def → List ℕ
+memberRun ds d = rowsOf (length (bytesOf ds) + length (d .name)) (d .parts)
+
+-- the rows before it stay
+module _ (ds : List Def) (d : Def) (i : ℕ) (x : Def) (h : i < length ds) (r : Row ds i x) where
+  stays-head : typeAt (typesTable (ds ++ d ∷ [])) i ≡ headOf (r .at) (r .row) x
+  stays-head =
+      rw (types-more ds d)
+      (type-stays (typesTable ds) (8 * length ds) (typeRun ds d) i (inl (omega arith)) ∙ r .head)
+
+  stays-word : idWord (typesTable (ds ++ d ∷ [])) i ≡ x .id
+  stays-word =
+      rw (types-more ds d)
+      (getD-beside (typesTable ds) (8 * length ds) (typeRun ds d) (8 * i + 2) 0 (inl (omega arith)) ∙ r .word)
+
+  stays-def : defOf (membersTable (ds ++ d ∷ [])) (namesTable (ds ++ d ∷ [])) (headOf (r .at) (r .row) x) ≡ x
+  unfolding defOf
+  stays-def =
+      let long = length-append (x .name) (namesOf (x .parts)) in
+      let edge = length (bytesOf ds) in
+      let own : part (sets (namesTable ds) edge (ownNames d)) (r .at) (length (x .name))
+      ≡ part (namesTable ds) (r .at) (length (x .name)) =
+      part-beside (namesTable ds) edge (ownNames d) (r .at) (length (x .name)) (inl (omega arith)) in
+      let parts = parts-beside (membersTable ds) (namesTable ds) (r .row) (length (x .parts)) (8 * membersOf ds)
+      (memberRun ds d) edge (ownNames d) (omega arith) (λ k l. omega (arith, r .within k l .name)) in
+      rw (members-more ds d, names-more ds d) (rw (own, parts) (r .def))
+
+  stays-within : (k : ℕ) → k < length (x .parts)
+      → Within (membersTable (ds ++ d ∷ [])) i (r .at + length (ownNames x)) (r .row + k)
+  stays-within k l =
+      let after = 8 * membersOf ds in
+      let name = name-stays (membersTable ds) after (memberRun ds d) (r .row + k) (inl (omega arith)) in
+      let member = member-stays (membersTable ds) after (memberRun ds d) (r .row + k) (inl (omega arith)) in
+      rw (members-more ds d)
+      record { name = rw name (r .within k l .name); earlier = rw member (r .within k l .earlier) }
+
+  row-stays : Row (ds ++ d ∷ []) i x
+  row-stays =
+      record {
+        at = r .at;
+        row = r .row;
+        head = stays-head;
+        word = stays-word;
+        def = stays-def;
+        bytes = omega (arith, long-snoc ds d);
+        rows = omega (arith, members-of-snoc ds d);
+        within = stays-within;
+        parts = r .parts;
+        id = r .id;
+        used = r .used;
+      }
+
+-- its own row shows it
+module _ (ds : List Def) (d : Def) (f : Fits ds d) where
+  own-head : typeAt (typesTable (ds ++ d ∷ [])) (length ds) ≡ headOf (length (bytesOf ds)) (membersOf ds) d
+  own-head =
+      rw (types-more ds d)
+      (type-back (typesTable ds) (length ds) _ (omega (arith, types-long ds))
+      record { id = omega (arith, f .id); handle = f .handle })
+
+  own-word : idWord (typesTable (ds ++ d ∷ [])) (length ds) ≡ d .id
+  unfolding typeRow
+  own-word =
+      rw (types-more ds d)
+      (getD-sets (typesTable ds) (8 * length ds) (typeRun ds d) 2 0 (omega (arith, types-long ds)) (omega arith))
+
+  own-def : defOf (membersTable (ds ++ d ∷ [])) (namesTable (ds ++ d ∷ []))
+      (headOf (length (bytesOf ds)) (membersOf ds) d)
+      ≡ d
+  own-def =
+      rw (members-more ds d, names-more ds d)
+      (def-back (membersTable ds) (namesTable ds) (membersOf ds) (length (bytesOf ds)) (length ds) d
+      (omega (arith, members-long ds)) (omega (arith, names-long ds)) (f .parts))
+
+  own-within : (k : ℕ) → k < length (d .parts)
+      → Within (membersTable (ds ++ d ∷ [])) (length ds) (length (bytesOf ds) + length (ownNames d)) (membersOf ds + k)
+  own-within k l =
+      let e : length (bytesOf ds) + length (ownNames d)
+      ≡ length (bytesOf ds) + length (d .name) + length (namesOf (d .parts)) =
+      omega (arith, length-append (d .name) (namesOf (d .parts))) in
+      rw (members-more ds d, e)
+      (rows-within (membersTable ds) (membersOf ds) (length (bytesOf ds) + length (d .name)) (length ds) (d .parts)
+      (omega (arith, members-long ds)) (f .parts) k l)
+
+  own-row : Row (ds ++ d ∷ []) (length ds) d
+  own-row =
+      record {
+        at = length (bytesOf ds);
+        row = membersOf ds;
+        head = own-head;
+        word = own-word;
+        def = own-def;
+        bytes = omega (arith, long-snoc ds d);
+        rows = omega (arith, members-of-snoc ds d);
+        within = own-within;
+        parts = f .parts;
+        id = f .id;
+        used = f .used;
+      }
+
+-- the rows after it are unused still
+unused-more : (ds : List Def) (d : Def) → Shown ds → (i : ℕ) → length ds + 1 ≤ i
+    → typeAt (typesTable (ds ++ d ∷ [])) i .id ≡ 0
+unfolding typeRow
+unused-more ds d s i l =
+    rw (types-more ds d, type-stays (typesTable ds) (8 * length ds) (typeRun ds d) i (inr (omega arith)))
+    (s .unused i (omega arith))
+
+-- one type more is shown beside the others
+pub shown-more : (ds : List Def) (d : Def) → Shown ds → Fits ds d → Shown (ds ++ d ∷ [])
+shown-more ds d s f =
+    let long = length-snoc ds d in
+    record {
+      few = omega arith;
+      members = omega (arith, members-of-snoc ds d);
+      bytes = omega (arith, long-snoc ds d);
+      rows = λ i l. row i (omega (arith, l)) (decLt i (length ds));
+      unused = λ i l. unused-more ds d s i (omega (arith, l));
+    }
+  where
+    row : (i : ℕ) → i < length ds + 1 → Dec (i < length ds) → Row (ds ++ d ∷ []) i (getD (ds ++ d ∷ []) i noDef)
+    row i l (yes h) =
+        rw (List·getD-append ds (d ∷ []) noDef i h) (row-stays ds d i (getD ds i noDef) h (s .rows i h))
+    row i l (no h) =
+        let e : i ≡ length ds = omega (arith, h) in
+        rw (e, getD-append-seam ds d [] noDef) (own-row ds d f)
+
+-- ---- what follows
+
+-- values by their numbers that are those of a list's elements
+list-map : {A B : Type 0} (f : ℕ → B) (g : A → B) (l : List A) (z : A) (i : ℕ)
+    → ((k : ℕ) → k < length l → f (i + k) ≡ g (getD l k z)) → listFrom f i (length l) ≡ map g l
+unfolding listFrom
+list-map f g [] z i h = refl
+list-map {A} f g (x ∷ l) z i h =
+    let e : f i ≡ g x = rw add-zero at (h 0 (omega arith)) in
+    rw (e, list-map f g l z (i + 1) later)
+  where
+    later : (k : ℕ) → k < length l → f (i + 1 + k) ≡ g (getD l k z)
+    later k o =
+        let e : i + 1 + k ≡ i + suc k = omega arith in
+        rw e (h (suc k) (omega arith))
+
+map-same : {B : Type 0} (f : ℕ → B) (g : Def → B) (ds : List Def)
+    → ((k : ℕ) → k < length ds → f k ≡ g (getD ds k noDef)) → listFrom f 0 (length ds) ≡ map g ds
+map-same f g ds h = list-map f g ds noDef 0 (λ k l. rw zero-add (h k l))
+
+-- a row's name, id and size are the type's
+name-same : (ds : List Def) (i : ℕ) (d : Def) → Row ds i d → rowName (typesTable ds) (namesTable ds) i ≡ d .name
+unfolding defOf
+name-same ds i d r = rw (r .head) (ap (λ (x : Def). x .name) (r .def))
+
+pub sizes-same : (ds : List Def) → Shown ds → (k : ℕ) → k < length ds
+    → sizesIn (typesTable ds) k ≡ getD ds k noDef .size
+sizes-same ds s k l = ap (λ (h : StructDef). h .size) (s .rows k l .head)
+
+-- the tables show what the registry shows
+pub view-same : (ds : List Def) → Shown ds → viewIn (typesTable ds) (namesTable ds) (usedBy ds) ≡ viewOf ds
+unfolding viewIn viewOf
+view-same ds s =
+    let names = map-same (rowName (typesTable ds) (namesTable ds)) (λ d. d .name) ds
+    (λ k l. name-same ds k (getD ds k noDef) (s .rows k l)) in
+    let ids = map-same (idWord (typesTable ds)) (λ d. d .id) ds (λ k l. s .rows k l .word) in
+    let sizes = map-same (sizesIn (typesTable ds)) (λ d. d .size) ds (sizes-same ds s) in
+    rw (names, ids, sizes)
+
+-- the types' names lie among the names
+pub names-inside : (ds : List Def) → Shown ds → NamesInside (typesTable ds) (namesTable ds) (length ds)
+names-inside ds s = record { few = s .few; inside = inside }
+  where
+    inside : (i : ℕ) → i < length ds
+        → typeAt (typesTable ds) i .name .at + typeAt (typesTable ds) i .name .long ≤ length (namesTable ds)
+    inside i l =
+        let d = getD ds i noDef in
+        let r = s .rows i l in
+        rw (r .head, names-long ds) (omega (arith, r .bytes, s .bytes, length-append (d .name) (namesOf (d .parts))))
+
+-- ids are small: of the types, as words, and of all rows
+pub ids-small : (ds : List Def) → Shown ds → (k : ℕ) → k < length ds → idWord (typesTable ds) k < 65536
+ids-small ds s k l = rw (s .rows k l .word) (omega (arith, s .rows k l .id))
+
+pub ids-fit : (ds : List Def) → Shown ds → (n : ℕ) → n < 200 → typeAt (typesTable ds) n .id < 0x1000
+ids-fit ds s n l = go (decLt n (length ds))
+  where
+    go : Dec (n < length ds) → typeAt (typesTable ds) n .id < 0x1000
+    go (yes h) = rw (s .rows n h .head) (s .rows n h .id)
+    go (no h) = omega (arith, s .unused n (omega (arith, h)))
+
+-- the rows of every type in use can be read
+row-readable : (ds : List Def) → Shown ds → (i : ℕ) (d : Def) → i < length ds → (r : Row ds i d)
+    → Readable (membersTable ds) (headOf (r .at) (r .row) d)
+row-readable ds s i d l r =
+    let long = length-append (d .name) (namesOf (d .parts)) in
+    record {
+      name = omega (arith, r .bytes, s .bytes);
+      rows = omega (arith, r .rows, s .members);
+      names = λ k o. omega (arith, r .within k o .name, r .bytes, s .bytes);
+      types = λ k o. within-fits (omega (arith, s .few)) (r .within k o);
+    }
+
+pub all-readable : (ds : List Def) → Shown ds → AllReadable (typesTable ds) (membersTable ds)
+all-readable ds s i few used = go (decLt i (length ds))
+  where
+    go : Dec (i < length ds) → Readable (membersTable ds) (typeAt (typesTable ds) i)
+    go (yes h) = rw (s .rows i h .head) (row-readable ds s i (getD ds i noDef) h (s .rows i h))
+    go (no h) = absurd (used (s .unused i (omega (arith, h))))

@@ -1,0 +1,62 @@
+-- `types::decimal_of` meets its contract. The invariant: the digits of what is left of the number belong before those
+-- that are stored.
+use native.Mathlib.Omega.{arith}
+use borrow.Author.Needs.{needs}
+use Rattle.types.proofs.ListingLaws.{Spelling, spell-first, spell-more, spell-on, spell-done}
+use Rattle.types.proofs.listing.decimal_of.Statement.{statement}
+use Rattle.types.proofs.listing.decimal_of.Tie as tie
+
+abbrev Inv-loop : tie.InvT-loop
+Inv-loop x bytes₀ from₀ y₀ bytes from y = Spelling x bytes from y
+
+abbrev μ-loop : tie.MeasureT-loop
+μ-loop x bytes₀ from₀ y₀ bytes from y = y
+
+loop-holds : tie.Need-loop-holds Inv-loop μ-loop
+loop-holds c = spell-first (c .args .x) (omega arith)
+
+last-digit-requires : tie.Need-last-digit-requires Inv-loop μ-loop
+last-digit-requires c κs = search needs
+
+array-write-bytes : tie.Need-array-write-bytes Inv-loop μ-loop
+array-write-bytes c = search needs
+
+sub-from : tie.Need-sub-from Inv-loop μ-loop
+sub-from c =
+    let turn = c .before in
+    omega (arith, spell-more (turn .before .loop .inv) (c .last-digit .ensures) (turn .loop-test .taken))
+
+loop-less : tie.Need-loop-less Inv-loop μ-loop
+loop-less c = omega arith
+
+loop-again : tie.Need-loop-again Inv-loop μ-loop
+loop-again c =
+    let turn = c .before in
+    spell-on (turn .before .loop .inv) (c .last-digit .ensures) (turn .loop-test .taken)
+
+last-digit-requires-2 : tie.Need-last-digit-requires-2 Inv-loop μ-loop
+last-digit-requires-2 c κs = search needs
+
+array-write-bytes-2 : tie.Need-array-write-bytes-2 Inv-loop μ-loop
+array-write-bytes-2 c = search needs
+
+returns : tie.Need-returns Inv-loop μ-loop
+returns c =
+    let past = c .before in
+    spell-done (past .before .loop .inv) (c .last-digit2 .ensures) (omega (arith, past .loop-test .left))
+
+pub decimal-of-spec : {M : Type 1} → statement M
+decimal-of-spec =
+    tie.close
+    (tie.spec
+    Inv-loop
+    μ-loop
+    loop-holds
+    last-digit-requires
+    array-write-bytes
+    sub-from
+    loop-less
+    loop-again
+    last-digit-requires-2
+    array-write-bytes-2
+    returns)

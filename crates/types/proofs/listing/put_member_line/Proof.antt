@@ -1,0 +1,123 @@
+-- `types::put_member_line` meets its contract: the fields of the member that was read.
+use borrow.Author.Needs.{needs}
+use mathlib.Core.List.{List}
+use Prim.Native.Nat.{ℕ}
+use Rattle.types.specs.Listing.{line, TypeNamed, Short}
+use Rattle.types.proofs.ListingLaws.{Left, left-room, left-on, memberFields, member-lined, row-same, row-below}
+use Rattle.types.proofs.ListingLaws.{row-short, row-named, row-left}
+use Rattle.types.proofs.listing.put_member_line.Statement.{statement}
+use Rattle.types.proofs.listing.put_member_line.Tie as tie
+
+abbrev first : tie.After-name-at → tie.After-wide
+first c = c .before .before
+
+abbrev start : tie.After-name-at → tie.Start
+start c = first c .before .before .before
+
+-- the fields as the code has them
+abbrev fields : tie.After-name-at → List (List ℕ)
+fields c =
+    let a = start c .args in
+    memberFields (a .types .now) (a .names .now) (a .k) (c .before .member-at .result) (c .name-at .result)
+
+named : (c : tie.After-name-at) → TypeNamed (start c .args .types .now) (c .before .member-at .result .ty)
+named c =
+    let p = start c .pre in
+    row-named (first c .before .type-at .ensures) (first c .wide .ensures) (p .1 .1 .0) (p .1 .0)
+    (c .before .member-at .ensures)
+
+short : (c : tie.After-name-at) → Short (c .name-at .result)
+short c =
+    let p = start c .pre in
+    row-short (first c .before .type-at .ensures) (first c .wide .ensures) (p .1 .1 .0) (p .1 .0) (c .name-at .ensures)
+
+all : (c : tie.After-name-at)
+    → Left (line (fields c)) 0 (start c .args .out .now) (fields c) 0 (start c .args .out .now)
+all c =
+    let p = start c .pre in
+    row-left (first c .before .type-at .ensures) (first c .wide .ensures) (p .1 .1 .0) (p .1 .0)
+    (start c .args .names .now) (c .before .member-at .ensures) (c .name-at .ensures) (p .1 .1 .1)
+
+type-at-requires : tie.Need-type-at-requires
+type-at-requires c κs = search needs
+
+wide-requires : tie.Need-wide-requires
+wide-requires c κs = search needs
+
+add-row : tie.Need-add-row
+add-row c = search needs
+
+member-at-requires : tie.Need-member-at-requires
+member-at-requires c κs =
+    let pre = c .before .before .before .pre in
+    row-below (c .before .type-at .ensures) (c .wide .ensures) (pre .1 .1 .0) (pre .1 .0)
+
+name-at-requires : tie.Need-name-at-requires
+name-at-requires c κs =
+    let at-first = c .before in
+    let pre = at-first .before .before .before .pre in
+    row-below (at-first .before .type-at .ensures) (at-first .wide .ensures) (pre .1 .1 .0) (pre .1 .0)
+
+put-number-requires : tie.Need-put-number-requires
+put-number-requires c κs = left-room (all (c .before))
+
+put-seen-requires : tie.Need-put-seen-requires
+put-seen-requires c κs =
+    let n1 = c .before .before .before in
+    left-room (left-on (all (n1 .before .before)) (n1 .put-number .ensures))
+
+put-type-name-requires : tie.Need-put-type-name-requires
+put-type-name-requires c κs =
+    let n2 = c .before .before .before .before in
+    let n1 = n2 .before .before .before .before in
+    let w = n1 .before .before in
+    let l1 = left-on (all w) (n1 .put-number .ensures) in
+    let l2 = left-on l1 (n2 .put-seen .ensures) in
+    (named w, (c .before .put-type-name-arg .given .0, left-room l2))
+
+put-place-requires : tie.Need-put-place-requires
+put-place-requires c κs =
+    let n3 = c .before .before .before .before in
+    let n2 = n3 .before .before .before .before .before in
+    let n1 = n2 .before .before .before .before in
+    let w = n1 .before .before in
+    let l1 = left-on (all w) (n1 .put-number .ensures) in
+    let l2 = left-on l1 (n2 .put-seen .ensures) in
+    let l3 = left-on l2 (n3 .put-type-name .ensures) in
+    (rw (c .before .put-place-arg .given .0) (short w .inside), l3 .fits)
+
+same-length : tie.Need-same-length
+same-length c = search needs
+
+returns : tie.Need-returns
+returns c =
+    let n4 = c .before .before in
+    let n3 = n4 .before .before .before .before .before in
+    let n2 = n3 .before .before .before .before .before in
+    let n1 = n2 .before .before .before .before in
+    let w = n1 .before .before in
+    let l1 = left-on (all w) (n1 .put-number .ensures) in
+    let l2 = left-on l1 (n2 .put-seen .ensures) in
+    let l3 = left-on l2 (n3 .put-type-name .ensures) in
+    let a = start w .args in
+    let p = start w .pre in
+    let row = row-same (first w .before .type-at .ensures) (first w .wide .ensures) (p .1 .1 .0) (p .1 .0) in
+    rw (← row, ← w .before .member-at .ensures, ← w .name-at .ensures)
+    (member-lined (a .types .now) (a .names .now) (a .k) (w .before .member-at .result) (w .name-at .result)
+    (l3 .then _ _ (n4 .put-place .ensures)))
+
+pub put-member-line-spec : {M : Type 1} → statement M
+put-member-line-spec =
+    tie.close
+    (tie.spec
+    type-at-requires
+    wide-requires
+    add-row
+    member-at-requires
+    name-at-requires
+    put-number-requires
+    put-seen-requires
+    put-type-name-requires
+    put-place-requires
+    same-length
+    returns)

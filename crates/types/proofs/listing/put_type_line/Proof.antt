@@ -1,0 +1,87 @@
+-- `types::put_type_line` meets its contract: the word, the name and the numbers of the structure that was read.
+use borrow.Author.Needs.{needs}
+use mathlib.Core.List.{List}
+use Prim.Native.Nat.{ℕ}
+use Rattle.types.specs.Listing.{line, Listable}
+use Rattle.types.proofs.ListingLaws.{Left, left-room, left-on, typeFields, type-left, type-lined, listed}
+use Rattle.types.proofs.listing.put_type_line.Statement.{statement}
+use Rattle.types.proofs.listing.put_type_line.Tie as tie
+
+abbrev start : tie.After-waste → tie.Start
+start c = c .before .before .before .before .before
+
+abbrev names : tie.After-waste → List ℕ
+names c = start c .args .names .now
+
+-- the fields as the code has them
+abbrev fields : tie.After-waste → List (List ℕ)
+fields c =
+    typeFields (names c) (c .before .before .before .type-at .result) (c .before .template-len .result)
+    (c .waste .result)
+
+known : (c : tie.After-waste)
+    → Listable (start c .args .types .now) (start c .args .members .now) (c .before .before .before .type-at .result)
+known c = listed (c .before .before .before .type-at .ensures) (start c .pre .1 .0)
+
+all : (c : tie.After-waste)
+    → Left (line (fields c)) 0 (start c .args .out .now) (fields c) 0 (start c .args .out .now)
+all c = type-left (names c) (c .before .before .before .type-at .result) _ _ (known c .name) (start c .pre .1 .1)
+
+type-at-requires : tie.Need-type-at-requires
+type-at-requires c κs = search needs
+
+template-len-requires : tie.Need-template-len-requires
+template-len-requires c κs = listed (c .before .type-at .ensures) (c .before .before .before .pre .1 .0) .rows .rows
+
+waste-requires : tie.Need-waste-requires
+waste-requires c κs = listed (c .before .before .type-at .ensures) (c .before .before .before .before .pre .1 .0) .rows
+
+slice-aggregate-put-field : tie.Need-slice-aggregate-put-field
+slice-aggregate-put-field c = search needs
+
+put-field-requires : tie.Need-put-field-requires
+put-field-requires c κs = search needs
+
+put-name-requires : tie.Need-put-name-requires
+put-name-requires c κs =
+    let n1 = c .before .before .before .before in
+    let w = n1 .before .before .before in
+    let l1 = left-on (all w) (n1 .put-field .ensures) in
+    (rw (c .put-name-arg2 .given .0) (known w .name .inside), left-room l1)
+
+put-numbers-requires : tie.Need-put-numbers-requires
+put-numbers-requires c κs =
+    let n2 = c .before .before .before in
+    let n1 = n2 .before .before .before .before .before in
+    let l1 = left-on (all (n1 .before .before .before)) (n1 .put-field .ensures) in
+    left-on l1 (n2 .put-name .ensures) .fits
+
+same-length : tie.Need-same-length
+same-length c = search needs
+
+returns : tie.Need-returns
+returns c =
+    let n3 = c .before .before in
+    let n2 = n3 .before .before .before .before in
+    let n1 = n2 .before .before .before .before .before in
+    let w = n1 .before .before .before in
+    let l1 = left-on (all w) (n1 .put-field .ensures) in
+    let l2 = left-on l1 (n2 .put-name .ensures) in
+    let d = w .before .before .before .type-at in
+    let bytes = w .before .template-len in
+    rw (← d .ensures, ← bytes .ensures, ← w .waste .ensures (names w))
+    (type-lined (names w) (d .result) (bytes .result) (w .waste .result) (l2 .then _ _ (n3 .put-numbers .ensures)))
+
+pub put-type-line-spec : {M : Type 1} → statement M
+put-type-line-spec =
+    tie.close
+    (tie.spec
+    type-at-requires
+    template-len-requires
+    waste-requires
+    slice-aggregate-put-field
+    put-field-requires
+    put-name-requires
+    put-numbers-requires
+    same-length
+    returns)

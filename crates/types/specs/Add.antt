@@ -1,0 +1,198 @@
+-- Adding one type of the book (document 01, "Refusal numbers"): 2, 3, 4, 5, 6, 7; per member 2, 8, 9; layout per member
+-- 11, 12; then 13; else the new type.
+use Prim.Native.Nat.{ℕ, _+_, _*_, _/_, _%_, _^_, _-_, _≤_, _<_}
+use mathlib.Core.Path.{_≡_}
+use mathlib.Core.Bool.{Bool, cond, not, _&&_}
+use mathlib.Core.List.{List, []}
+use lib.Dec.{eqb, leb, ltb}
+use lib.ListN.{length, getD}
+use lib.Seq.{sets}
+use Rattle.types.specs.declared.book.TypeEntry.{TypeEntry}
+use Rattle.types.specs.declared.checks.Checked.{Checked}
+use Rattle.types.specs.declared.checks.Checked.the-variants.{Good, NameWrong, Twice, LocalOutside}
+use Rattle.types.specs.declared.ids.Picked.{Picked}
+use Rattle.types.specs.declared.ids.Picked.the-variants.{Free, OutsideRange, InUse, NoneFree}
+use Rattle.types.specs.declared.layout.Decl.{Decl}
+use Rattle.types.specs.declared.measure.Measured.{Measured}
+use Rattle.types.specs.declared.measure.Measured.the-variants.{Laid, AccessWrong as accessWrong, TooFar as tooFar}
+use Rattle.types.specs.declared.member.StructKind.{StructKind}
+use Rattle.types.specs.declared.member.StructKind.the-variants.{Udt, Str, Aoi}
+use Rattle.types.specs.declared.refusal.Refusal.{Refusal}
+use Rattle.types.specs.declared.refusal.Refusal.the-variants.{NameOutsideRule, NameKnown, IdOutsideRange, IdInUse}
+use Rattle.types.specs.declared.refusal.Refusal.the-variants.{NoIdFree, StringWrong, MemberTwice, LocalOutsideAoi}
+use Rattle.types.specs.declared.refusal.Refusal.the-variants.{AccessWrong, MemberTooFar, TablesFull}
+use Rattle.types.specs.declared.used.Turn.{Turn}
+use Rattle.types.specs.declared.used.Turn.the-variants.{Waits, Refused, Added}
+use Rattle.types.specs.declared.used.Used.{Used}
+use Rattle.types.specs.Book.{typeEntry}
+use Rattle.types.specs.Checks.{checked, entriesFrom, EntriesInside}
+use Rattle.types.specs.Defs.{Part, Def, nameIn}
+use Rattle.types.specs.Digits.{hostName}
+use Rattle.types.specs.Handle.{handleOf}
+use Rattle.types.specs.Ids.{idWord, idFor}
+use Rattle.types.specs.Laid.{Earlier}
+use Rattle.types.specs.Lookup.{typeAmong, NamesInside}
+use Rattle.types.specs.Names.{goodName}
+use Rattle.types.specs.Registry.{View, idAt, ownNames, headOf, usedMore}
+use Rattle.types.specs.Resolve.{isFound}
+use Rattle.types.specs.Structs.{rowsOf, namedIn, sizeAt, udtStart, udtParts, aoiParts, measured}
+use Rattle.types.specs.Structs.{measuredAoi}
+use Rattle.types.specs.Structs.{stringParts, stringSize}
+use Rattle.types.specs.Tables.{typeRow, tyOf}
+use Rattle.types.specs.Template.{templateOf}
+
+-- a refusal, or the new type
+pub data Verdict : Type 0 where
+  no : Refusal → Verdict
+  yes : Def → Verdict
+
+-- ---- 13, or the new type
+
+-- the tables hold 200 types, 2,000 members and 32,768 bytes of names; so much is used, and so much is asked for
+unfoldable pub hasRoom : Used → ℕ → ℕ → Bool
+hasRoom u members bytes = ltb (u .types) 200 && leb (u .members + members) 2000 && leb (u .bytes + bytes) 32768
+
+abbrev pub usedIn : View → Used
+usedIn v = record { types = length (v .names); members = v .members; bytes = v .bytes }
+
+-- a type with its handle, which its template gives
+unfoldable pub newDef : View → List ℕ → ℕ → ℕ → StructKind → List Part → Def
+newDef v name id size kind parts =
+    record {
+      name = name;
+      id = id;
+      handle =
+          handleOf
+          (templateOf (idAt v)
+          (record { name = name; id = id; handle = 0; size = size; kind = kind; parts = parts }));
+      size = size;
+      kind = kind;
+      parts = parts;
+    }
+
+unfoldable pub fitted : View → ℕ → Def → Verdict
+fitted v i d = cond (hasRoom (usedIn v) (length (d .parts)) (length (ownNames d))) (yes d) (no (TablesFull i))
+
+-- ---- 11, 12
+
+abbrev pub onMeasured : Measured → ℕ → (ℕ → Verdict) → Verdict
+onMeasured (Laid c n) i k = k (sizeAt c)
+onMeasured accessWrong i k = no (AccessWrong i)
+onMeasured tooFar i k = no (MemberTooFar i)
+
+unfoldable pub addUdt : View → List ℕ → ℕ → List ℕ → ℕ → List Decl → Verdict
+addUdt v book i name id ds =
+    onMeasured (measured (hostName name) udtStart 0 ds) i
+    (λ size. fitted v i (newDef v name id size Udt (udtParts (namedIn book) name ds)))
+
+unfoldable pub addAoi : View → List ℕ → ℕ → List ℕ → ℕ → List Decl → Verdict
+addAoi v book i name id ds =
+    onMeasured (measuredAoi name ds) i
+    (λ size. fitted v i (newDef v name id size Aoi (aoiParts (namedIn book) name ds)))
+
+-- ---- per member 2, 8, 9
+
+abbrev pub onChecked : Checked → ℕ → Verdict → Verdict
+onChecked Good i k = k
+onChecked NameWrong i k = no (NameOutsideRule i)
+onChecked Twice i k = no (MemberTwice i)
+onChecked LocalOutside i k = no (LocalOutsideAoi i)
+
+-- flags: 1 AOI, 2 string, 4 id given
+abbrev pub isAoi : TypeEntry → Bool
+isAoi e = eqb (e .flags % 2) 1
+
+abbrev pub isString : TypeEntry → Bool
+isString e = eqb (e .flags / 2 % 2) 1
+
+abbrev pub hasId : TypeEntry → Bool
+hasId e = leb 4 (e .flags)
+
+-- the members' entries begin at a place
+unfoldable pub addMembers : View → List ℕ → ℕ → ℕ → List ℕ → ℕ → List Decl → Verdict
+addMembers v book i at name id ds =
+    onChecked (checked book (isAoi (typeEntry book i)) [] (entriesFrom book at 0 (typeEntry book i .count))) i
+    (cond (isAoi (typeEntry book i)) (addAoi v book i name id ds) (addUdt v book i name id ds))
+
+-- ---- 7
+
+-- a string has a length from 1 to 2^26 - 4, no members, and is no AOI
+unfoldable pub stringOk : TypeEntry → Bool
+stringOk e = leb 1 (e .string) && leb (e .string) (2 ^ 26 - 4) && eqb (e .count) 0 && not (isAoi e)
+
+unfoldable pub addString : View → ℕ → TypeEntry → List ℕ → ℕ → Verdict
+addString v i e name id =
+    cond (stringOk e) (fitted v i (newDef v name id (stringSize (e .string)) Str (stringParts (e .string))))
+    (no (StringWrong i))
+
+unfoldable pub addNamed : View → List ℕ → ℕ → ℕ → List ℕ → ℕ → List Decl → Verdict
+addNamed v book i at name id ds =
+    cond (isString (typeEntry book i)) (addString v i (typeEntry book i) name id) (addMembers v book i at name id ds)
+
+-- ---- 4, 5, 6
+
+abbrev pub onId : Picked → ℕ → (ℕ → Verdict) → Verdict
+onId (Free id) i k = k id
+onId OutsideRange i k = no (IdOutsideRange i)
+onId InUse i k = no (IdInUse i)
+onId NoneFree i k = no (NoIdFree i)
+
+-- ---- 2, 3
+
+-- the i-th type of the book, whose members' entries begin at a place and were resolved
+unfoldable pub addTo : View → List ℕ → ℕ → ℕ → List Decl → Verdict
+addTo v book i at ds =
+    cond (goodName (nameIn book (typeEntry book i .name)))
+    (cond (isFound (typeAmong (v .names) (nameIn book (typeEntry book i .name)))) (no (NameKnown i))
+    (onId (idFor (v .ids) (hasId (typeEntry book i)) (typeEntry book i .id)) i
+    (λ id. addNamed v book i at (nameIn book (typeEntry book i .name)) id ds)))
+    (no (NameOutsideRule i))
+
+-- ---- what the tables hold afterwards
+
+abbrev pub turnAfter : Verdict → Used → Turn
+turnAfter (no r) u = Refused r
+turnAfter (yes d) u = Added (usedMore u d)
+
+abbrev pub typesAfter : Verdict → Used → List ℕ → List ℕ
+typesAfter (no r) u t = t
+typesAfter (yes d) u t = sets t (8 * u .types) (typeRow (headOf (u .bytes) (u .members) d))
+
+abbrev pub membersAfter : Verdict → Used → List ℕ → List ℕ
+membersAfter (no r) u t = t
+membersAfter (yes d) u t = sets t (8 * u .members) (rowsOf (u .bytes + length (d .name)) (d .parts))
+
+abbrev pub namesAfter : Verdict → Used → List ℕ → List ℕ
+namesAfter (no r) u t = t
+namesAfter (yes d) u t = sets t (u .bytes) (ownNames d)
+
+-- a verdict was carried out: the answer, and the three tables
+pub record Took (s : Verdict) (u : Used) (t₀ m₀ n₀ t m n : List ℕ) (r : Turn) : Type 0 where
+  pub is : r ≡ turnAfter s u
+  pub types : t ≡ typesAfter s u t₀
+  pub members : m ≡ membersAfter s u m₀
+  pub names : n ≡ namesAfter s u n₀
+
+-- ---- what adding asks
+
+-- what our own calls leave: so much is used, the names of the types lie among the names, their ids are u16
+pub record Usable (types names : List ℕ) (u : Used) : Type 0 where
+  pub rows : NamesInside types names (u .types)
+  pub members : u .members ≤ 2000
+  pub bytes : u .bytes ≤ 32768
+  pub ids : (k : ℕ) → k < u .types → idWord types k < 65536
+
+-- and the declared members of a type, resolved: their entries and names lie in the book, their types are earlier ones
+pub record Declared (book tys : List ℕ) (known at n : ℕ) : Type 0 where
+  pub inside : EntriesInside book at n
+  pub few : n ≤ 65536
+  pub room : n ≤ length tys
+  pub earlier : (k : ℕ) → k < n → Earlier known (tyOf (getD tys k 0))
+
+-- all of it, with a name that meets the rule's length, and tables of their length
+pub record Addable (types members names book tys name : List ℕ) (u : Used) (at n : ℕ) : Type 0 where
+  pub usable : Usable types names u
+  pub declared : Declared book tys (u .types) at n
+  pub long : length name ≤ 40
+  pub rows : length members ≡ 16000
+  pub bytes : length names ≡ 32768

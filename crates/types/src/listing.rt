@@ -1,0 +1,267 @@
+// The lines that the program `layout` prints (document 01, end of "Reference cases"): each line is put
+// into a lent buffer, a field after the other.
+ghost use mathlib.Core.Path.{_≡_};
+ghost use Prim.Native.Nat.{_+_, _%_, _<_, _≤_};
+ghost use mathlib.Core.List.{[], _∷_};
+ghost use lib.ListN.{length};
+ghost use Rattle.types.specs.Atomic.{nameOf};
+ghost use Rattle.types.specs.Defs.{nameIn};
+ghost use Rattle.types.specs.Digits.{digits};
+ghost use Rattle.types.specs.Listing.{ended, line, typeNumbers, seen, bitText, memberPlace, refusedLine};
+ghost use Rattle.types.specs.Listing.{typeName, structNames, typeLineIn, memberLineIn, TypeNamed, Listable};
+ghost use Rattle.types.specs.Listing.{Fits, Added, Lined, Spelt};
+ghost use Rattle.types.specs.Tables.{typeAt};
+use crate::atomic::Atomic;
+use crate::member::Bit;
+use crate::member::Member;
+use crate::member::Span;
+use crate::member::StructDef;
+use crate::member::Ty;
+use crate::tables::MemberTable;
+use crate::tables::NameTable;
+use crate::tables::TypeTable;
+use crate::tables::member_at;
+use crate::tables::name_at;
+use crate::tables::type_at;
+use crate::templates::template_len;
+use crate::waste_bits::waste;
+use words::copy;
+use words::wide;
+use words::wide16;
+use words::wide64;
+
+// A number's digits: these bytes from `from` on.
+pub struct Decimal {
+    pub bytes: [u8; 20],
+    pub from: usize,
+}
+
+// The byte of a number's last digit.
+fn last_digit(x: u64) -> u8
+    ensures { λ r. ⌜ r ≡ 48 + x % 10 ⌝ }
+{
+    48 + ((x % 10) as u8)
+}
+
+// A number's digits, stored from the last one on.
+fn decimal_of(x: u64) -> Decimal
+    ensures { λ r. ⌜ Spelt x r ⌝ }
+{
+    let mut bytes = [0u8; 20];
+    let mut from: usize = 19;
+    let mut y = x;
+    while 10 <= y {
+        bytes[from] = last_digit(y);
+        from -= 1;
+        y = y / 10;
+    }
+    bytes[from] = last_digit(y);
+    Decimal { bytes, from }
+}
+
+// Some bytes from a place on; answers the place after them, as all these functions do.
+fn put_text(out: &mut [u8], at: usize, s: &[u8]) -> usize
+    requires { ⌜ Fits (now s) at (now out) ⌝ }
+    ensures { λ r. ⌜ Added (now (s .entry)) at (now (out .entry)) r (now (out .exit)) ⌝ }
+{
+    copy(out, at, s);
+    at + s.len()
+}
+
+// A number's digits.
+pub fn put_decimal(out: &mut [u8], at: usize, x: u64) -> usize
+    requires { ⌜ Fits (digits x) at (now out) ⌝ }
+    ensures { λ r. ⌜ Added (digits x) at (now (out .entry)) r (now (out .exit)) ⌝ }
+{
+    let d = decimal_of(x);
+    let bytes = d.bytes;
+    let from = d.from;
+    put_text(out, at, &bytes[from..])
+}
+
+// The byte that ends a field: a space, or a newline after the last.
+fn put_stop(out: &mut [u8], at: usize, stop: u8) -> usize
+    requires { ⌜ Fits (stop ∷ []) at (now out) ⌝ }
+    ensures { λ r. ⌜ Added (stop ∷ []) at (now (out .entry)) r (now (out .exit)) ⌝ }
+{
+    out[at] = stop;
+    at + 1
+}
+
+// A field of some bytes.
+fn put_field(out: &mut [u8], at: usize, s: &[u8], stop: u8) -> usize
+    requires { ⌜ Fits (ended (now s) stop) at (now out) ⌝ }
+    ensures { λ r. ⌜ Added (ended (now (s .entry)) stop) at (now (out .entry)) r (now (out .exit)) ⌝ }
+{
+    let next = put_text(out, at, s);
+    put_stop(out, next, stop)
+}
+
+// A field that is a number.
+fn put_number(out: &mut [u8], at: usize, x: u64, stop: u8) -> usize
+    requires { ⌜ Fits (ended (digits x) stop) at (now out) ⌝ }
+    ensures { λ r. ⌜ Added (ended (digits x) stop) at (now (out .entry)) r (now (out .exit)) ⌝ }
+{
+    let next = put_decimal(out, at, x);
+    put_stop(out, next, stop)
+}
+
+// A field that is a name of the table.
+fn put_name(out: &mut [u8], at: usize, names: &[u8], name: Span, stop: u8) -> usize
+    requires { ⌜ (name .at + name .long ≤ length (now names))
+        × Fits (ended (nameIn (now names) name) stop) at (now out) ⌝ }
+    ensures { λ r. ⌜ Added (ended (nameIn (now (names .entry)) name) stop) at
+        (now (out .entry)) r (now (out .exit)) ⌝ }
+{
+    let from = wide(name.at);
+    let to = from + wide(name.long);
+    put_field(out, at, &names[from..to], stop)
+}
+
+// A field that is an atomic's name.
+fn put_atomic(out: &mut [u8], at: usize, a: Atomic) -> usize
+    requires { ⌜ Fits (ended (nameOf a) 32) at (now out) ⌝ }
+    ensures { λ r. ⌜ Added (ended (nameOf a) 32) at (now (out .entry)) r (now (out .exit)) ⌝ }
+{
+    let row = a.row();
+    let bytes = row.3;
+    let long = row.2 as usize;
+    put_field(out, at, &bytes[..long], b' ')
+}
+
+// A member's stored type.
+fn put_type_name(types: &TypeTable, names: &[u8], ty: Ty, out: &mut [u8], at: usize) -> usize
+    requires { ⌜ TypeNamed (now types) ty × ((length (now names) ≡ 32768)
+        × Fits (ended (typeName (structNames (now types) (now names)) ty) 32) at (now out)) ⌝ }
+    ensures { λ r. ⌜ Added (ended (typeName (structNames (now (types .entry)) (now (names .entry))) ty) 32) at
+        (now (out .entry)) r (now (out .exit)) ⌝ }
+{
+    match ty {
+        Ty::Atomic(a) => {
+            return put_atomic(out, at, a);
+        }
+        Ty::Struct(n) => {
+            let d = type_at(types, n);
+            let name = d.name;
+            return put_name(out, at, names, name, b' ');
+        }
+    }
+}
+
+// Whether a member is hidden or visible.
+fn put_seen(out: &mut [u8], at: usize, hidden: bool) -> usize
+    requires { ⌜ Fits (ended (seen hidden) 32) at (now out) ⌝ }
+    ensures { λ r. ⌜ Added (ended (seen hidden) 32) at (now (out .entry)) r (now (out .exit)) ⌝ }
+{
+    if hidden {
+        return put_field(out, at, b"h", b' ');
+    }
+    put_field(out, at, b"v", b' ')
+}
+
+// A member's bit.
+fn put_bit(out: &mut [u8], at: usize, bit: Bit) -> usize
+    requires { ⌜ Fits (ended (bitText bit) 32) at (now out) ⌝ }
+    ensures { λ r. ⌜ Added (ended (bitText bit) 32) at (now (out .entry)) r (now (out .exit)) ⌝ }
+{
+    match bit {
+        Bit::None => {
+            return put_field(out, at, b"-", b' ');
+        }
+        Bit::At(k) => {
+            return put_number(out, at, k as u64, b' ');
+        }
+    }
+}
+
+// The numbers of a type line, to its end.
+fn put_numbers(d: StructDef, bytes: u32, bits: u64, out: &mut [u8], at: usize) -> usize
+    requires { ⌜ Fits (line (typeNumbers (d .id) (d .size) (d .count) bytes bits)) at (now out) ⌝ }
+    ensures { λ r. ⌜ Added (line (typeNumbers (d .id) (d .size) (d .count) bytes bits)) at
+        (now (out .entry)) r (now (out .exit)) ⌝ }
+{
+    let id = wide64(wide16(d.id));
+    let size = wide64(d.size);
+    let count = wide64(d.count);
+    let long = wide64(bytes);
+    let k1 = put_number(out, at, id, b' ');
+    let k2 = put_number(out, k1, size, b' ');
+    let k3 = put_number(out, k2, count, b' ');
+    let k4 = put_number(out, k3, long, b' ');
+    put_number(out, k4, bits, b'\n')
+}
+
+// The line of the structure in a row, from the buffer's start on; answers its length.
+pub fn put_type_line(
+    types: &TypeTable,
+    members: &MemberTable,
+    names: &NameTable,
+    i: usize,
+    out: &mut [u8],
+) -> usize
+    requires { ⌜ (i < 200) × (Listable (now types) (now members) (typeAt (now types) i) × (512 ≤ length (now out))) ⌝ }
+    ensures { λ r. ⌜ Lined (typeLineIn (now (types .entry)) (now (members .entry)) (now (names .entry))
+        (typeAt (now (types .entry)) i)) (now (out .entry)) r (now (out .exit)) ⌝ }
+{
+    let d = type_at(types, i);
+    let name = d.name;
+    let bytes = template_len(types, members, names, d);
+    let bits = waste(types, members, d);
+    let k1 = put_field(out, 0, b"type", b' ');
+    let k2 = put_name(out, k1, names, name, b' ');
+    put_numbers(d, bytes, bits, out, k2)
+}
+
+// Where a member is and its name, to the line's end.
+fn put_place(m: Member, names: &[u8], name: Span, out: &mut [u8], at: usize) -> usize
+    requires { ⌜ (name .at + name .long ≤ length (now names))
+        × Fits (line (memberPlace m (nameIn (now names) name))) at (now out) ⌝ }
+    ensures { λ r. ⌜ Added (line (memberPlace m (nameIn (now (names .entry)) name))) at
+        (now (out .entry)) r (now (out .exit)) ⌝ }
+{
+    let bit = m.bit;
+    let count = wide64(m.count);
+    let offset = wide64(m.offset);
+    let k1 = put_number(out, at, count, b' ');
+    let k2 = put_number(out, k1, offset, b' ');
+    let k3 = put_bit(out, k2, bit);
+    put_name(out, k3, names, name, b'\n')
+}
+
+// The line of the k-th member of the structure in a row.
+pub fn put_member_line(
+    types: &TypeTable,
+    members: &MemberTable,
+    names: &NameTable,
+    i: usize,
+    k: usize,
+    out: &mut [u8],
+) -> usize
+    requires { ⌜ (i < 200) × (Listable (now types) (now members) (typeAt (now types) i)
+        × ((k < typeAt (now types) i .count) × (512 ≤ length (now out)))) ⌝ }
+    ensures { λ r. ⌜ Lined (memberLineIn (now (types .entry)) (now (members .entry)) (now (names .entry))
+        (typeAt (now (types .entry)) i .first + k) k) (now (out .entry)) r (now (out .exit)) ⌝ }
+{
+    let d = type_at(types, i);
+    let row = wide(d.first) + k;
+    let m = member_at(members, row);
+    let name = name_at(members, row);
+    let ty = m.ty;
+    let number = k as u64;
+    let k1 = put_number(out, 0, number, b' ');
+    let k2 = put_seen(out, k1, m.hidden);
+    let k3 = put_type_name(types, names, ty, out, k2);
+    put_place(m, names, name, out, k3)
+}
+
+// The line of a refusal: its number and place.
+pub fn put_refused_line(out: &mut [u8], number: u8, place: u32) -> usize
+    requires { ⌜ 512 ≤ length (now out) ⌝ }
+    ensures { λ r. ⌜ Lined (refusedLine number place) (now (out .entry)) r (now (out .exit)) ⌝ }
+{
+    let first = number as u64;
+    let second = wide64(place);
+    let k1 = put_field(out, 0, b"refused", b' ');
+    let k2 = put_number(out, k1, first, b' ');
+    put_number(out, k2, second, b'\n')
+}
