@@ -59,9 +59,10 @@ module _ (n : ℕ) (name : Decl → List ℕ) (host : ℕ → List ℕ) where
       (λ p. Every (PartFits n) (thenParts p (host (c .members)) (name d) (λ c′. partsFrom name host c′ ds))) c d
       (record {
         wrong = λ q. tt;
-        opens = λ b f.
-            (record { bit = tt; access = omega arith; earlier = tt },
-            (record { bit = omega arith; access = a .access; earlier = tt }, parts-fit _ ds rest));
+        opens = λ b f. (
+          record { bit = tt; access = omega arith; earlier = tt },
+          (record { bit = omega arith; access = a .access; earlier = tt }, parts-fit _ ds rest),
+        );
         next = λ b byte bit h l. (record { bit = l; access = a .access; earlier = tt }, parts-fit _ ds rest);
         shared = λ b i h. (record { bit = omega arith; access = a .access; earlier = tt }, parts-fit _ ds rest);
         other = λ b l. (record { bit = tt; access = a .access; earlier = a .earlier }, parts-fit _ ds rest);
@@ -76,10 +77,13 @@ module _ (n : ℕ) (name : Decl → List ℕ) (type : List ℕ) (ds : List Decl)
   pub aoi-fits : Every (PartFits n) (aoiParts name type ds)
   unfolding aoiParts Every
   aoi-fits =
-      every-append (PartFits n) (hostParts 0 (aoiHosts ds)) _ (hosts-fit n 0 (aoiHosts ds))
-      (record { bit = omega arith; access = omega arith; earlier = tt },
-      (record { bit = omega arith; access = omega arith; earlier = tt },
-      parts-fit n name (hostName type) (aoiStart (aoiHosts ds)) ds a))
+      every-append (PartFits n) (hostParts 0 (aoiHosts ds)) _ (hosts-fit n 0 (aoiHosts ds)) (
+        record { bit = omega arith; access = omega arith; earlier = tt },
+        (
+          record { bit = omega arith; access = omega arith; earlier = tt },
+          parts-fit n name (hostName type) (aoiStart (aoiHosts ds)) ds a,
+        ),
+      )
 
 pub string-fits : (n c : ℕ) → Every (PartFits n) (stringParts c)
 unfolding stringParts Every

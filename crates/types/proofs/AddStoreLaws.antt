@@ -19,6 +19,7 @@ use Rattle.types.specs.declared.member.StructDef.{StructDef}
 use Rattle.types.specs.declared.member.StructKind.{StructKind}
 use Rattle.types.specs.declared.refusal.Refusal.{Refusal}
 use Rattle.types.specs.declared.refusal.Refusal.the-variants.{AccessWrong, MemberTooFar, TablesFull}
+use Rattle.types.specs.declared.used.Turn.{Turn}
 use Rattle.types.specs.declared.used.Turn.the-variants.{Refused, Added}
 use Rattle.types.specs.declared.used.Used.{Used}
 use Rattle.types.specs.Add.{Verdict, no, yes, hasRoom, newDef, fitted, turnAfter, Took, Usable, Declared}
@@ -154,3 +155,8 @@ module _ (types members names : List ℕ) (u : Used) (name : List ℕ) (id size 
 pub took-no : {s : Verdict} {u : Used} (r : Refusal) (types members names : List ℕ) → s ≡ no r
     → Took s u types members names types members names (Refused r)
 took-no r types members names e = rw e (record { is = refl; types = refl; members = refl; names = refl })
+
+-- a verdict was carried out that is the one asked for
+pub took-so : {s s′ : Verdict} {u : Used} {t₀ m₀ n₀ t m n : List ℕ} {r : Turn} → s ≡ s′ → Took s′ u t₀ m₀ n₀ t m n r
+    → Took s u t₀ m₀ n₀ t m n r
+took-so e t = rw e t

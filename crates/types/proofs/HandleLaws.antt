@@ -1,13 +1,15 @@
--- Laws of the handle's fold: one byte of what is left, and a fold over two pieces is the fold of the second from the
--- first.
+-- Laws of the handle's fold: one byte of what is left, a fold over two pieces is the fold of the second from the
+-- first, and a handle fits 16 bits.
 use Prim.Native.Nat.{ℕ, _+_, _≤_, _<_}
+use native.Mathlib.Decide.{decLt}
 use native.Mathlib.Numerals.{add-one}
+use native.Mathlib.Omega.{arith}
 use mathlib.Core.Path.{_≡_, refl, _∙_}
 use mathlib.Core.List.{List, [], _∷_, _++_}
 use borrow.Author.Tests.{eq-eqb, ne-eqb}
 use lib.ListN.{length, getD, drop, drop-of-length-le}
 use lib.Seq.{drop-cons}
-use Rattle.types.specs.Handle.{turnOf, foldFrom, notZero}
+use Rattle.types.specs.Handle.{turnOf, foldFrom, notZero, handleOf}
 
 pub fold-on : (h i : ℕ) (s : List ℕ) → i < length s
     → foldFrom h (drop i s) ≡ foldFrom (turnOf h (getD s i 0)) (drop (i + 1) s)
@@ -30,3 +32,20 @@ zero-one h e = simp (eq-eqb h 0 e)
 pub other-same : (h : ℕ) → (h ≡ 0 → ⊥) → h ≡ notZero h
 unfolding notZero
 other-same h e = simp (ne-eqb h 0 e)
+
+-- it fits 16 bits
+fold-small : (h : ℕ) (s : List ℕ) → h < 65536 → foldFrom h s < 65536
+unfolding foldFrom
+fold-small h [] l = l
+fold-small h (b ∷ bs) l = fold-small (turnOf h b) bs (omega arith)
+
+not-zero-small : (h : ℕ) → h < 65536 → notZero h < 65536
+not-zero-small h l = go (decLt 0 h)
+  where
+    go : Dec (0 < h) → notZero h < 65536
+    go (yes o) = rw (← other-same h (λ e. omega arith)) l
+    go (no o) = rw (← zero-one h (omega (arith, o))) (omega arith)
+
+pub handle-small : (s : List ℕ) → handleOf s < 65536
+unfolding handleOf
+handle-small s = not-zero-small (foldFrom 0x1D0F s) (fold-small 0x1D0F s (omega arith))

@@ -40,3 +40,8 @@ pub mod AddLaws
 pub mod RoomLaws
 pub mod AddStoreLaws
 pub mod AddUdtLaws
+pub mod TurnLaws
+pub mod AddAoiLaws
+pub mod AddStringLaws
+pub mod AddTypeLaws
+pub mod PredefinedLaws

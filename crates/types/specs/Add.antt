@@ -108,11 +108,11 @@ isString e = eqb (e .flags / 2 % 2) 1
 abbrev pub hasId : TypeEntry → Bool
 hasId e = leb 4 (e .flags)
 
--- the members' entries begin at a place
-unfoldable pub addMembers : View → List ℕ → ℕ → ℕ → List ℕ → ℕ → List Decl → Verdict
-addMembers v book i at name id ds =
-    onChecked (checked book (isAoi (typeEntry book i)) [] (entriesFrom book at 0 (typeEntry book i .count))) i
-    (cond (isAoi (typeEntry book i)) (addAoi v book i name id ds) (addUdt v book i name id ds))
+-- the entries of n members begin at a place; all are checked, then they are laid out
+unfoldable pub addMembers : View → List ℕ → ℕ → ℕ → ℕ → Bool → List ℕ → ℕ → List Decl → Verdict
+addMembers v book i at n aoi name id ds =
+    onChecked (checked book aoi [] (entriesFrom book at 0 n)) i
+    (cond aoi (addAoi v book i name id ds) (addUdt v book i name id ds))
 
 -- ---- 7
 
@@ -125,9 +125,9 @@ addString v i e name id =
     cond (stringOk e) (fitted v i (newDef v name id (stringSize (e .string)) Str (stringParts (e .string))))
     (no (StringWrong i))
 
-unfoldable pub addNamed : View → List ℕ → ℕ → ℕ → List ℕ → ℕ → List Decl → Verdict
-addNamed v book i at name id ds =
-    cond (isString (typeEntry book i)) (addString v i (typeEntry book i) name id) (addMembers v book i at name id ds)
+unfoldable pub addNamed : View → List ℕ → ℕ → ℕ → TypeEntry → List ℕ → ℕ → List Decl → Verdict
+addNamed v book i at e name id ds =
+    cond (isString e) (addString v i e name id) (addMembers v book i at (e .count) (isAoi e) name id ds)
 
 -- ---- 4, 5, 6
 
@@ -137,16 +137,21 @@ onId OutsideRange i k = no (IdOutsideRange i)
 onId InUse i k = no (IdInUse i)
 onId NoneFree i k = no (NoIdFree i)
 
+unfoldable pub addFresh : View → List ℕ → ℕ → ℕ → TypeEntry → List ℕ → List Decl → Verdict
+addFresh v book i at e name ds =
+    onId (idFor (v .ids) (hasId e) (e .id)) i (λ id. addNamed v book i at e name id ds)
+
 -- ---- 2, 3
 
--- the i-th type of the book, whose members' entries begin at a place and were resolved
-unfoldable pub addTo : View → List ℕ → ℕ → ℕ → List Decl → Verdict
-addTo v book i at ds =
-    cond (goodName (nameIn book (typeEntry book i .name)))
-    (cond (isFound (typeAmong (v .names) (nameIn book (typeEntry book i .name)))) (no (NameKnown i))
-    (onId (idFor (v .ids) (hasId (typeEntry book i)) (typeEntry book i .id)) i
-    (λ id. addNamed v book i at (nameIn book (typeEntry book i .name)) id ds)))
+unfoldable pub addEntry : View → List ℕ → ℕ → ℕ → TypeEntry → List ℕ → List Decl → Verdict
+addEntry v book i at e name ds =
+    cond (goodName name)
+    (cond (isFound (typeAmong (v .names) name)) (no (NameKnown i)) (addFresh v book i at e name ds))
     (no (NameOutsideRule i))
+
+-- the i-th type of the book, whose members' entries begin at a place and were resolved
+abbrev pub addTo : View → List ℕ → ℕ → ℕ → List Decl → Verdict
+addTo v book i at ds = addEntry v book i at (typeEntry book i) (nameIn book (typeEntry book i .name)) ds
 
 -- ---- what the tables hold afterwards
 
@@ -189,7 +194,14 @@ pub record Declared (book tys : List ℕ) (known at n : ℕ) : Type 0 where
   pub room : n ≤ length tys
   pub earlier : (k : ℕ) → k < n → Earlier known (tyOf (getD tys k 0))
 
--- all of it, with a name that meets the rule's length, and tables of their length
+-- all of it, with tables of their length
+pub record AddableEntry (types members names book tys : List ℕ) (u : Used) (at n : ℕ) : Type 0 where
+  pub usable : Usable types names u
+  pub declared : Declared book tys (u .types) at n
+  pub rows : length members ≡ 16000
+  pub bytes : length names ≡ 32768
+
+-- and with a name that meets the rule's length
 pub record Addable (types members names book tys name : List ℕ) (u : Used) (at n : ℕ) : Type 0 where
   pub usable : Usable types names u
   pub declared : Declared book tys (u .types) at n

@@ -29,3 +29,5 @@ pub mod ShapeCases
 pub mod Resolve
 pub mod Add
 pub mod ListingCases
+pub mod Turns
+pub mod Predefined

@@ -34,7 +34,7 @@ use crate::used::has_room;
 use words::wide;
 
 // Stores a type's row, with the handle that its template gives; its members and names stand already.
-fn enter(
+pub fn enter(
     types: &mut TypeTable,
     members: &MemberTable,
     names: &NameTable,
@@ -64,7 +64,14 @@ fn enter(
 }
 
 // The row of a type whose name and parts stand from the used rows and bytes on, still without its handle.
-fn bare_head(u: Used, long: usize, id: u16, size: u32, kind: StructKind, count: u32) -> StructDef
+pub fn bare_head(
+    u: Used,
+    long: usize,
+    id: u16,
+    size: u32,
+    kind: StructKind,
+    count: u32,
+) -> StructDef
     requires { ⌜ (u .members ≤ 2000) × ((u .bytes ≤ 32768) × (long ≤ 32768)) ⌝ }
     ensures { λ r. ⌜ r ≡ bareHead u long id size kind count ⌝ }
 {
@@ -83,7 +90,7 @@ fn bare_head(u: Used, long: usize, id: u16, size: u32, kind: StructKind, count: 
 }
 
 // How much is used with one type more.
-fn used_more(u: Used, members: usize, bytes: usize) -> Used
+pub fn used_more(u: Used, members: usize, bytes: usize) -> Used
     requires { ⌜ (u .types < 200) × ((u .members + members ≤ 2000) × (u .bytes + bytes ≤ 32768)) ⌝ }
     ensures { λ r. ⌜ r ≡ usedWith u members bytes ⌝ }
 {
@@ -95,7 +102,7 @@ fn used_more(u: Used, members: usize, bytes: usize) -> Used
 }
 
 // A UDT: measured, and stored where it can be laid out and there is room.
-fn add_udt(
+pub fn add_udt(
     book: &[u8],
     tys: &[u16],
     at: usize,

@@ -33,7 +33,7 @@ pub struct MemberEntry {
 }
 
 // A count of entries.
-fn count_of(x: u16) -> usize
+pub fn count_of(x: u16) -> usize
     ensures { λ r. ⌜ (r ≡ x) × (r < 65536) ⌝ }
 {
     x as usize

@@ -1,6 +1,8 @@
 // Types and layouts (document 01's first crate): the atomic types, names, the book's entries, refusals, rows
 // of the lent tables, layouts, templates and waste.
 mod add;
+mod add_more;
+mod add_type;
 // of the lent tables, layouts, templates, waste and the lines of a listing.
 mod aoi;
 mod atomic;
@@ -19,13 +21,15 @@ mod measure;
 mod member;
 mod names;
 mod pieces;
+mod predefined;
 mod refusal;
-mod shape;
 mod resolve;
+mod shape;
 mod sink;
 mod store;
 mod tables;
 mod templates;
+mod turn;
 mod udt;
 mod used;
 mod waste_bits;

@@ -1,0 +1,155 @@
+-- Laws of adding a type, in the document's order: one for each way out of a test, and what is carried on.
+use Prim.Native.Nat.{ℕ, _+_, _^_, _-_, _<_, _≤_}
+use native.Mathlib.Omega.{arith}
+use mathlib.Core.Path.{_≡_, refl, sym, ap, _∙_}
+use mathlib.Core.Bool.{Bool, true, false, not, _&&_}
+use mathlib.Core.List.{List, []}
+use borrow.Author.Tests.{eq-eqb, ne-eqb, le-leb, lt-leb, leb-true}
+use lib.Dec.{eqb, leb}
+use lib.ListN.{length}
+use Rattle.types.specs.declared.book.TypeEntry.{TypeEntry}
+use Rattle.types.specs.declared.checks.Checked.{Checked}
+use Rattle.types.specs.declared.checks.Checked.the-variants.{Good, NameWrong, Twice, LocalOutside}
+use Rattle.types.specs.declared.ids.Picked.{Picked}
+use Rattle.types.specs.declared.ids.Picked.the-variants.{Free, OutsideRange, InUse, NoneFree}
+use Rattle.types.specs.declared.layout.Decl.{Decl}
+use Rattle.types.specs.declared.lookups.FoundTy.{FoundTy}
+use Rattle.types.specs.declared.lookups.FoundTy.the-variants.{Is, Nothing}
+use Rattle.types.specs.declared.member.StructKind.the-variants.{Str}
+use Rattle.types.specs.declared.member.Ty.{Ty}
+use Rattle.types.specs.declared.refusal.Refusal.the-variants.{NameOutsideRule, NameKnown, IdOutsideRange, IdInUse}
+use Rattle.types.specs.declared.refusal.Refusal.the-variants.{NoIdFree, StringWrong, MemberTwice, LocalOutsideAoi}
+use Rattle.types.specs.Add.{Verdict, no, addUdt, addAoi, addMembers, addString, addNamed, addFresh, addEntry}
+use Rattle.types.specs.Add.{isAoi, isString, hasId, stringOk, newDef, fitted}
+use Rattle.types.specs.Checks.{checked, entriesFrom}
+use Rattle.types.specs.Ids.{idFor}
+use Rattle.types.specs.Lookup.{typeAmong}
+use Rattle.types.specs.Names.{goodName, nameBytes}
+use Rattle.types.specs.Registry.{View}
+use Rattle.types.specs.Resolve.{isFound}
+use Rattle.types.specs.Structs.{stringParts, stringSize}
+
+-- ---- per member 2, 8, 9
+
+module _ (v : View) (book : List ℕ) (i at n : ℕ) (aoi : Bool) (name : List ℕ) (id : ℕ) (ds : List Decl) (c : Checked)
+    (e : c ≡ checked book aoi [] (entriesFrom book at 0 n)) where
+  pub members-aoi : c ≡ Good → aoi ≡ true → addMembers v book i at n aoi name id ds ≡ addAoi v book i name id ds
+  unfolding addMembers
+  members-aoi q a = rw (← e, q, a)
+
+  pub members-udt : c ≡ Good → aoi ≡ false → addMembers v book i at n aoi name id ds ≡ addUdt v book i name id ds
+  unfolding addMembers
+  members-udt q a = rw (← e, q, a)
+
+  pub members-name : c ≡ NameWrong → addMembers v book i at n aoi name id ds ≡ no (NameOutsideRule i)
+  unfolding addMembers
+  members-name q = rw (← e, q)
+
+  pub members-twice : c ≡ Twice → addMembers v book i at n aoi name id ds ≡ no (MemberTwice i)
+  unfolding addMembers
+  members-twice q = rw (← e, q)
+
+  pub members-local : c ≡ LocalOutside → addMembers v book i at n aoi name id ds ≡ no (LocalOutsideAoi i)
+  unfolding addMembers
+  members-local q = rw (← e, q)
+
+-- ---- 7
+
+module _ (e : TypeEntry) where
+  pub string-short : e .string < 1 → false ≡ stringOk e
+  unfolding stringOk
+  string-short l = simp (lt-leb _ _ l)
+
+  module _ (a : 1 ≤ e .string) where
+    pub string-long : 67108860 < e .string → false ≡ stringOk e
+    unfolding stringOk
+    string-long l = simp (le-leb _ _ a, lt-leb _ _ l)
+
+    module _ (b : e .string ≤ 67108860) where
+      pub string-members : (e .count ≡ 0 → ⊥) → false ≡ stringOk e
+      unfolding stringOk
+      string-members n = simp (le-leb _ _ a, le-leb _ _ b, ne-eqb _ _ n)
+
+      pub string-rest : e .count ≡ 0 → (r : Bool) → r ≡ isAoi e → not r ≡ stringOk e
+      unfolding stringOk
+      string-rest q r s = rw s (simp (le-leb _ _ a, le-leb _ _ b, eq-eqb _ _ q))
+
+and-left : (a b : Bool) → (a && b) ≡ true → a ≡ true
+and-left true b e = refl
+and-left false b e = e
+
+and-right : (a b : Bool) → (a && b) ≡ true → b ≡ true
+and-right true b e = e
+and-right false b e = cc
+
+-- what is laid out as a string has at most 2^26 - 4 bytes
+pub string-most : (e : TypeEntry) → stringOk e ≡ true → e .string ≤ 2 ^ 26 - 4
+unfolding stringOk
+string-most e q =
+    let a = leb 1 (e .string) in
+    let b = leb (e .string) (2 ^ 26 - 4) in
+    let c = eqb (e .count) 0 in
+    leb-true _ _ (and-right a b (and-left (a && b) c (and-left (a && b && c) (not (isAoi e)) q)))
+
+module _ (v : View) (book : List ℕ) (i at : ℕ) (e : TypeEntry) (name : List ℕ) (id : ℕ) (ds : List Decl) (s : Bool)
+    (es : s ≡ isString e) where
+  module _ (q : s ≡ true) (k : Bool) (ek : k ≡ stringOk e) where
+    pub named-string : k ≡ true
+        → addNamed v book i at e name id ds
+        ≡ fitted v i (newDef v name id (stringSize (e .string)) Str (stringParts (e .string)))
+    unfolding addNamed addString
+    named-string p = rw (sym es ∙ q, sym ek ∙ p)
+
+    pub named-wrong : k ≡ false → addNamed v book i at e name id ds ≡ no (StringWrong i)
+    unfolding addNamed addString
+    named-wrong p = rw (sym es ∙ q, sym ek ∙ p)
+
+  pub named-members : s ≡ false
+      → addNamed v book i at e name id ds ≡ addMembers v book i at (e .count) (isAoi e) name id ds
+  unfolding addNamed
+  named-members p = rw (sym es ∙ p)
+
+-- ---- 4, 5, 6
+
+module _ (v : View) (book : List ℕ) (i at : ℕ) (e : TypeEntry) (name : List ℕ) (ds : List Decl) (p : Picked)
+    (ep : p ≡ idFor (v .ids) (hasId e) (e .id)) where
+  pub fresh-free : (id : ℕ) → p ≡ Free id → addFresh v book i at e name ds ≡ addNamed v book i at e name id ds
+  unfolding addFresh
+  fresh-free id q = rw (← ep, q)
+
+  pub fresh-outside : p ≡ OutsideRange → addFresh v book i at e name ds ≡ no (IdOutsideRange i)
+  unfolding addFresh
+  fresh-outside q = rw (← ep, q)
+
+  pub fresh-used : p ≡ InUse → addFresh v book i at e name ds ≡ no (IdInUse i)
+  unfolding addFresh
+  fresh-used q = rw (← ep, q)
+
+  pub fresh-none : p ≡ NoneFree → addFresh v book i at e name ds ≡ no (NoIdFree i)
+  unfolding addFresh
+  fresh-none q = rw (← ep, q)
+
+-- ---- 2, 3
+
+-- a good name has at most 40 bytes
+pub good-long : (s : List ℕ) → goodName s ≡ true → length s ≤ 40
+unfolding goodName
+good-long s q =
+    let a = leb 1 (length s) in
+    let b = leb (length s) 40 in
+    leb-true _ _ (and-right a b (and-left (a && b) (nameBytes s) q))
+
+module _ (v : View) (book : List ℕ) (i at : ℕ) (e : TypeEntry) (name : List ℕ) (ds : List Decl) (g : Bool)
+    (eg : g ≡ goodName name) where
+  pub entry-bad : g ≡ false → addEntry v book i at e name ds ≡ no (NameOutsideRule i)
+  unfolding addEntry
+  entry-bad q = rw (sym eg ∙ q)
+
+  module _ (q : g ≡ true) (f : FoundTy) (ef : f ≡ typeAmong (v .names) name) where
+    pub entry-known : (ty : Ty) → f ≡ Is ty → addEntry v book i at e name ds ≡ no (NameKnown i)
+    unfolding addEntry
+    entry-known ty p = rw (sym eg ∙ q, sym ef ∙ p)
+
+    pub entry-fresh : f ≡ Nothing → addEntry v book i at e name ds ≡ addFresh v book i at e name ds
+    unfolding addEntry
+    entry-fresh p = rw (sym eg ∙ q, sym ef ∙ p)

@@ -1,0 +1,224 @@
+-- Laws of a turn: where as many member types were found as there are members, all are known, and the layout reads from
+-- the scratch the declared members of the definition.
+use Prim.Native.Nat.{ℕ, zero, suc, _+_, _-_, _*_, _<_, _≤_}
+use native.Mathlib.Omega.{arith}
+use native.Mathlib.Nat.{zero-add}
+use mathlib.Core.Path.{_≡_, refl, sym, ap, _∙_}
+use mathlib.Core.Bool.{Bool, true, false, _&&_, true≢false}
+use mathlib.Core.List.{List, [], _∷_}
+use lib.ListN.{length, getD}
+use lib.Seq.{sets, length-sets}
+use Rattle.words.proofs.Lists.{getD-sets}
+use Rattle.types.specs.declared.layout.Decl.{Decl}
+use Rattle.types.specs.declared.lookups.FoundTy.{FoundTy}
+use Rattle.types.specs.declared.lookups.FoundTy.the-variants.{Is, Nothing}
+use Rattle.types.specs.declared.member.Ty.{Ty}
+use Rattle.types.specs.declared.used.Turn.{Turn}
+use Rattle.types.specs.declared.used.Turn.the-variants.{Waits}
+use Rattle.types.specs.declared.used.Used.{Used}
+use Rattle.types.specs.Add.{Verdict, addEntry, addTo, Took, Declared}
+use Rattle.types.specs.Book.{listFrom, typeEntry}
+use Rattle.types.specs.Checks.{entryOf, entriesFrom, EntriesInside}
+use Rattle.types.specs.Defs.{nameIn}
+use Rattle.types.specs.Entries.{declared, declAt, declsFrom}
+use Rattle.types.specs.Laid.{Earlier}
+use Rattle.types.specs.Lookup.{rowName, rowNames, typeAmong}
+use Rattle.types.specs.Registry.{View, sizeAt, viewIn}
+use Rattle.types.specs.Resolve.{typeName, typeNames, isFound, allKnown, thenWord, foundWords, Resolves}
+use Rattle.types.specs.Tables.{tyWord, tyOf}
+use Rattle.types.specs.Turns.{countOf, thenDecl, declsOf, Turned}
+use Rattle.types.specs.Waste.{sizesIn}
+use Rattle.types.proofs.AddStoreLaws.{took-so}
+use Rattle.types.proofs.AgreeLaws.{declared-same, length-list, getD-list}
+use Rattle.types.proofs.ResolveLaws.{found-earlier}
+use Rattle.types.proofs.TableLaws.{ty-back}
+
+-- ---- how many were found
+
+pub all-found : (known names : List (List ℕ)) → length names ≤ length (foundWords known names)
+    → allKnown known names ≡ true
+unfolding foundWords allKnown
+all-found known [] l = refl
+all-found known (s ∷ ss) l = go (typeAmong known s) l (all-found known ss)
+  where
+    go : (f : FoundTy) → suc (length ss) ≤ length (thenWord f (foundWords known ss))
+        → (length ss ≤ length (foundWords known ss) → allKnown known ss ≡ true)
+        → (isFound f && allKnown known ss) ≡ true
+    go (Is ty) h rest = rest (omega arith)
+    go Nothing h rest = absurd (let z : ⊥ = omega arith in z)
+
+pub not-all : (known names : List (List ℕ)) → length (foundWords known names) < length names
+    → allKnown known names ≡ false
+unfolding foundWords allKnown
+not-all known [] l = absurd (let z : ⊥ = omega arith in z)
+not-all known (s ∷ ss) l = go (typeAmong known s) l (not-all known ss)
+  where
+    go : (f : FoundTy) → length (thenWord f (foundWords known ss)) < suc (length ss)
+        → (length (foundWords known ss) < length ss → allKnown known ss ≡ false)
+        → (isFound f && allKnown known ss) ≡ false
+    go (Is ty) h rest = rest (omega arith)
+    go Nothing h rest = refl
+
+-- ---- each word is that of the type that was found
+
+-- the type of a name that is known
+pub record Known (known : List (List ℕ)) (s : List ℕ) : Type 0 where
+  pub ty : Ty
+  pub is : typeAmong known s ≡ Is ty
+
+known-one : (known : List (List ℕ)) (s : List ℕ) (f : FoundTy) (b : Bool) → typeAmong known s ≡ f
+    → (isFound f && b) ≡ true → Known known s
+known-one known s (Is ty) b e q = record { ty = ty; is = e }
+known-one known s Nothing b e q = absurd (true≢false (sym q))
+
+known-rest : (f : FoundTy) (b : Bool) → (isFound f && b) ≡ true → b ≡ true
+known-rest (Is ty) b q = q
+known-rest Nothing b q = absurd (true≢false (sym q))
+
+module _ (known : List (List ℕ)) (f : ℕ → List ℕ) where
+  -- the first word, and a later one
+  abbrev WordAt : ℕ → ℕ → ℕ → Type 0
+  WordAt j n k =
+      (w : Known known (f (j + k))) × (getD (foundWords known (listFrom f j n)) k 0 ≡ tyWord (w .ty))
+
+  first-word : (j n : ℕ) → Known known (f j) → WordAt j (suc n) 0
+  unfolding listFrom foundWords
+  first-word j n w = let e : j + 0 ≡ j = omega arith in rw e (w, rw (w .is))
+
+  later-word : (j n k : ℕ) → Known known (f j) → WordAt (j + 1) n k → WordAt j (suc n) (suc k)
+  unfolding listFrom foundWords
+  later-word j n k w r = let e : j + suc k ≡ j + 1 + k = omega arith in rw e (r .0, rw (w .is) (r .1))
+
+  words-at : (j n : ℕ) → allKnown known (listFrom f j n) ≡ true → (k : ℕ) → k < n → WordAt j n k
+  unfolding listFrom allKnown
+  words-at j zero a k l = absurd (let z : ⊥ = omega arith in z)
+  words-at j (suc n) a zero l = first-word j n (known-one known (f j) (typeAmong known (f j)) _ refl a)
+  words-at j (suc n) a (suc k) l =
+      later-word j n k (known-one known (f j) (typeAmong known (f j)) _ refl a)
+      (words-at (j + 1) n (known-rest (typeAmong known (f j)) _ a) k (omega arith))
+
+  words-long : (j n : ℕ) → allKnown known (listFrom f j n) ≡ true → length (foundWords known (listFrom f j n)) ≡ n
+  unfolding listFrom allKnown foundWords
+  words-long j zero a = refl
+  words-long j (suc n) a =
+      let w = known-one known (f j) (typeAmong known (f j)) _ refl a in
+      rw (w .is) (ap suc (words-long (j + 1) n (known-rest (typeAmong known (f j)) _ a)))
+
+-- ---- the scratch after a turn's search
+
+module _ (types names book tys : List ℕ) (u : Used) (at n : ℕ) where
+  abbrev view : View
+  view = viewIn types names u
+
+  abbrev uses : List (List ℕ)
+  uses = typeNames book at 0 n
+
+  abbrev scratch : List ℕ
+  scratch = sets tys 0 (foundWords (view .names) uses)
+
+  module _ (a : allKnown (view .names) uses ≡ true) (l : n ≤ length tys) where
+    word-at : (k : ℕ) → k < n
+        → (w : Known (view .names) (typeName book at k)) × (tyOf (getD scratch k 0) ≡ w .ty)
+    word-at k h =
+        let long = words-long (view .names) (typeName book at) 0 n a in
+        let r : (w : Known (view .names) (typeName book at k))
+        × (getD (foundWords (view .names) uses) k 0 ≡ tyWord (w .ty))
+        = rw zero-add at (words-at (view .names) (typeName book at) 0 n a k h) in
+        let s : getD scratch k 0 ≡ getD (foundWords (view .names) uses) k 0
+        = rw zero-add at (getD-sets tys 0 (foundWords (view .names) uses) k 0 (omega (arith, long)) (omega (arith, long)))
+        in
+        (r .0, ap tyOf (s ∙ r .1) ∙ ty-back (r .0 .ty))
+
+    names-long : length (view .names) ≡ u .types
+    unfolding viewIn
+    names-long = length-list (rowName types names) 0 (u .types)
+
+    word-earlier : (k : ℕ) → k < n → Earlier (u .types) (tyOf (getD scratch k 0))
+    word-earlier k h =
+        let r = word-at k h in
+        rw (r .1) (rw names-long at (found-earlier (view .names) (typeName book at k) (r .0 .ty) (r .0 .is)))
+
+    -- the declared members can be laid out
+    pub turn-declared : EntriesInside book at n → n ≤ 65536 → Declared book scratch (u .types) at n
+    turn-declared i f =
+        record {
+          inside = i;
+          few = f;
+          room = rw (length-sets tys 0 (foundWords (view .names) uses)) l;
+          earlier = word-earlier;
+        }
+
+    sizes-same : (k : ℕ) → k < u .types → sizesIn types k ≡ sizeAt view k
+    unfolding viewIn
+    sizes-same k h = sym (getD-list (sizesIn types) (u .types) k 0 h)
+
+    -- and are the definition's
+    decls-from : (j m : ℕ) → j + m ≤ n
+        → declsFrom types book scratch at j m ≡ declsOf view book (entriesFrom book at j m)
+    unfolding declsFrom declsOf listFrom declAt
+    decls-from j zero h = refl
+    decls-from j (suc m) h = go (word-at j (omega arith)) (decls-from (j + 1) m (omega arith))
+      where
+        go : ((w : Known (view .names) (typeName book at j)) × (tyOf (getD scratch j 0) ≡ w .ty))
+            → declsFrom types book scratch at (j + 1) m ≡ declsOf view book (entriesFrom book at (j + 1) m)
+            → _≡_ {A = List Decl}
+            (declared (sizesIn types) (tyOf (getD scratch j 0)) (entryOf book at j)
+            ∷ declsFrom types book scratch at (j + 1) m)
+            (thenDecl (typeAmong (view .names) (typeName book at j)) (λ ty. declared (sizeAt view) ty (entryOf book at j))
+            (declsOf view book (entriesFrom book at (j + 1) m)))
+        go (w, q) rest =
+            rw (w .is, q, rest)
+            (ap (λ (d : Decl). d ∷ declsOf view book (entriesFrom book at (j + 1) m))
+            (declared-same (sizesIn types) (sizeAt view) (u .types) sizes-same (w .ty) (entryOf book at j)
+            (rw names-long at (found-earlier (view .names) (typeName book at j) (w .ty) (w .is)))))
+
+    pub turn-decls : declsFrom types book scratch at 0 n ≡ declsOf view book (entriesFrom book at 0 n)
+    turn-decls = decls-from 0 n (omega arith)
+
+-- ---- the ways out of a turn
+
+module _ (types members names book : List ℕ) (u : Used) (i at n : ℕ) (e : n ≡ countOf book i) where
+  abbrev known : Bool
+  known = allKnown (rowNames types names (u .types)) (typeNames book at 0 (countOf book i))
+
+  abbrev verdict : Verdict
+  verdict =
+      addTo (viewIn types names u) book i at
+      (declsOf (viewIn types names u) book (entriesFrom book at 0 (countOf book i)))
+
+  uses-long : length (typeNames book at 0 n) ≡ n
+  uses-long = length-list (typeName book at) 0 n
+
+  module _ {tys tys′ : List ℕ} (r : ℕ)
+      (w : Resolves (rowNames types names (u .types)) (typeNames book at 0 n) tys tys′ r) where
+    pub turn-waits : r < n → Turned known verdict u types members names types members names Waits
+    turn-waits l =
+        let f : known ≡ false
+        = rw (← e) (not-all (rowNames types names (u .types)) (typeNames book at 0 n) (omega (arith, w .is, uses-long)))
+        in
+        record { waits = λ q. (refl, (refl, (refl, refl))); takes = λ q. absurd (true≢false (sym q ∙ f)) }
+
+    module _ (l : n ≤ r) where
+      found-all : allKnown (rowNames types names (u .types)) (typeNames book at 0 n) ≡ true
+      found-all = all-found (rowNames types names (u .types)) (typeNames book at 0 n) (omega (arith, w .is, uses-long))
+
+      pub turn-ready : n ≤ length tys → EntriesInside book at n → n ≤ 65536 → Declared book tys′ (u .types) at n
+      unfolding viewIn
+      turn-ready k h f = rw (w .words) (turn-declared types names book tys u at n found-all k h f)
+
+      pub turn-takes : n ≤ length tys → {t′ m′ n′ : List ℕ} {x : Turn}
+          → Took (addEntry (viewIn types names u) book i at (typeEntry book i) (nameIn book (typeEntry book i .name))
+          (declsFrom types book tys′ at 0 n)) u types members names t′ m′ n′ x
+          → Turned known verdict u types members names t′ m′ n′ x
+      unfolding viewIn
+      turn-takes k t =
+          let f : known ≡ true = rw (← e) found-all in
+          let d : declsFrom types book tys′ at 0 n
+          ≡ declsOf (viewIn types names u) book (entriesFrom book at 0 (countOf book i))
+          = ap (λ (z : List ℕ). declsFrom types book z at 0 n) (w .words)
+          ∙ turn-decls types names book tys u at n found-all k
+          ∙ ap (λ (m : ℕ). declsOf (viewIn types names u) book (entriesFrom book at 0 m)) e in
+          record {
+            waits = λ q. absurd (true≢false (sym f ∙ q));
+            takes = λ q. took-so (ap (λ (z : List Decl). addTo (viewIn types names u) book i at z) (sym d)) t;
+          }

@@ -1,0 +1,101 @@
+-- `types::add_string` meets its contract, one law for each way out.
+use native.Mathlib.Omega.{arith}
+use borrow.Author.Needs.{needs}
+use Prim.Native.Nat.{_+_}
+use mathlib.Core.Path.{_∙_}
+use lib.ListN.{length}
+use Rattle.types.proofs.AddStoreLaws.{Roomy}
+use Rattle.types.proofs.AddStringLaws.{string-full, string-room, string-readable, string-took}
+use Rattle.types.proofs.add_more.add_string.Statement.{statement}
+use Rattle.types.proofs.add_more.add_string.Tie as tie
+
+-- there is room
+fits : (c : tie.Then1)
+    → let a = c .before .before .before .args in
+    Roomy (a .u) 2 (length (a .name .now) + 7)
+fits c =
+    let s = c .before .before .before in
+    string-room (s .pre .0) (s .args .name .now) (s .args .capacity) (c .before .has-room .ensures) (c .if1 .taken)
+
+add-bytes : tie.Need-add-bytes
+add-bytes c = search needs
+
+has-room-requires : tie.Need-has-room-requires
+has-room-requires c κs = search needs
+
+whole-requires : tie.Need-whole-requires
+whole-requires c κs = search needs
+
+string-size-requires : tie.Need-string-size-requires
+string-size-requires c κs = search needs
+
+add-place : tie.Need-add-place
+add-place c = search needs
+
+put-bytes-requires : tie.Need-put-bytes-requires
+put-bytes-requires c κs = omega (arith, fits (c .before .before .before .before .before .before) .bytes)
+
+put-string-requires : tie.Need-put-string-requires
+put-string-requires c κs =
+    let f = fits (c .before .before .before .before .before .before .before .before .before) in
+    (f .members, omega (arith, f .bytes))
+
+bare-head-requires : tie.Need-bare-head-requires
+bare-head-requires c κs = search needs
+
+enter-requires : tie.Need-enter-requires
+enter-requires c κs =
+    let head = c .before .before .before in
+    let stored = head .before in
+    let size = stored .before .before .before .before .before .before in
+    let t = size .before .before .before .before in
+    let s = t .before .before .before in (
+      fits t .types,
+      rw (head .bare-head .ensures, size .string-size .ensures, stored .put-string .ensures .0)
+          (string-readable (s .pre .0) (s .args .name .now) _ (t .before .has-room .ensures) (t .if1 .taken)
+          (s .args .members .now) (size .before .whole .ensures .0) _),
+    )
+
+used-more-requires : tie.Need-used-more-requires
+used-more-requires c κs =
+    let stored = c .before .before .before .before .before in
+    let f = fits (stored .before .before .before .before .before .before .before .before .before .before) in
+    (f .types, (f .members, f .bytes))
+
+returns : tie.Need-returns
+returns c =
+    let entered = c .before in
+    let head = entered .before .before .before .before in
+    let stored = head .before in
+    let put = stored .before .before .before in
+    let size = put .before .before .before in
+    let t = size .before .before .before .before in
+    let s = t .before .before .before in
+    let long = size .before .whole .ensures in
+    rw (c .used-more .ensures)
+    (string-took (s .pre .0) _ _ (t .before .has-room .ensures) (t .if1 .taken) _ (long .0) _ _ (long .1)
+    (stored .put-string .ensures .0)
+    (stored .put-string .ensures .1 ∙ rw (put .put-bytes .ensures))
+    (entered .enter .ensures ∙ rw (head .bare-head .ensures, size .string-size .ensures)))
+
+returns-2 : tie.Need-returns-2
+returns-2 c =
+    let s = (c .before .before .before) in
+    string-full (s .pre .0) _ _ (c .before .has-room .ensures) _ _ _ (c .if1 .left)
+
+pub add-string-spec : {M : Type 1} → statement M
+add-string-spec =
+    tie.close
+    (tie.spec
+    add-bytes
+    has-room-requires
+    whole-requires
+    string-size-requires
+    add-place
+    put-bytes-requires
+    put-string-requires
+    bare-head-requires
+    enter-requires
+    used-more-requires
+    returns
+    returns-2)

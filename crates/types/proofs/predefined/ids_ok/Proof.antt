@@ -1,0 +1,78 @@
+-- `types::ids_ok` meets its contract, one id after the other.
+use borrow.Author.Needs.{needs}
+use borrow.Author.Tests.{not-true, not-false}
+use mathlib.Core.Path.{_≡_, sym, _∙_}
+use mathlib.Core.Bool.{true}
+use Rattle.types.specs.Predefined.{predefinedId}
+use Rattle.types.proofs.PredefinedLaws.{wrong-1, wrong-2, wrong-3, wrong-4, ids-differ}
+use Rattle.types.proofs.predefined.ids_ok.Statement.{statement}
+use Rattle.types.proofs.predefined.ids_ok.Tie as tie
+
+-- the ids that passed
+one : (c : tie.Else1) → predefinedId (c .before .before .args .timer) ≡ true
+one c = sym (c .before .id-ok .ensures) ∙ not-false _ (c .if1 .left)
+
+two : (c : tie.Else2) → predefinedId (c .before .before .before .before .args .counter) ≡ true
+two c = sym (c .before .id-ok2 .ensures) ∙ not-false _ (c .if2 .left)
+
+three : (c : tie.Else3) → predefinedId (c .before .before .before .before .before .before .args .control) ≡ true
+three c = sym (c .before .id-ok3 .ensures) ∙ not-false _ (c .if3 .left)
+
+id-ok-requires : tie.Need-id-ok-requires
+id-ok-requires c κs = search needs
+
+returns : tie.Need-returns
+returns c = wrong-1 _ _ _ _ (sym (c .before .id-ok .ensures) ∙ not-true _ (c .if1 .taken))
+
+id-ok-requires-2 : tie.Need-id-ok-requires-2
+id-ok-requires-2 c κs = search needs
+
+returns-2 : tie.Need-returns-2
+returns-2 c =
+    wrong-2 _ _ _ _ (one (c .before .before)) (sym (c .before .id-ok2 .ensures) ∙ not-true _ (c .if2 .taken))
+
+id-ok-requires-3 : tie.Need-id-ok-requires-3
+id-ok-requires-3 c κs = search needs
+
+returns-3 : tie.Need-returns-3
+returns-3 c =
+    let second = c .before .before in
+    wrong-3 _ _ _ _ (one (second .before .before)) (two second)
+    (sym (c .before .id-ok3 .ensures) ∙ not-true _ (c .if3 .taken))
+
+id-ok-requires-4 : tie.Need-id-ok-requires-4
+id-ok-requires-4 c κs = search needs
+
+returns-4 : tie.Need-returns-4
+returns-4 c =
+    let third = c .before .before in
+    let second = third .before .before in
+    wrong-4 _ _ _ _ (one (second .before .before)) (two second) (three third)
+    (sym (c .before .id-ok4 .ensures) ∙ not-true _ (c .if4 .taken))
+
+all-differ-requires : tie.Need-all-differ-requires
+all-differ-requires c κs = search needs
+
+returns-5 : tie.Need-returns-5
+returns-5 c =
+    let fourth = c .before in
+    let third = fourth .before .before in
+    let second = third .before .before in
+    c .all-differ .ensures
+    ∙ ids-differ _ _ _ _ (one (second .before .before)) (two second) (three third)
+    (sym (fourth .before .id-ok4 .ensures) ∙ not-false _ (fourth .if4 .left))
+
+pub ids-ok-spec : {M : Type 1} → statement M
+ids-ok-spec =
+    tie.close
+    (tie.spec
+    id-ok-requires
+    returns
+    id-ok-requires-2
+    returns-2
+    id-ok-requires-3
+    returns-3
+    id-ok-requires-4
+    returns-4
+    all-differ-requires
+    returns-5)

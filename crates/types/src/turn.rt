@@ -1,0 +1,63 @@
+// One type's turn in a round (document 01, "Order of building"): it is added when all its member types are
+// known, those of the same round included.
+ghost use mathlib.Core.Path.{_≡_};
+ghost use Prim.Native.Nat.{_+_, _≤_};
+ghost use Rattle.types.specs.Add.{addTo};
+ghost use Rattle.types.specs.Checks.{entriesFrom};
+ghost use Rattle.types.specs.Lookup.{rowNames};
+ghost use Rattle.types.specs.Registry.{viewIn};
+ghost use Rattle.types.specs.Resolve.{typeNames, allKnown};
+ghost use Rattle.types.specs.Turns.{countOf, declsOf, TurnIn, Turned};
+use crate::add_type::add_entry;
+use crate::book::count_of;
+use crate::book::type_entry;
+use crate::resolve::resolve;
+use crate::tables::MemberTable;
+use crate::tables::NameTable;
+use crate::tables::TypeTable;
+use crate::used::Turn;
+use crate::used::Used;
+use words::wide;
+
+// The turn of the i-th type of a book, whose members' entries begin at a place; so much of the tables is used.
+pub fn take_turn(
+    book: &[u8],
+    i: usize,
+    at: usize,
+    types: &mut TypeTable,
+    members: &mut MemberTable,
+    names: &mut NameTable,
+    u: Used,
+    tys: &mut [u16],
+) -> Turn
+    requires { ⌜ TurnIn (now types) (now members) (now names) (now book) (now tys) i at u ⌝ }
+    ensures { λ r. ⌜ Turned (allKnown (rowNames (now (types .entry)) (now (names .entry)) (u .types))
+        (typeNames (now (book .entry)) at 0 (countOf (now (book .entry)) i)))
+        (addTo (viewIn (now (types .entry)) (now (names .entry)) u) (now (book .entry)) i at
+        (declsOf (viewIn (now (types .entry)) (now (names .entry)) u) (now (book .entry))
+        (entriesFrom (now (book .entry)) at 0 (countOf (now (book .entry)) i)))) u
+        (now (types .entry)) (now (members .entry)) (now (names .entry))
+        (now (types .exit)) (now (members .exit)) (now (names .exit)) r ⌝ }
+{
+    let e = type_entry(book, i);
+    let n = count_of(e.count);
+    let found = resolve(types, names, u.types, book, at, n, tys);
+    if found < n {
+        return Turn::Waits;
+    }
+    let span = e.name;
+    let start = wide(span.at);
+    let end = start + wide(span.long);
+    add_entry(
+        book,
+        tys,
+        at,
+        e,
+        i as u32,
+        &book[start..end],
+        types,
+        members,
+        names,
+        u,
+    )
+}
