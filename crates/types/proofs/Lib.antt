@@ -45,3 +45,4 @@ pub mod AddAoiLaws
 pub mod AddStringLaws
 pub mod AddTypeLaws
 pub mod PredefinedLaws
+pub mod CountLaws

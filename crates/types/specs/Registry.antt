@@ -1,8 +1,10 @@
 -- The registry: the types that were added so far, in order, and the tables that hold them (document 01, "Declaration
 -- book": the tables; "Order of building"). Each type takes the next row, its members the next rows, its name and
 -- theirs the next bytes.
-use Prim.Native.Nat.{ℕ, _+_}
+use Prim.Native.Nat.{ℕ, zero, suc, _+_}
+use mathlib.Core.Bool.{cond}
 use mathlib.Core.List.{List, [], _∷_, _++_, map}
+use lib.Dec.{eqb}
 use lib.ListN.{length, getD, replicate}
 use lib.Seq.{sets}
 use Rattle.types.specs.declared.member.StructDef.{StructDef}
@@ -145,3 +147,12 @@ usedWith u members bytes =
 
 abbrev pub usedMore : Used → Def → Used
 usedMore u d = usedWith u (length (d .parts)) (length (ownNames d))
+
+-- ---- how many types stand in a table: the first row whose template id is 0 is unused
+
+unfoldable pub countFrom : (ℕ → ℕ) → ℕ → ℕ → ℕ
+countFrom ids i zero = 0
+countFrom ids i (suc n) = cond (eqb (ids i) 0) 0 (suc (countFrom ids (i + 1) n))
+
+unfoldable pub typeCount : List ℕ → ℕ
+typeCount types = countFrom (idWord types) 0 200

@@ -8,6 +8,7 @@ mod aoi;
 mod atomic;
 mod book;
 mod checks;
+mod count;
 mod digits;
 mod entries;
 mod fixed;

@@ -1,0 +1,17 @@
+-- `types::find` meets its contract: all types that stand in the tables are looked through.
+use borrow.Author.Needs.{needs}
+use mathlib.Core.Path.{_∙_}
+use Rattle.types.proofs.count.find.Statement.{statement}
+use Rattle.types.proofs.count.find.Tie as tie
+
+type-count-requires : tie.Need-type-count-requires
+type-count-requires c κs = search needs
+
+lookup-requires : tie.Need-lookup-requires
+lookup-requires c κs = rw (c .before .type-count .ensures) (c .before .before .before .pre)
+
+returns : tie.Need-returns
+returns c = c .lookup .ensures ∙ rw (c .before .before .type-count .ensures)
+
+pub find-spec : {M : Type 1} → statement M
+find-spec = tie.close (tie.spec type-count-requires lookup-requires returns)
