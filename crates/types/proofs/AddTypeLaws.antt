@@ -91,6 +91,14 @@ string-most e q =
     let c = eqb (e .count) 0 in
     leb-true _ _ (and-right a b (and-left (a && b) c (and-left (a && b && c) (not (isAoi e)) q)))
 
+pub string-least : (e : TypeEntry) → stringOk e ≡ true → 1 ≤ e .string
+unfolding stringOk
+string-least e q =
+    let a = leb 1 (e .string) in
+    let b = leb (e .string) (2 ^ 26 - 4) in
+    let c = eqb (e .count) 0 in
+    leb-true _ _ (and-left a b (and-left (a && b) c (and-left (a && b && c) (not (isAoi e)) q)))
+
 module _ (v : View) (book : List ℕ) (i at : ℕ) (e : TypeEntry) (name : List ℕ) (id : ℕ) (ds : List Decl) (s : Bool)
     (es : s ≡ isString e) where
   module _ (q : s ≡ true) (k : Bool) (ek : k ≡ stringOk e) where

@@ -23,7 +23,7 @@ use Rattle.types.specs.Waste.{sizesIn}
 use Rattle.types.proofs.EntryLaws.{align-fair}
 use Rattle.types.proofs.LaidLaws.{udt-laid, aoi-laid}
 
-stored-earlier : (i : ℕ) (t : Ty) (dim : ℕ) → Earlier i t → Earlier i (storedTy t dim)
+pub stored-earlier : (i : ℕ) (t : Ty) (dim : ℕ) → Earlier i t → Earlier i (storedTy t dim)
 unfolding storedTy
 stored-earlier i t dim e = go (boolArray t dim)
   where

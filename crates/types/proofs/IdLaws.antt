@@ -4,10 +4,11 @@ use Prim.Native.Nat.{ℕ, zero, suc, _+_, _-_, _*_, _<_, _≤_}
 use native.Mathlib.Decide.{decLt}
 use native.Mathlib.Omega.{arith}
 use mathlib.Core.Path.{_≡_, refl, sym, _∙_}
-use mathlib.Core.Bool.{Bool, true, false, cond, _||_}
+use mathlib.Core.Bool.{Bool, true, false, cond, _&&_, _||_, and-eq-true-iff}
 use mathlib.Core.List.{List}
-use borrow.Author.Tests.{eq-eqb, ne-eqb, eqb-true, le-leb, lt-leb, lt-ltb, le-ltb}
-use lib.Dec.{eqb}
+use borrow.Author.Tests.{eq-eqb, ne-eqb, eqb-true, le-leb, lt-leb, lt-ltb, le-ltb, leb-true, ltb-true}
+use lib.Dec.{eqb, leb, ltb}
+use Rattle.types.specs.declared.ids.Picked.{Picked}
 use Rattle.types.specs.declared.ids.Picked.the-variants.{Free, OutsideRange, InUse, NoneFree}
 use Rattle.types.specs.Book.{listFrom}
 use Rattle.types.specs.Ids.{idWord, Held, Lowest, inUse, lowestFrom, lowestFree, idFor}
@@ -167,3 +168,32 @@ module _ (ids : List ℕ) (id : ℕ) where
   pub pick-none : (r : ℕ) → r ≡ lowestFree ids → 0xF00 ≤ r → NoneFree ≡ idFor ids false id
   unfolding idFor
   pick-none r e l = rw (← e) (simp (le-ltb _ _ l))
+
+-- ---- what is picked
+
+-- an id that is picked lies in the range
+abbrev pub InRange : Picked → Type 0
+InRange (Free id) = (0x100 ≤ id) × (id ≤ 0xEFF)
+InRange OutsideRange = Unit {0}
+InRange InUse = Unit {0}
+InRange NoneFree = Unit {0}
+
+pub picked-range : (ids : List ℕ) (given : Bool) (id : ℕ) → InRange (idFor ids given id)
+unfolding idFor lowestFree
+picked-range ids true id = go (leb 0x100 id && leb id 0xEFF) refl (inUse id ids)
+  where
+    go : (b : Bool) → (leb 0x100 id && leb id 0xEFF) ≡ b → (u : Bool)
+        → InRange (cond b (cond u InUse (Free id)) OutsideRange)
+    go true e true = tt
+    go true e false =
+        let both = and-eq-true-iff (leb 0x100 id) (leb id 0xEFF) .0 e in
+        (leb-true _ _ (both .0), leb-true _ _ (both .1))
+    go false e u = tt
+picked-range ids false id = go (ltb (lowestFrom ids 0x100 0xE00) 0xF00) refl
+  where
+    go : (b : Bool) → ltb (lowestFrom ids 0x100 0xE00) 0xF00 ≡ b
+        → InRange (cond b (Free (lowestFrom ids 0x100 0xE00)) NoneFree)
+    go true e =
+        let l : lowestFrom ids 0x100 0xE00 < 0xF00 = ltb-true _ _ e in
+        (low-from ids 0xE00 0x100 .low, omega arith)
+    go false e = tt

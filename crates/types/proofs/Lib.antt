@@ -46,3 +46,4 @@ pub mod AddStringLaws
 pub mod AddTypeLaws
 pub mod PredefinedLaws
 pub mod CountLaws
+pub mod VerdictLaws

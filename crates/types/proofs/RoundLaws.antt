@@ -12,7 +12,7 @@ use Rattle.types.specs.Rounds.{Step, no, ok, Out, stop, went, Answer, re
 use Rattle.types.specs.Rounds.{keep, onStep, onRound, round, rounds}
 
 -- what holds of both answers of a test holds of the picked one
-either : {A : Type 0} (P : A → Type 0) (t : Bool) (x y : A) → (t ≡ true → P x) → (t ≡ false → P y) → P (cond t x y)
+pub either : {A : Type 0} (P : A → Type 0) (t : Bool) (x y : A) → (t ≡ true → P x) → (t ≡ false → P y) → P (cond t x y)
 either P true x y f g = f refl
 either P false x y f g = g refl
 

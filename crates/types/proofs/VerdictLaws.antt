@@ -1,0 +1,279 @@
+-- Laws of a type's verdict (document 01, "Refusal numbers" and "Order of building"): a type that is added fits into the
+-- registry and has the name of its entry, and no way out of adding is refusal 10.
+use Prim.Native.Nat.{ℕ, zero, suc, _+_, _*_, _^_, _<_, _≤_}
+use native.Mathlib.Omega.{arith}
+use mathlib.Core.Path.{_≡_, refl, sym}
+use mathlib.Core.Bool.{Bool, true, false, cond}
+use mathlib.Core.List.{List, [], _∷_, map}
+use lib.ListN.{length, length-map}
+use Rattle.words.specs.Words.{Bytes}
+use Rattle.words.proofs.WordLaws.{word-below}
+use Rattle.types.specs.declared.book.MemberEntry.{MemberEntry}
+use Rattle.types.specs.declared.book.TypeEntry.{TypeEntry}
+use Rattle.types.specs.declared.checks.Checked.{Checked}
+use Rattle.types.specs.declared.checks.Checked.the-variants.{Good, NameWrong, Twice, LocalOutside}
+use Rattle.types.specs.declared.ids.Picked.{Picked}
+use Rattle.types.specs.declared.ids.Picked.the-variants.{Free, OutsideRange, InUse, NoneFree}
+use Rattle.types.specs.declared.layout.Cursor.{Cursor}
+use Rattle.types.specs.declared.layout.Decl.{Decl}
+use Rattle.types.specs.declared.lookups.FoundTy.{FoundTy}
+use Rattle.types.specs.declared.lookups.FoundTy.the-variants.{Is, Nothing}
+use Rattle.types.specs.declared.measure.Measured.{Measured}
+use Rattle.types.specs.declared.measure.Measured.the-variants.{Laid, AccessWrong as accessWrong, TooFar as tooFar}
+use Rattle.types.specs.declared.member.StructKind.{StructKind}
+use Rattle.types.specs.declared.member.StructKind.the-variants.{Udt, Str, Aoi}
+use Rattle.types.specs.declared.member.Ty.{Ty}
+use Rattle.types.specs.declared.refusal.Refusal.{Refusal}
+use Rattle.types.specs.declared.refusal.Refusal.the-variants.{TypesUnknown}
+use Rattle.types.specs.Add.{Verdict, no, yes, hasRoom, usedIn, newDef, fitted, onMeasured, addUdt, addAoi}
+use Rattle.types.specs.Add.{onChecked, isAoi, isString, hasId, addMembers, stringOk, addString, addNamed, onId}
+use Rattle.types.specs.Add.{addFresh, addEntry}
+use Rattle.types.specs.Book.{listFrom, typeEntry}
+use Rattle.types.specs.Checks.{checked, entryOf, entriesFrom}
+use Rattle.types.specs.Defs.{Part, Def, nameIn}
+use Rattle.types.specs.Digits.{hostName}
+use Rattle.types.specs.Entries.{storedTy, resolved, declared}
+use Rattle.types.specs.Ids.{idFor}
+use Rattle.types.specs.Laid.{Laid as Lies, Resolved, Every}
+use Rattle.types.specs.Lookup.{typeAmong}
+use Rattle.types.specs.Names.{goodName}
+use Rattle.types.specs.Refusal.{numberOf}
+use Rattle.types.specs.Registry.{View, sizeAt, ownNames, membersOf, bytesOf, viewOf}
+use Rattle.types.specs.Resolve.{isFound}
+use Rattle.types.specs.Structs.{namedIn, udtStart, udtParts, aoiParts, measured, measuredAoi, stringParts}
+use Rattle.types.specs.Structs.{sizeAt as sizeOf, aoiHosts, stringSize}
+use Rattle.types.specs.Turns.{entriesAt, countOf, thenDecl, declsOf, verdictOn}
+use Rattle.types.proofs.AddLaws.{Able, udt-fits, aoi-fits, string-fits}
+use Rattle.types.proofs.AddStoreLaws.{Roomy, roomy}
+use Rattle.types.proofs.AddTypeLaws.{string-least, string-most as string-room}
+use Rattle.types.proofs.BoundLaws.{udt-count, udt-most, aoi-count, aoi-most, string-most}
+use Rattle.types.proofs.DefLaws.{PartFits}
+use Rattle.types.proofs.EntryLaws.{align-fair}
+use Rattle.types.proofs.FoundLaws.{stored-earlier}
+use Rattle.types.proofs.HandleLaws.{handle-small}
+use Rattle.types.proofs.IdLaws.{InRange, picked-range}
+use Rattle.types.proofs.LaidLaws.{udt-laid, aoi-laid, string-laid}
+use Rattle.types.proofs.ResolveLaws.{found-earlier}
+use Rattle.types.proofs.RoundLaws.{either}
+use Rattle.types.proofs.ShownLaws.{Shown, Fits}
+
+-- ---- the ways out of adding
+
+-- what a type that is added has: the name, an id in the range, room in the tables, and a handle of 16 bits; its parts
+-- can be stored where the declared members can
+pub record Made (v : View) (s : List ℕ) (ds : List Decl) (d : Def) : Type 0 where
+  pub name : d .name ≡ s
+  pub id : (0x100 ≤ d .id) × (d .id ≤ 0xEFF)
+  pub handle : d .handle < 65536
+  pub room : Roomy (usedIn v) (length (d .parts)) (length (ownNames d))
+  pub parts : (n : ℕ) → Every (Able n) ds → Every (PartFits n) (d .parts)
+  pub laid : (n : ℕ) → Every (Resolved (sizeAt v) n) ds → Lies (sizeAt v) n (d .size) (d .parts)
+  pub most : d .size ≤ 2 ^ 26 + 224
+
+-- a refusal is not 10, or the type is made so
+abbrev pub Judged : View → List ℕ → List Decl → Verdict → Type 0
+Judged v name ds (no r) = numberOf r ≡ 10 → ⊥
+Judged v name ds (yes d) = Made v name ds d
+
+module _ (v : View) (book : List ℕ) (i at : ℕ) (e : TypeEntry) (name : List ℕ) (ds : List Decl) where
+  abbrev Ends : Verdict → Type 0
+  Ends s = Judged v name ds s
+
+  module _ (id : ℕ) (range : InRange (Free id)) where
+    fitted-ends : (size : ℕ) (kind : StructKind) (parts : List Part)
+        → ((n : ℕ) → Every (Able n) ds → Every (PartFits n) parts)
+        → ((n : ℕ) → Every (Resolved (sizeAt v) n) ds → Lies (sizeAt v) n size parts)
+        → (length parts ≤ 2000 → size ≤ 2 ^ 26 + 224)
+        → Ends (fitted v i (newDef v name id size kind parts))
+    unfolding fitted newDef
+    fitted-ends size kind parts f g h =
+        either Ends (hasRoom (usedIn v) (length parts) (length (ownNames (newDef v name id size kind parts)))) _ _
+        (λ q. record {
+          name = refl;
+          id = range;
+          handle = handle-small _;
+          room = roomy (usedIn v) _ _ (sym q);
+          parts = f;
+          laid = g;
+          most = h (omega (arith, roomy (usedIn v) _ _ (sym q) .members));
+        })
+        (λ q z. omega arith)
+
+    -- 11, 12
+    measured-ends : (m : Measured) (k : ℕ → Verdict) → ((c : Cursor) (n : ℕ) → m ≡ Laid c n → Ends (k (sizeOf c)))
+        → Ends (onMeasured m i k)
+    measured-ends (Laid c n) k f = f c n refl
+    measured-ends accessWrong k f = λ z. omega arith
+    measured-ends tooFar k f = λ z. omega arith
+
+    udt-ends : Ends (addUdt v book i name id ds)
+    unfolding addUdt
+    udt-ends =
+        measured-ends (measured (hostName name) udtStart 0 ds) _
+        (λ c n q. fitted-ends (sizeOf c) Udt _ (λ k a. udt-fits k (namedIn book) name ds a)
+        (λ k r. udt-laid (sizeAt v) k (namedIn book) name ds 0 c n r q)
+        (λ l. udt-most (hostName name) 0 ds c n q (omega (arith, udt-count (namedIn book) name ds 0 c n q))))
+
+    aoi-ends : Ends (addAoi v book i name id ds)
+    unfolding addAoi measuredAoi
+    aoi-ends =
+        measured-ends (measuredAoi name ds) _
+        (λ c n q. fitted-ends (sizeOf c) Aoi _ (λ k a. aoi-fits k (namedIn book) name ds a)
+        (λ k r. aoi-laid (sizeAt v) k (namedIn book) name ds _ c n r q)
+        (λ l. aoi-most (hostName name) _ ds c n (aoiHosts ds) q
+        (omega (arith, aoi-count (namedIn book) name ds _ c n q))))
+
+    -- per member 2, 8, 9
+    checked-ends : (c : Checked) (k : Verdict) → Ends k → Ends (onChecked c i k)
+    checked-ends Good k f = f
+    checked-ends NameWrong k f = λ z. omega arith
+    checked-ends Twice k f = λ z. omega arith
+    checked-ends LocalOutside k f = λ z. omega arith
+
+    members-ends : (n : ℕ) (aoi : Bool) → Ends (addMembers v book i at n aoi name id ds)
+    unfolding addMembers
+    members-ends n aoi =
+        checked-ends (checked book aoi [] (entriesFrom book at 0 n)) _
+        (either Ends aoi _ _ (λ q. aoi-ends) (λ q. udt-ends))
+
+    -- 7
+    string-ends : Ends (addString v i e name id)
+    unfolding addString
+    string-ends =
+        either Ends (stringOk e) _ _
+        (λ q. fitted-ends _ Str _ (λ n a. string-fits n (e .string)) (λ n r. string-laid (sizeAt v) n (e .string) (string-least e q))
+        (λ l. omega (arith, string-most (e .string) (string-room e q))))
+        (λ q z. omega arith)
+
+    named-ends : Ends (addNamed v book i at e name id ds)
+    unfolding addNamed
+    named-ends = either Ends (isString e) _ _ (λ q. string-ends) (λ q. members-ends (e .count) (isAoi e))
+
+  -- 4, 5, 6
+  picked-ends : (p : Picked) (k : ℕ → Verdict) → InRange p → ((id : ℕ) → InRange (Free id) → Ends (k id))
+      → Ends (onId p i k)
+  picked-ends (Free id) k range f = f id range
+  picked-ends OutsideRange k range f = λ z. omega arith
+  picked-ends InUse k range f = λ z. omega arith
+  picked-ends NoneFree k range f = λ z. omega arith
+
+  fresh-ends : Ends (addFresh v book i at e name ds)
+  unfolding addFresh
+  fresh-ends =
+      picked-ends (idFor (v .ids) (hasId e) (e .id)) _ (picked-range (v .ids) (hasId e) (e .id)) named-ends
+
+  -- 2, 3
+  pub entry-ends : Ends (addEntry v book i at e name ds)
+  unfolding addEntry
+  entry-ends =
+      either Ends (goodName name) _ _
+      (λ q. either Ends (isFound (typeAmong (v .names) name)) _ _ (λ q z. omega arith) (λ q. fresh-ends))
+      (λ q z. omega arith)
+
+-- ---- the declared members of a book's type
+
+entries-small : (book : List ℕ) (at j n : ℕ) → Bytes book → Every (λ e. e .access < 256) (entriesFrom book at j n)
+unfolding listFrom Every
+entries-small book at j zero b = tt
+entries-small book at j (suc n) b =
+    (word-below 1 book (at + 16 * j + 7) b, entries-small book at (j + 1) n b)
+
+-- each is of a type that was found among the names
+decl-able : (v : View) (e : MemberEntry) (s : List ℕ) (ty : Ty) → e .access < 256 → typeAmong (v .names) s ≡ Is ty
+    → Able (length (v .names)) (declared (sizeAt v) ty e)
+unfolding resolved
+decl-able v e s ty a q =
+    record { access = a; earlier = stored-earlier _ ty (e .dim) (found-earlier (v .names) s ty q) }
+
+decls-able : (v : View) (book : List ℕ) (es : List MemberEntry) → Every (λ e. e .access < 256) es
+    → Every (Able (length (v .names))) (declsOf v book es)
+unfolding declsOf Every
+decls-able v book [] a = tt
+decls-able v book (e ∷ es) (a, rest) =
+    go (typeAmong (v .names) (nameIn book (e .ty))) refl (decls-able v book es rest)
+  where
+    go : (f : FoundTy) → typeAmong (v .names) (nameIn book (e .ty)) ≡ f
+        → Every (Able (length (v .names))) (declsOf v book es)
+        → Every (Able (length (v .names))) (thenDecl f (λ ty. declared (sizeAt v) ty e) (declsOf v book es))
+    go (Is ty) q ih = (decl-able v e (nameIn book (e .ty)) ty a q, ih)
+    go Nothing q ih = tt
+
+-- ---- a verdict over a registry
+
+module _ (book : List ℕ) (ds : List Def) (i : ℕ) where
+  abbrev entries : List MemberEntry
+  entries = entriesFrom book (entriesAt book i) 0 (countOf book i)
+
+  verdict-ends : Judged (viewOf ds) (nameIn book (typeEntry book i .name)) (declsOf (viewOf ds) book entries)
+      (verdictOn book (viewOf ds) i)
+  unfolding verdictOn
+  verdict-ends = entry-ends (viewOf ds) book i (entriesAt book i) (typeEntry book i) _ _
+
+  verdict-made : (d : Def) → verdictOn book (viewOf ds) i ≡ yes d
+      → Made (viewOf ds) (nameIn book (typeEntry book i .name)) (declsOf (viewOf ds) book entries) d
+  verdict-made d e = rw e at verdict-ends
+
+  -- the name is that of the entry
+  pub verdict-name : (d : Def) → verdictOn book (viewOf ds) i ≡ yes d → d .name ≡ nameIn book (typeEntry book i .name)
+  verdict-name d e = verdict-made d e .name
+
+  -- no way out is refusal 10
+  pub verdict-never : (p : ℕ) → verdictOn book (viewOf ds) i ≡ no (TypesUnknown p) → ⊥
+  verdict-never p e =
+      let z : numberOf (TypesUnknown p) ≡ 10 → ⊥ = rw e at verdict-ends in
+      z refl
+
+-- a type that is added fits into the registry
+pub verdict-fits : (book : List ℕ) (ds : List Def) (i : ℕ) (d : Def) → Bytes book → Shown ds
+    → verdictOn book (viewOf ds) i ≡ yes d → Fits ds d
+unfolding viewOf
+verdict-fits book ds i d b s e =
+    let m = verdict-made book ds i d e in
+    let n = length-map ds (λ (x : Def). x .name) in
+    let able = decls-able (viewOf ds) book (entries book ds i)
+    (entries-small book (entriesAt book i) 0 (countOf book i) b) in
+    record {
+      few = omega (arith, m .room .types);
+      rows = m .room .members;
+      bytes = m .room .bytes;
+      parts = rw n at (m .parts _ able);
+      id = omega (arith, m .id .1);
+      used = λ z. omega (arith, m .id .0);
+      handle = m .handle;
+    }
+
+-- ---- and is laid out well
+
+decl-resolved : (v : View) (e : MemberEntry) (s : List ℕ) (ty : Ty) → typeAmong (v .names) s ≡ Is ty
+    → Resolved (sizeAt v) (length (v .names)) (declared (sizeAt v) ty e)
+unfolding resolved
+decl-resolved v e s ty q =
+    record {
+      size = refl;
+      earlier = stored-earlier _ ty (e .dim) (found-earlier (v .names) s ty q);
+      align = align-fair (storedTy ty (e .dim)) .0;
+    }
+
+decls-resolved : (v : View) (book : List ℕ) (es : List MemberEntry)
+    → Every (Resolved (sizeAt v) (length (v .names))) (declsOf v book es)
+unfolding declsOf Every
+decls-resolved v book [] = tt
+decls-resolved v book (e ∷ es) =
+    go (typeAmong (v .names) (nameIn book (e .ty))) refl (decls-resolved v book es)
+  where
+    go : (f : FoundTy) → typeAmong (v .names) (nameIn book (e .ty)) ≡ f
+        → Every (Resolved (sizeAt v) (length (v .names))) (declsOf v book es)
+        → Every (Resolved (sizeAt v) (length (v .names)))
+        (thenDecl f (λ ty. declared (sizeAt v) ty e) (declsOf v book es))
+    go (Is ty) q ih = (decl-resolved v e (nameIn book (e .ty)) ty q, ih)
+    go Nothing q ih = tt
+
+module _ (book : List ℕ) (ds : List Def) (i : ℕ) (d : Def) (e : verdictOn book (viewOf ds) i ≡ yes d) where
+  pub verdict-laid : Lies (sizeAt (viewOf ds)) (length ds) (d .size) (d .parts)
+  unfolding viewOf
+  verdict-laid =
+      let n = length-map ds (λ (x : Def). x .name) in
+      rw n at (verdict-made book ds i d e .laid _ (decls-resolved (viewOf ds) book (entries book ds i)))
+
+  pub verdict-most : d .size ≤ 2 ^ 26 + 224
+  verdict-most = verdict-made book ds i d e .most
