@@ -47,3 +47,4 @@ pub mod AddTypeLaws
 pub mod PredefinedLaws
 pub mod CountLaws
 pub mod VerdictLaws
+pub mod WellLaws

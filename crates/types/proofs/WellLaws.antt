@@ -1,0 +1,105 @@
+-- Every type of a registry is laid out well (document 01, "Layout"; what values may count on), and stays so when types
+-- are added: a layout depends on the sizes of earlier types only.
+use Prim.Native.Nat.{ℕ, zero, suc, _+_, _*_, _^_, _<_, _≤_}
+use native.Mathlib.Decide.{decLt}
+use native.Mathlib.Omega.{arith}
+use mathlib.Core.Path.{_≡_, refl, sym, ap, _∙_}
+use mathlib.Core.Bool.{false}
+use mathlib.Core.List.{List, [], _∷_, _++_, map, map-append}
+use mathlib.Core.Logic.{_⊎_, inl, inr, ⊎-elim}
+use lib.ListN.{length, getD, length-map, List·getD-append}
+use lib.Seq.{getD-append-seam}
+use Rattle.types.specs.declared.member.Bit.{Bit}
+use Rattle.types.specs.declared.member.Bit.the-variants.{None, At}
+use Rattle.types.specs.declared.member.Member.{Member}
+use Rattle.types.specs.declared.member.Ty.{Ty}
+use Rattle.types.specs.declared.member.Ty.the-variants.{Atomic, Struct}
+use Rattle.types.specs.Defs.{Part, Def}
+use Rattle.types.specs.Laid.{Earlier, firstBit, Apart, Clear, Lies, Laid, Every}
+use Rattle.types.specs.Layout.{times}
+use Rattle.types.specs.Registry.{sizeAt, viewOf}
+use Rattle.types.specs.Waste.{sizeIn, bitsOf}
+use Rattle.types.proofs.RegistryLaws.{length-snoc}
+use Rattle.types.proofs.ShownLaws.{noDef}
+
+-- ---- a layout depends on the sizes of earlier types only
+
+abbrev Before : ℕ → Part → Type 0
+Before i p = Earlier i (p .member .ty)
+
+all-before : (sizes : ℕ → ℕ) (i size : ℕ) (ps : List Part) → Laid sizes i size ps → Every (Before i) ps
+unfolding Laid Every
+all-before sizes i size [] l = tt
+all-before sizes i size (p ∷ ps) (l, ls) = (l .earlier, all-before sizes i size ps ls)
+
+module _ (f g : ℕ → ℕ) (i : ℕ) (same : (k : ℕ) → k < i → f k ≡ g k) where
+  size-same : (t : Ty) → Earlier i t → sizeIn f t ≡ sizeIn g t
+  size-same (Atomic a) e = refl
+  size-same (Struct n) e = same n e
+
+  bits-same : (m : Member) (b : Bit) → Earlier i (m .ty) → bitsOf f b m ≡ bitsOf g b m
+  bits-same m None e = ap (λ (s : ℕ). 8 * (s * times (m .count))) (size-same (m .ty) e)
+  bits-same m (At k) e = refl
+
+  apart-same : (m n : Member) → Earlier i (m .ty) → Earlier i (n .ty) → Apart f m n → Apart g m n
+  apart-same m n a b =
+      ⊎-elim (λ h. inl (omega (arith, h, bits-same m (m .bit) a))) (λ h. inr (omega (arith, h, bits-same n (n .bit) b)))
+
+  clear-same : (m : Member) (ps : List Part) → Earlier i (m .ty) → Every (Before i) ps → Clear f m ps → Clear g m ps
+  unfolding Clear Every
+  clear-same m [] e b c = tt
+  clear-same m (p ∷ ps) e (b, bs) (c, cs) =
+      (λ h k. apart-same m (p .member) e b (c h k), clear-same m ps e bs cs)
+
+  laid-same : (size : ℕ) (ps : List Part) → Laid f i size ps → Laid g i size ps
+  unfolding Laid
+  laid-same size [] l = tt
+  laid-same size (p ∷ ps) (l, ls) = (
+    record {
+      earlier = l .earlier;
+      inside = omega (arith, l .inside, bits-same (p .member) (p .member .bit) (l .earlier));
+      clear = clear-same (p .member) ps (l .earlier) (all-before f i size ps ls) (l .clear);
+    },
+    laid-same size ps ls,
+  )
+
+-- ---- a registry
+
+-- type i is laid out well, and is not too large
+pub record WellMade (sizes : ℕ → ℕ) (i : ℕ) (d : Def) : Type 0 where
+  pub laid : Laid sizes i (d .size) (d .parts)
+  pub most : d .size ≤ 2 ^ 26 + 224
+
+abbrev pub sizesOf : List Def → ℕ → ℕ
+sizesOf ds n = getD (map (λ (x : Def). x .size) ds) n 0
+
+abbrev pub Well : List Def → Type 0
+Well ds = (i : ℕ) → i < length ds → WellMade (sizesOf ds) i (getD ds i noDef)
+
+sizes-stay : (ds : List Def) (d : Def) (k : ℕ) → k < length ds → sizesOf ds k ≡ sizesOf (ds ++ d ∷ []) k
+sizes-stay ds d k l =
+    let n = length-map ds (λ (x : Def). x .size) in
+    sym (ap (λ (s : List ℕ). getD s k 0) (map-append (λ (x : Def). x .size) ds (d ∷ []))
+    ∙ List·getD-append (map (λ (x : Def). x .size) ds) _ 0 k (omega (arith, n)))
+
+pub well-none : Well []
+well-none i l = absurd (let z : ⊥ = omega arith in z)
+
+pub well-more : (ds : List Def) (d : Def) → Well ds → WellMade (sizesOf ds) (length ds) d → Well (ds ++ d ∷ [])
+well-more ds d w n i l = go (decLt i (length ds))
+  where
+    go : Dec (i < length ds) → WellMade (sizesOf (ds ++ d ∷ [])) i (getD (ds ++ d ∷ []) i noDef)
+    go (yes o) =
+        let e = List·getD-append ds (d ∷ []) noDef i o in
+        rw e (record {
+          laid = laid-same (sizesOf ds) (sizesOf (ds ++ d ∷ [])) i (λ k h. sizes-stay ds d k (omega arith)) _ _
+          (w i o .laid);
+          most = w i o .most;
+        })
+    go (no o) =
+        let q : i ≡ length ds = omega (arith, o, length-snoc ds d) in
+        let e : getD (ds ++ d ∷ []) (length ds) noDef ≡ d = getD-append-seam ds d [] noDef in
+        rw (q, e) (record {
+          laid = laid-same (sizesOf ds) (sizesOf (ds ++ d ∷ [])) (length ds) (sizes-stay ds d) _ _ (n .laid);
+          most = n .most;
+        })
