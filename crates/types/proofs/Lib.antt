@@ -48,3 +48,4 @@ pub mod PredefinedLaws
 pub mod CountLaws
 pub mod VerdictLaws
 pub mod WellLaws
+pub mod PredefinedWell
