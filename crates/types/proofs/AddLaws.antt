@@ -40,7 +40,7 @@ pub record Able (n : ℕ) (d : Decl) : Type 0 where
   pub access : d .access < 256
   pub earlier : Earlier n (d .ty)
 
-every-append : {A : Type 0} (P : A → Type 0) (xs ys : List A) → Every P xs → Every P ys → Every P (xs ++ ys)
+pub every-append : {A : Type 0} (P : A → Type 0) (xs ys : List A) → Every P xs → Every P ys → Every P (xs ++ ys)
 unfolding Every
 every-append P [] ys p q = q
 every-append P (x ∷ xs) ys (p, ps) q = (p, every-append P xs ys ps q)

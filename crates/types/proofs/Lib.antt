@@ -49,3 +49,5 @@ pub mod CountLaws
 pub mod VerdictLaws
 pub mod WellLaws
 pub mod PredefinedWell
+pub mod ShortLaws
+pub mod OrderBook

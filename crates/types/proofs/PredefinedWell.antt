@@ -5,30 +5,32 @@ use mathlib.Core.List.{List, [], _∷_}
 use lib.ListN.{length}
 use Rattle.types.specs.Defs.{Def}
 use Rattle.types.specs.Add.{newDef}
+use Rattle.types.specs.Laid.{Every}
 use Rattle.types.specs.Layout.{alignUp}
 use Rattle.types.specs.Predefined.{withTimer, withCounter, withControl, predefined}
 use Rattle.types.specs.Structs.{timerParts, counterParts, controlTypeParts, stringSize}
 use Rattle.types.proofs.LaidLaws.{control-laid, string-laid}
+use Rattle.types.proofs.ShortLaws.{control-short, string-short}
 use Rattle.types.proofs.WellLaws.{Well, WellMade, sizesOf, well-none, well-more}
 
 module _ (timer counter control string : ℕ) where
   timer-well : Well (withTimer timer)
-  unfolding withTimer newDef timerParts
+  unfolding withTimer newDef timerParts Every
   timer-well =
       well-more [] _ well-none
-      (record { laid = control-laid (sizesOf []) 0 _ _ _ (omega arith); most = omega arith })
+      (record { laid = control-laid (sizesOf []) 0 _ _ _ (omega arith); most = omega arith; long = omega arith; short = control-short _ _ _ (omega arith) (omega arith) (omega arith, (omega arith, (omega arith, tt))) })
 
   counter-well : Well (withCounter timer counter)
-  unfolding withCounter newDef counterParts
+  unfolding withCounter newDef counterParts Every
   counter-well =
       well-more (withTimer timer) _ timer-well
-      (record { laid = control-laid (sizesOf (withTimer timer)) _ _ _ _ (omega arith); most = omega arith })
+      (record { laid = control-laid (sizesOf (withTimer timer)) _ _ _ _ (omega arith); most = omega arith; long = omega arith; short = control-short _ _ _ (omega arith) (omega arith) (omega arith, (omega arith, (omega arith, (omega arith, (omega arith, tt))))) })
 
   control-well : Well (withControl timer counter control)
-  unfolding withControl newDef controlTypeParts
+  unfolding withControl newDef controlTypeParts Every
   control-well =
       well-more (withCounter timer counter) _ counter-well
-      (record { laid = control-laid (sizesOf (withCounter timer counter)) _ _ _ _ (omega arith); most = omega arith })
+      (record { laid = control-laid (sizesOf (withCounter timer counter)) _ _ _ _ (omega arith); most = omega arith; long = omega arith; short = control-short _ _ _ (omega arith) (omega arith) (omega arith, (omega arith, (omega arith, (omega arith, (omega arith, (omega arith, (omega arith, (omega arith, tt)))))))) })
 
   pub predefined-well : Well (predefined timer counter control string)
   unfolding predefined newDef stringSize alignUp
@@ -37,4 +39,6 @@ module _ (timer counter control string : ℕ) where
       (record {
         laid = string-laid (sizesOf (withControl timer counter control)) _ 82 (omega arith);
         most = omega arith;
+        long = omega arith;
+        short = string-short 82;
       })

@@ -45,7 +45,7 @@ use Rattle.types.specs.Structs.{sizeAt as sizeOf, aoiHosts, stringSize}
 use Rattle.types.specs.Turns.{entriesAt, countOf, thenDecl, declsOf, verdictOn}
 use Rattle.types.proofs.AddLaws.{Able, udt-fits, aoi-fits, string-fits}
 use Rattle.types.proofs.AddStoreLaws.{Roomy, roomy}
-use Rattle.types.proofs.AddTypeLaws.{string-least, string-most as string-room}
+use Rattle.types.proofs.AddTypeLaws.{good-long, string-least, string-most as string-room}
 use Rattle.types.proofs.BoundLaws.{udt-count, udt-most, aoi-count, aoi-most, string-most}
 use Rattle.types.proofs.DefLaws.{PartFits}
 use Rattle.types.proofs.EntryLaws.{align-fair}
@@ -55,6 +55,8 @@ use Rattle.types.proofs.IdLaws.{InRange, picked-range}
 use Rattle.types.proofs.LaidLaws.{udt-laid, aoi-laid, string-laid}
 use Rattle.types.proofs.ResolveLaws.{found-earlier}
 use Rattle.types.proofs.RoundLaws.{either}
+use Rattle.types.proofs.ShortLaws.{ShortPart, ShortDecls, ShortEntries, udt-short, aoi-short, string-short}
+use Rattle.types.proofs.ShortLaws.{checked-short}
 use Rattle.types.proofs.ShownLaws.{Shown, Fits}
 
 -- ---- the ways out of adding
@@ -69,24 +71,28 @@ pub record Made (v : View) (s : List ℕ) (ds : List Decl) (d : Def) : Type 0 wh
   pub parts : (n : ℕ) → Every (Able n) ds → Every (PartFits n) (d .parts)
   pub laid : (n : ℕ) → Every (Resolved (sizeAt v) n) ds → Lies (sizeAt v) n (d .size) (d .parts)
   pub most : d .size ≤ 2 ^ 26 + 224
+  pub long : length s ≤ 40
+  pub short : Every ShortPart (d .parts)
 
 -- a refusal is not 10, or the type is made so
 abbrev pub Judged : View → List ℕ → List Decl → Verdict → Type 0
 Judged v name ds (no r) = numberOf r ≡ 10 → ⊥
 Judged v name ds (yes d) = Made v name ds d
 
-module _ (v : View) (book : List ℕ) (i at : ℕ) (e : TypeEntry) (name : List ℕ) (ds : List Decl) where
+module _ (v : View) (book : List ℕ) (i at : ℕ) (e : TypeEntry) (name : List ℕ) (ds : List Decl)
+    (named : ShortEntries book (entriesFrom book at 0 (e .count)) → ShortDecls book ds) where
   abbrev Ends : Verdict → Type 0
   Ends s = Judged v name ds s
 
-  module _ (id : ℕ) (range : InRange (Free id)) where
+  module _ (good : length name ≤ 40) (id : ℕ) (range : InRange (Free id)) where
     fitted-ends : (size : ℕ) (kind : StructKind) (parts : List Part)
         → ((n : ℕ) → Every (Able n) ds → Every (PartFits n) parts)
         → ((n : ℕ) → Every (Resolved (sizeAt v) n) ds → Lies (sizeAt v) n size parts)
         → (length parts ≤ 2000 → size ≤ 2 ^ 26 + 224)
+        → Every ShortPart parts
         → Ends (fitted v i (newDef v name id size kind parts))
     unfolding fitted newDef
-    fitted-ends size kind parts f g h =
+    fitted-ends size kind parts f g h k =
         either Ends (hasRoom (usedIn v) (length parts) (length (ownNames (newDef v name id size kind parts)))) _ _
         (λ q. record {
           name = refl;
@@ -96,6 +102,8 @@ module _ (v : View) (book : List ℕ) (i at : ℕ) (e : TypeEntry) (name : List 
           parts = f;
           laid = g;
           most = h (omega (arith, roomy (usedIn v) _ _ (sym q) .members));
+          long = good;
+          short = k;
         })
         (λ q z. omega arith)
 
@@ -106,35 +114,38 @@ module _ (v : View) (book : List ℕ) (i at : ℕ) (e : TypeEntry) (name : List 
     measured-ends accessWrong k f = λ z. omega arith
     measured-ends tooFar k f = λ z. omega arith
 
-    udt-ends : Ends (addUdt v book i name id ds)
+    udt-ends : ShortDecls book ds → Ends (addUdt v book i name id ds)
     unfolding addUdt
-    udt-ends =
+    udt-ends a =
         measured-ends (measured (hostName name) udtStart 0 ds) _
         (λ c n q. fitted-ends (sizeOf c) Udt _ (λ k a. udt-fits k (namedIn book) name ds a)
         (λ k r. udt-laid (sizeAt v) k (namedIn book) name ds 0 c n r q)
-        (λ l. udt-most (hostName name) 0 ds c n q (omega (arith, udt-count (namedIn book) name ds 0 c n q))))
+        (λ l. udt-most (hostName name) 0 ds c n q (omega (arith, udt-count (namedIn book) name ds 0 c n q)))
+        (udt-short book name ds a))
 
-    aoi-ends : Ends (addAoi v book i name id ds)
+    aoi-ends : ShortDecls book ds → Ends (addAoi v book i name id ds)
     unfolding addAoi measuredAoi
-    aoi-ends =
+    aoi-ends a =
         measured-ends (measuredAoi name ds) _
         (λ c n q. fitted-ends (sizeOf c) Aoi _ (λ k a. aoi-fits k (namedIn book) name ds a)
         (λ k r. aoi-laid (sizeAt v) k (namedIn book) name ds _ c n r q)
         (λ l. aoi-most (hostName name) _ ds c n (aoiHosts ds) q
-        (omega (arith, aoi-count (namedIn book) name ds _ c n q))))
+        (omega (arith, aoi-count (namedIn book) name ds _ c n q)))
+        (aoi-short book name ds a))
 
     -- per member 2, 8, 9
-    checked-ends : (c : Checked) (k : Verdict) → Ends k → Ends (onChecked c i k)
-    checked-ends Good k f = f
+    checked-ends : (c : Checked) (k : Verdict) → (c ≡ Good → Ends k) → Ends (onChecked c i k)
+    checked-ends Good k f = f refl
     checked-ends NameWrong k f = λ z. omega arith
     checked-ends Twice k f = λ z. omega arith
     checked-ends LocalOutside k f = λ z. omega arith
 
-    members-ends : (n : ℕ) (aoi : Bool) → Ends (addMembers v book i at n aoi name id ds)
+    members-ends : (aoi : Bool) → Ends (addMembers v book i at (e .count) aoi name id ds)
     unfolding addMembers
-    members-ends n aoi =
-        checked-ends (checked book aoi [] (entriesFrom book at 0 n)) _
-        (either Ends aoi _ _ (λ q. aoi-ends) (λ q. udt-ends))
+    members-ends aoi =
+        checked-ends (checked book aoi [] (entriesFrom book at 0 (e .count))) _
+        (λ c. let a = named (checked-short book aoi [] (entriesFrom book at 0 (e .count)) c) in
+        either Ends aoi _ _ (λ q. aoi-ends a) (λ q. udt-ends a))
 
     -- 7
     string-ends : Ends (addString v i e name id)
@@ -142,12 +153,12 @@ module _ (v : View) (book : List ℕ) (i at : ℕ) (e : TypeEntry) (name : List 
     string-ends =
         either Ends (stringOk e) _ _
         (λ q. fitted-ends _ Str _ (λ n a. string-fits n (e .string)) (λ n r. string-laid (sizeAt v) n (e .string) (string-least e q))
-        (λ l. omega (arith, string-most (e .string) (string-room e q))))
+        (λ l. omega (arith, string-most (e .string) (string-room e q))) (string-short (e .string)))
         (λ q z. omega arith)
 
     named-ends : Ends (addNamed v book i at e name id ds)
     unfolding addNamed
-    named-ends = either Ends (isString e) _ _ (λ q. string-ends) (λ q. members-ends (e .count) (isAoi e))
+    named-ends = either Ends (isString e) _ _ (λ q. string-ends) (λ q. members-ends (isAoi e))
 
   -- 4, 5, 6
   picked-ends : (p : Picked) (k : ℕ → Verdict) → InRange p → ((id : ℕ) → InRange (Free id) → Ends (k id))
@@ -157,17 +168,18 @@ module _ (v : View) (book : List ℕ) (i at : ℕ) (e : TypeEntry) (name : List 
   picked-ends InUse k range f = λ z. omega arith
   picked-ends NoneFree k range f = λ z. omega arith
 
-  fresh-ends : Ends (addFresh v book i at e name ds)
+  fresh-ends : length name ≤ 40 → Ends (addFresh v book i at e name ds)
   unfolding addFresh
-  fresh-ends =
-      picked-ends (idFor (v .ids) (hasId e) (e .id)) _ (picked-range (v .ids) (hasId e) (e .id)) named-ends
+  fresh-ends good =
+      picked-ends (idFor (v .ids) (hasId e) (e .id)) _ (picked-range (v .ids) (hasId e) (e .id)) (named-ends good)
 
   -- 2, 3
   pub entry-ends : Ends (addEntry v book i at e name ds)
   unfolding addEntry
   entry-ends =
       either Ends (goodName name) _ _
-      (λ q. either Ends (isFound (typeAmong (v .names) name)) _ _ (λ q z. omega arith) (λ q. fresh-ends))
+      (λ q. either Ends (isFound (typeAmong (v .names) name)) _ _ (λ r z. omega arith)
+      (λ r. fresh-ends (good-long name q)))
       (λ q z. omega arith)
 
 -- ---- the declared members of a book's type
@@ -198,6 +210,19 @@ decls-able v book (e ∷ es) (a, rest) =
     go (Is ty) q ih = (decl-able v e (nameIn book (e .ty)) ty a q, ih)
     go Nothing q ih = tt
 
+-- and has the name of its entry
+decls-named : (v : View) (book : List ℕ) (es : List MemberEntry) → ShortEntries book es
+    → ShortDecls book (declsOf v book es)
+unfolding declsOf Every resolved
+decls-named v book [] a = tt
+decls-named v book (e ∷ es) (a, rest) =
+    go (typeAmong (v .names) (nameIn book (e .ty))) (decls-named v book es rest)
+  where
+    go : (f : FoundTy) → ShortDecls book (declsOf v book es)
+        → ShortDecls book (thenDecl f (λ ty. declared (sizeAt v) ty e) (declsOf v book es))
+    go (Is ty) ih = (a, ih)
+    go Nothing ih = tt
+
 -- ---- a verdict over a registry
 
 module _ (book : List ℕ) (ds : List Def) (i : ℕ) where
@@ -207,7 +232,8 @@ module _ (book : List ℕ) (ds : List Def) (i : ℕ) where
   verdict-ends : Judged (viewOf ds) (nameIn book (typeEntry book i .name)) (declsOf (viewOf ds) book entries)
       (verdictOn book (viewOf ds) i)
   unfolding verdictOn
-  verdict-ends = entry-ends (viewOf ds) book i (entriesAt book i) (typeEntry book i) _ _
+  verdict-ends =
+      entry-ends (viewOf ds) book i (entriesAt book i) (typeEntry book i) _ _ (decls-named (viewOf ds) book entries)
 
   verdict-made : (d : Def) → verdictOn book (viewOf ds) i ≡ yes d
       → Made (viewOf ds) (nameIn book (typeEntry book i .name)) (declsOf (viewOf ds) book entries) d
@@ -277,3 +303,12 @@ module _ (book : List ℕ) (ds : List Def) (i : ℕ) (d : Def) (e : verdictOn bo
 
   pub verdict-most : d .size ≤ 2 ^ 26 + 224
   verdict-most = verdict-made book ds i d e .most
+
+  -- with names of at most 40 bytes
+  pub verdict-long : length (d .name) ≤ 40
+  verdict-long =
+      let m = verdict-made book ds i d e in
+      rw (m .name) (m .long)
+
+  pub verdict-short : Every ShortPart (d .parts)
+  verdict-short = verdict-made book ds i d e .short

@@ -20,6 +20,7 @@ use Rattle.types.specs.Layout.{times}
 use Rattle.types.specs.Registry.{sizeAt, viewOf}
 use Rattle.types.specs.Waste.{sizeIn, bitsOf}
 use Rattle.types.proofs.RegistryLaws.{length-snoc}
+use Rattle.types.proofs.ShortLaws.{ShortPart}
 use Rattle.types.proofs.ShownLaws.{noDef}
 
 -- ---- a layout depends on the sizes of earlier types only
@@ -65,10 +66,12 @@ module _ (f g : ℕ → ℕ) (i : ℕ) (same : (k : ℕ) → k < i → f k ≡ g
 
 -- ---- a registry
 
--- type i is laid out well, and is not too large
+-- type i is laid out well, is not too large, and has names of at most 40 bytes
 pub record WellMade (sizes : ℕ → ℕ) (i : ℕ) (d : Def) : Type 0 where
   pub laid : Laid sizes i (d .size) (d .parts)
   pub most : d .size ≤ 2 ^ 26 + 224
+  pub long : length (d .name) ≤ 40
+  pub short : Every ShortPart (d .parts)
 
 abbrev pub sizesOf : List Def → ℕ → ℕ
 sizesOf ds n = getD (map (λ (x : Def). x .size) ds) n 0
@@ -95,6 +98,8 @@ well-more ds d w n i l = go (decLt i (length ds))
           laid = laid-same (sizesOf ds) (sizesOf (ds ++ d ∷ [])) i (λ k h. sizes-stay ds d k (omega arith)) _ _
           (w i o .laid);
           most = w i o .most;
+          long = w i o .long;
+          short = w i o .short;
         })
     go (no o) =
         let q : i ≡ length ds = omega (arith, o, length-snoc ds d) in
@@ -102,4 +107,6 @@ well-more ds d w n i l = go (decLt i (length ds))
         rw (q, e) (record {
           laid = laid-same (sizesOf ds) (sizesOf (ds ++ d ∷ [])) (length ds) (sizes-stay ds d) _ _ (n .laid);
           most = n .most;
+          long = n .long;
+          short = n .short;
         })

@@ -31,3 +31,4 @@ pub mod Add
 pub mod ListingCases
 pub mod Turns
 pub mod Predefined
+pub mod Ordering
