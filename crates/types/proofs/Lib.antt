@@ -51,3 +51,5 @@ pub mod WellLaws
 pub mod PredefinedWell
 pub mod ShortLaws
 pub mod OrderBook
+pub mod RoundsKeep
+pub mod GoodLaws

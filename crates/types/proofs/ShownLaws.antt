@@ -66,6 +66,7 @@ pub record Shown (ds : List Def) : Type 0 where
   pub bytes : length (bytesOf ds) ≤ 32768
   pub rows : (i : ℕ) → i < length ds → Row ds i (getD ds i noDef)
   pub unused : (i : ℕ) → length ds ≤ i → typeAt (typesTable ds) i .id ≡ 0
+  pub blank : (i : ℕ) → length ds ≤ i → idWord (typesTable ds) i ≡ 0
 
 -- ---- no type
 
@@ -87,6 +88,7 @@ shown-none =
       bytes = omega arith;
       rows = λ i l. absurd (omega arith);
       unused = λ i l. rw (no-word (8 * i + 2));
+      blank = λ i l. no-word (8 * i + 2);
     }
 
 -- ---- one type more
@@ -203,6 +205,14 @@ unused-more ds d s i l =
     rw (types-more ds d, type-stays (typesTable ds) (8 * length ds) (typeRun ds d) i (inr (omega arith)))
     (s .unused i (omega arith))
 
+blank-more : (ds : List Def) (d : Def) → Shown ds → (i : ℕ) → length ds + 1 ≤ i
+    → idWord (typesTable (ds ++ d ∷ [])) i ≡ 0
+unfolding typeRow
+blank-more ds d s i l =
+    rw (types-more ds d)
+    (getD-beside (typesTable ds) (8 * length ds) (typeRun ds d) (8 * i + 2) 0 (inr (omega arith))
+    ∙ s .blank i (omega arith))
+
 -- one type more is shown beside the others
 pub shown-more : (ds : List Def) (d : Def) → Shown ds → Fits ds d → Shown (ds ++ d ∷ [])
 shown-more ds d s f =
@@ -213,6 +223,7 @@ shown-more ds d s f =
       bytes = omega (arith, long-snoc ds d);
       rows = λ i l. row i (omega (arith, l)) (decLt i (length ds));
       unused = λ i l. unused-more ds d s i (omega (arith, l));
+      blank = λ i l. blank-more ds d s i (omega (arith, l));
     }
   where
     row : (i : ℕ) → i < length ds + 1 → Dec (i < length ds) → Row (ds ++ d ∷ []) i (getD (ds ++ d ∷ []) i noDef)

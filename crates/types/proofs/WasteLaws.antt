@@ -19,7 +19,7 @@ use Rattle.types.proofs.TemplateLaws.{row-type, parts-on, parts-off}
 
 pub whole-bits : (types : List ℕ) (m : Member) {size n : ℕ} → m .hidden ≡ false → m .bit ≡ None
     → size ≡ sizeIn (sizesIn types) (m .ty) → n ≡ times (m .count) → Fitting types m → SeenBits types m (8 * (size * n))
-whole-bits types m e f p q h = record { is = rw (e, f, p, q); small = rw (p, q) (omega (arith, h .small)) }
+whole-bits types m e f p q h = record { is = rw (e, f, p, q); small = rw (p, q) (omega (arith, h .small f)) }
 
 -- ---- the rows
 
@@ -61,4 +61,4 @@ module _ {types members : List ℕ} {first n bits i : ℕ} (w : Counting types m
 -- a row of a structure that can be counted
 pub row-fitting : {types members : List ℕ} {d : StructDef} {first n i : ℕ} → first ≡ d .first → n ≡ d .count → i < n
     → Countable types members d → Fitting types (memberAt members (first + i))
-row-fitting p q h r = record { ty = row-type p q h (r .rows); small = rw p (r .small _ (omega arith)) }
+row-fitting p q h r = record { ty = row-type p q h (r .rows); small = λ b. rw p (r .small _ (omega arith) (rw (← p) b)) }

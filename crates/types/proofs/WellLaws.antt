@@ -52,7 +52,7 @@ module _ (f g : ℕ → ℕ) (i : ℕ) (same : (k : ℕ) → k < i → f k ≡ g
   clear-same m (p ∷ ps) e (b, bs) (c, cs) =
       (λ h k. apart-same m (p .member) e b (c h k), clear-same m ps e bs cs)
 
-  laid-same : (size : ℕ) (ps : List Part) → Laid f i size ps → Laid g i size ps
+  pub laid-same : (size : ℕ) (ps : List Part) → Laid f i size ps → Laid g i size ps
   unfolding Laid
   laid-same size [] l = tt
   laid-same size (p ∷ ps) (l, ls) = (

@@ -45,7 +45,7 @@ wasteIn types members names d = wasteOf (sizesIn types) (defOf members names d)
 -- a member whose bytes are few enough to count its bits
 pub record Fitting (types : List ℕ) (m : Member) : Type 0 where
   pub ty : TyFits (m .ty)
-  pub small : sizeIn (sizesIn types) (m .ty) * times (m .count) ≤ 2 ^ 28
+  pub small : m .bit ≡ None → sizeIn (sizesIn types) (m .ty) * times (m .count) ≤ 2 ^ 28
 
 pub record SeenBits (types : List ℕ) (m : Member) (r : ℕ) : Type 0 where
   pub is : r ≡ cond (m .hidden) 0 (bitsOf (sizesIn types) (m .bit) m)
@@ -54,6 +54,6 @@ pub record SeenBits (types : List ℕ) (m : Member) (r : ℕ) : Type 0 where
 -- a structure whose rows can be read, with such members
 pub record Countable (types members : List ℕ) (d : StructDef) : Type 0 where
   pub rows : Readable members d
-  pub small : (k : ℕ) → k < d .count
+  pub small : (k : ℕ) → k < d .count → memberAt members (d .first + k) .bit ≡ None
       → sizeIn (sizesIn types) (memberAt members (d .first + k) .ty) * times (memberAt members (d .first + k) .count)
       ≤ 2 ^ 28

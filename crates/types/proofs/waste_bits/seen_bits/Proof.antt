@@ -8,8 +8,9 @@ use Rattle.types.proofs.waste_bits.seen_bits.Tie as tie
 
 product : (c : tie.After-elements) → c .before .size-in .result * c .elements .result ≤ 2 ^ 28
 product c =
-    let at-start = c .before .before .before .before .before in
-    rw (c .before .size-in .ensures, c .elements .ensures .is) (at-start .pre .small)
+    let told = c .before .before in
+    let at-start = told .before .before .before in
+    rw (c .before .size-in .ensures, c .elements .ensures .is) (at-start .pre .small (told .enum-told .given .1))
 
 returns : tie.Need-returns
 returns c = search needs

@@ -1,0 +1,169 @@
+-- What every caller may count on in the tables of a registry that our own calls made: each type can be read, counted and
+-- listed, and is laid out well.
+use Prim.Native.Nat.{ℕ, zero, suc, _+_, _*_, _^_, _<_, _≤_}
+use native.Mathlib.Omega.{arith}
+use mathlib.Core.Path.{_≡_, refl, sym, ap, _∙_}
+use mathlib.Core.List.{List, [], _∷_, map}
+use lib.ListN.{length, getD, drop, length-append}
+use Rattle.words.proofs.Lists.{length-part}
+use Rattle.types.specs.declared.member.Bit.{Bit}
+use Rattle.types.specs.declared.member.Bit.the-variants.{None, At}
+use Rattle.types.specs.declared.member.Member.{Member}
+use Rattle.types.specs.declared.member.StructDef.{StructDef}
+use Rattle.types.specs.declared.member.Ty.{Ty}
+use Rattle.types.specs.declared.member.Ty.the-variants.{Atomic, Struct}
+use Rattle.types.specs.Defs.{Part, Def, nameIn, partAt, partsAt, defOf}
+use Rattle.types.specs.Ids.{idWord}
+use Rattle.types.specs.Laid.{Earlier, Lies, Laid, Every}
+use Rattle.types.specs.Layout.{times}
+use Rattle.types.specs.Listing.{Short, StructNamed, TypeNamed, Listable}
+use Rattle.types.specs.Lookup.{NamesInside}
+use Rattle.types.specs.Registry.{ownNames, membersOf, bytesOf, headOf, typesTable, membersTable, namesTable}
+use Rattle.types.specs.Registry.{typeCount}
+use Rattle.types.specs.Structs.{namesOf}
+use Rattle.types.specs.Tables.{memberAt, nameAt, typeAt}
+use Rattle.types.specs.Waste.{sizeIn, sizesIn, bitsOf, Countable}
+use Rattle.types.proofs.CountLaws.{count-of}
+use Rattle.types.proofs.LaidLaws.{part-lies}
+use Rattle.types.proofs.RegistryLaws.{names-long}
+use Rattle.types.proofs.RoundsKeep.{Good}
+use Rattle.types.proofs.ShownLaws.{noDef, Row, Shown, sizes-same, names-inside, all-readable}
+use Rattle.types.proofs.ShortLaws.{ShortPart}
+use Rattle.types.proofs.WellLaws.{WellMade, sizesOf, laid-same}
+
+-- ---- parts by their numbers
+
+noPart : Part
+noPart = partAt [] [] 0
+
+parts-nth : (m n : List ℕ) (row count k : ℕ) → k < count → getD (partsAt m n row count) k noPart ≡ partAt m n (row + k)
+unfolding partsAt
+parts-nth m n row zero k l = absurd (let z : ⊥ = omega arith in z)
+parts-nth m n row (suc count) zero l = let e : row + 0 ≡ row = omega arith in rw e
+parts-nth m n row (suc count) (suc k) l =
+    let e : row + suc k ≡ row + 1 + k = omega arith in
+    rw e (parts-nth m n (row + 1) count k (omega arith))
+
+every-nth : (P : Part → Type 0) (ps : List Part) (k : ℕ) → Every P ps → k < length ps → P (getD ps k noPart)
+unfolding Every
+every-nth P [] k a l = absurd (let z : ⊥ = omega arith in z)
+every-nth P (p ∷ ps) zero (a, rest) l = a
+every-nth P (p ∷ ps) (suc k) (a, rest) l = every-nth P ps k rest (omega arith)
+
+-- ---- one type of the registry
+
+module _ (ds : List Def) (g : Good ds) where
+  abbrev types : List ℕ
+  types = typesTable ds
+
+  abbrev members : List ℕ
+  members = membersTable ds
+
+  abbrev names : List ℕ
+  names = namesTable ds
+
+  -- so many types stand in the tables
+  pub good-count : typeCount types ≡ length ds
+  good-count =
+      let s = g .shown in
+      count-of types (length ds) (s .few)
+      (λ i l e. s .rows i l .used (sym (s .rows i l .word) ∙ e))
+      (λ l. s .blank (length ds) (omega arith))
+
+  pub good-inside : NamesInside types names (typeCount types)
+  good-inside = rw good-count (names-inside ds (g .shown))
+
+  module _ (i : ℕ) (l : i < length ds) where
+    abbrev d : Def
+    d = getD ds i noDef
+
+    abbrev r : Row ds i d
+    r = g .shown .rows i l
+
+    parts-are : partsAt members names (r .row) (length (d .parts)) ≡ d .parts
+    unfolding defOf
+    parts-are = ap (λ (x : Def). x .parts) (r .def)
+
+    part-is : (k : ℕ) → k < length (d .parts) → partAt members names (r .row + k) ≡ getD (d .parts) k noPart
+    part-is k h =
+        sym (parts-nth members names (r .row) (length (d .parts)) k h)
+        ∙ ap (λ (ps : List Part). getD ps k noPart) parts-are
+
+    sizes-are : (k : ℕ) → k < i → sizesOf ds k ≡ sizesIn types k
+    sizes-are k h = go ds k (omega arith) ∙ sym (sizes-same ds (g .shown) k (omega arith))
+      where
+        go : (xs : List Def) (j : ℕ) → j < length xs → getD (map (λ (x : Def). x .size) xs) j 0 ≡ getD xs j noDef .size
+        go [] j q = absurd (let z : ⊥ = omega arith in z)
+        go (x ∷ xs) zero q = refl
+        go (x ∷ xs) (suc j) q = go xs j (omega arith)
+
+    def-laid : Laid (sizesIn types) i (d .size) (d .parts)
+    def-laid = laid-same (sizesOf ds) (sizesIn types) i sizes-are (d .size) (d .parts) (g .well i l .laid)
+
+    -- its rows are laid out well
+    pub good-laid : Laid (sizesIn types) i (typeAt types i .size)
+        (partsAt members names (typeAt types i .first) (typeAt types i .count))
+    good-laid = rw (r .head, parts-are) def-laid
+
+    pub good-most : typeAt types i .size ≤ 2 ^ 26 + 224
+    good-most = rw (r .head) (g .well i l .most)
+
+    member-is : (k : ℕ) → k < length (d .parts) → memberAt members (r .row + k) ≡ getD (d .parts) k noPart .member
+    unfolding partAt
+    member-is k h = ap (λ (p : Part). p .member) (part-is k h)
+
+    small : (m : Member) (rest : List Part) → Lies (sizesIn types) i (d .size) m rest → m .bit ≡ None
+        → sizeIn (sizesIn types) (m .ty) * times (m .count) ≤ 2 ^ 28
+    small m rest w b =
+        let e : bitsOf (sizesIn types) (m .bit) m ≡ 8 * (sizeIn (sizesIn types) (m .ty) * times (m .count)) = rw b in
+        omega (arith, w .inside, e, g .well i l .most)
+
+    pub good-countable : Countable types members (typeAt types i)
+    good-countable =
+        record {
+          rows = all-readable ds (g .shown) i (omega (arith, g .shown .few)) (λ e. r .used (sym (ap (λ (h : StructDef). h .id) (r .head)) ∙ e));
+          small = rw (r .head)
+              (λ k h b. small (memberAt members (r .row + k)) (drop (suc k) (d .parts))
+              (rw (member-is k h) (part-lies (sizesIn types) i (d .size) noPart (d .parts) k def-laid h)) b);
+        }
+
+    -- ---- its names are short
+
+    name-short : Short (typeAt types i .name)
+    name-short =
+        let h = r .head in
+        record {
+          inside = rw h (omega (arith, r .bytes, g .shown .bytes, length-append (d .name) (namesOf (d .parts))));
+          most = rw h (omega (arith, g .well i l .long));
+        }
+
+    member-short : (k : ℕ) → k < length (d .parts) → Short (nameAt members (r .row + k))
+    unfolding partAt
+    member-short k h =
+        let w = r .within k h in
+        let inside : nameAt members (r .row + k) .at + nameAt members (r .row + k) .long ≤ 32768
+        = omega (arith, w .name, r .bytes, g .shown .bytes) in
+        let is = ap (λ (p : Part). length (p .name)) (part-is k h) in
+        let long = length-part names (nameAt members (r .row + k) .at) (nameAt members (r .row + k) .long)
+        (omega (arith, inside, names-long ds)) in
+        record {
+          inside = inside;
+          most = omega (arith, is, long, every-nth ShortPart (d .parts) k (g .well i l .short) h);
+        }
+
+module _ (ds : List Def) (g : Good ds) where
+  type-named : (i : ℕ) → i < length ds → (t : Ty) → Earlier i t → TypeNamed (typesTable ds) t
+  type-named i l (Atomic a) e = tt
+  type-named i l (Struct n) e =
+      record { row = omega (arith, g .shown .few); name = name-short ds g n (omega arith) }
+
+  -- each type can be listed
+  pub good-listable : (i : ℕ) → i < length ds → Listable (typesTable ds) (membersTable ds) (typeAt (typesTable ds) i)
+  good-listable i l =
+      let r = g .shown .rows i l in
+      record {
+        rows = good-countable ds g i l;
+        name = name-short ds g i l;
+        names = rw (r .head) (λ k h. member-short ds g i l k h);
+        tys = rw (r .head) (λ k h. type-named i l (memberAt (membersTable ds) (r .row + k) .ty) (r .within k h .earlier));
+      }
