@@ -53,3 +53,9 @@ pub mod ShortLaws
 pub mod OrderBook
 pub mod RoundsKeep
 pub mod GoodLaws
+pub mod WaitLaws
+pub mod SoundLaws
+pub mod StandLaws
+pub mod RunLaws
+pub mod BuildLaws
+pub mod ScratchLaws

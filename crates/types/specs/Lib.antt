@@ -32,3 +32,5 @@ pub mod ListingCases
 pub mod Turns
 pub mod Predefined
 pub mod Ordering
+pub mod Build
+pub mod Kept

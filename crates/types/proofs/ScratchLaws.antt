@@ -1,0 +1,51 @@
+-- Laws of the scratch of a build (document 01, "Order of building"): how long it must be for a book, and that a local
+-- one of zeros will do.
+use Prim.Native.Nat.{ℕ, zero, suc, _<_, _≤_}
+use native.Mathlib.Omega.{arith}
+use mathlib.Core.Path.{_≡_, refl, sym, _∙_}
+use mathlib.Core.Bool.{true, true≢false}
+use mathlib.Core.List.{List}
+use borrow.Author.Tests.{leb-true}
+use lib.Dec.{leb}
+use lib.ListN.{length, getD, replicate, length-replicate}
+use Rattle.words.specs.Words.{Bytes}
+use Rattle.words.proofs.WordLaws.{word-below}
+use Rattle.types.specs.Book.{typesIn, membersIn, bookOk}
+use Rattle.types.specs.Build.{AtMost, Scratch}
+use Rattle.types.proofs.BookLaws.{book-short}
+
+-- ---- how many types and members
+
+-- a book that is too short for its counts is not good
+pub few-short : (book : List ℕ) (t m : ℕ) → length book < 4 → AtMost book t m
+few-short book t m l = record { types = λ q. absurd (none q); members = λ q. absurd (none q) }
+  where
+    none : bookOk book ≡ true → ⊥
+    none q = true≢false (sym q ∙ sym (book-short book l))
+
+pub few-read : (book : List ℕ) (t m a b : ℕ) → a ≡ typesIn book → b ≡ membersIn book → a ≤ t → leb b m ≡ true
+    → AtMost book t m
+few-read book t m a b p q l h =
+    record { types = λ o. omega (arith, p, l); members = λ o. omega (arith, q, leb-true b m h) }
+
+pub few-all : (book : List ℕ) → Bytes book → AtMost book 65536 65536
+few-all book h =
+    record {
+      types = λ o. omega (arith, word-below 2 book 0 h);
+      members = λ o. omega (arith, word-below 2 book 2 h);
+    }
+
+-- ---- local scratch
+
+unset : (n k : ℕ) → _≡_ {A = ℕ} (getD (replicate n 0) k 0) 0
+unset zero k = refl
+unset (suc n) zero = refl
+unset (suc n) (suc k) = unset n k
+
+pub scratch-local : (book : List ℕ) (t m : ℕ) → AtMost book t m → Scratch book (replicate m 0) (replicate t 0)
+scratch-local book t m a =
+    record {
+      room = λ q. rw (length-replicate {A = ℕ} m 0) (a .members q);
+      flags = λ q. rw (length-replicate {A = ℕ} t 0) (a .types q);
+      unset = unset t;
+    }

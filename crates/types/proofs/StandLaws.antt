@@ -1,0 +1,145 @@
+-- Laws of tables that stand for a registry (document 01, "Order of building"): what a turn asks, what it gives against
+-- the definition, and the registry with one type more.
+use Prim.Native.Nat.{ℕ, _<_, _≤_}
+use native.Mathlib.Omega.{arith}
+use mathlib.Core.Path.{_≡_, refl, sym, ap, _∙_}
+use mathlib.Core.Bool.{Bool, true, false, true≢false}
+use mathlib.Core.List.{List, [], _∷_, _++_}
+use lib.ListN.{length}
+use Rattle.words.specs.Words.{Bytes}
+use Rattle.words.proofs.WordLaws.{word-below}
+use Rattle.types.specs.declared.refusal.Refusal.{Refusal}
+use Rattle.types.specs.declared.used.Turn.{Turn}
+use Rattle.types.specs.declared.used.Turn.the-variants.{Waits, Refused, Added}
+use Rattle.types.specs.declared.used.Used.{Used}
+use Rattle.types.specs.Add.{Verdict, no as against, yes as for, addTo, Took, Usable}
+use Rattle.types.specs.Book.{typesIn, membersIn}
+use Rattle.types.specs.Checks.{entriesFrom}
+use Rattle.types.specs.Defs.{Def}
+use Rattle.types.specs.Lookup.{rowNames}
+use Rattle.types.specs.Predefined.{Stands}
+use Rattle.types.specs.Registry.{View, viewIn, viewOf, usedMore}
+use Rattle.types.specs.Resolve.{typeNames, allKnown}
+use Rattle.types.specs.Turns.{entriesAt, countOf, usesOf, declsOf, readyIn, verdictOn, TurnIn, Turned}
+use Rattle.types.proofs.RegistryLaws.{types-more, members-more, names-more, used-more, members-long, names-long}
+use Rattle.types.proofs.ShownLaws.{Shown, view-same, names-inside, ids-small}
+use Rattle.types.proofs.SoundLaws.{Sound, among-all, type-inside, entries-inside, entries-uses}
+
+-- ---- what the tables show
+
+module _ {ds : List Def} {t m n : List ℕ} {u : Used} (shown : Shown ds) (stands : Stands ds t m n u) where
+  view-stands : viewIn t n u ≡ viewOf ds
+  view-stands = rw (stands .types, stands .names, stands .used) (view-same ds shown)
+
+  names-stand : rowNames t n (u .types) ≡ viewOf ds .names
+  unfolding viewIn
+  names-stand = ap (λ (v : View). v .names) view-stands
+
+  usable-stands : Usable t n u
+  usable-stands =
+      rw (stands .types, stands .names, stands .used)
+      record {
+        rows = names-inside ds shown;
+        members = shown .members;
+        bytes = shown .bytes;
+        ids = ids-small ds shown;
+      }
+
+  -- ---- a turn
+
+  module _ (book : List ℕ) (i at : ℕ) (e : at ≡ entriesAt book i) where
+    pub turn-in : (tys : List ℕ) → Bytes book → Sound book → i < typesIn book → membersIn book ≤ length tys
+        → TurnIn t m n book tys i at u
+    turn-in tys bytes s l room =
+        record {
+          usable = usable-stands;
+          rows = rw (stands .members) (members-long ds);
+          bytes = rw (stands .names) (names-long ds);
+          entry = type-inside s l;
+          named = s .types i l;
+          inside = rw e (entries-inside s l);
+          uses = rw e (entries-uses s l);
+          room = omega (arith, among-all s l, room);
+          small = omega (arith, l, word-below 2 book 0 bytes);
+        }
+
+    -- what it gives is what the definition says
+    pub turn-same : {t′ m′ n′ : List ℕ} {r : Turn}
+        → Turned (allKnown (rowNames t n (u .types)) (typeNames book at 0 (countOf book i)))
+        (addTo (viewIn t n u) book i at (declsOf (viewIn t n u) book (entriesFrom book at 0 (countOf book i)))) u
+        t m n t′ m′ n′ r
+        → Turned (readyIn book ds i) (verdictOn book (viewOf ds) i) u t m n t′ m′ n′ r
+    unfolding readyIn usesOf verdictOn
+    turn-same h = rw (names-stand, view-stands, e) at h
+
+-- ---- the ways that a turn can go
+
+waits-of : (b : Bool) (v : Verdict) (u : Used) (r : Turn) {t m n t′ m′ n′ : List ℕ} → Turned b v u t m n t′ m′ n′ r
+    → r ≡ Waits → b ≡ false
+waits-of false v u r h e = refl
+waits-of true (against x) u r h e =
+    let q = h .takes refl .is in
+    cc
+waits-of true (for d) u r h e =
+    let q = h .takes refl .is in
+    cc
+
+refused-of : (x : Refusal) (b : Bool) (v : Verdict) (u : Used) (r : Turn) {t m n t′ m′ n′ : List ℕ}
+    → Turned b v u t m n t′ m′ n′ r → r ≡ Refused x → (b ≡ true) × (v ≡ against x)
+refused-of x false v u r h e =
+    let q = h .waits refl .0 in
+    (cc, cc)
+refused-of x true (against y) u r h e =
+    let q = h .takes refl .is in
+    (refl, cc)
+refused-of x true (for d) u r h e =
+    let q = h .takes refl .is in
+    (cc, cc)
+
+-- a type was added, and so much is used then
+pub record AddedBy (b : Bool) (v : Verdict) (u : Used) (t m n t′ m′ n′ : List ℕ) (u′ : Used) : Type 0 where
+  pub d : Def
+  pub ready : b ≡ true
+  pub is : v ≡ for d
+  pub took : Took (for d) u t m n t′ m′ n′ (Added u′)
+
+added-of : (u′ : Used) (b : Bool) (v : Verdict) (u : Used) (r : Turn) {t m n t′ m′ n′ : List ℕ}
+    → Turned b v u t m n t′ m′ n′ r → r ≡ Added u′ → AddedBy b v u t m n t′ m′ n′ u′
+added-of u′ false v u r h e =
+    let q = h .waits refl .0 in
+    let z : true ≡ false = cc in
+    absurd (true≢false z)
+added-of u′ true (against y) u r h e =
+    let q = h .takes refl .is in
+    let z : true ≡ false = cc in
+    absurd (true≢false z)
+added-of u′ true (for d) u r h e =
+    record { d = d; ready = refl; is = refl; took = rw e at (h .takes refl) }
+
+module _ {b : Bool} {v : Verdict} {u : Used} {t m n t′ m′ n′ : List ℕ} {r : Turn} (h : Turned b v u t m n t′ m′ n′ r)
+  where
+    pub turn-waits : r ≡ Waits → (b ≡ false) × ((t′ ≡ t) × ((m′ ≡ m) × (n′ ≡ n)))
+    turn-waits e =
+        let q = waits-of b v u r h e in
+        (q, h .waits q .1)
+
+    pub turn-refused : (x : Refusal) → r ≡ Refused x → (b ≡ true) × (v ≡ against x)
+    turn-refused x e = refused-of x b v u r h e
+
+    pub turn-added : (u′ : Used) → r ≡ Added u′ → AddedBy b v u t m n t′ m′ n′ u′
+    turn-added u′ e = added-of u′ b v u r h e
+
+-- ---- one type more
+
+used-then : (u u′ : Used) (d : Def) → Added u′ ≡ Added (usedMore u d) → u′ ≡ usedMore u d
+used-then u u′ d e = cc
+
+pub stands-more : {ds : List Def} {t m n t′ m′ n′ : List ℕ} {u u′ : Used} (d : Def) → Stands ds t m n u
+    → Took (for d) u t m n t′ m′ n′ (Added u′) → Stands (ds ++ d ∷ []) t′ m′ n′ u′
+stands-more {ds} {u = u} {u′ = u′} d s k =
+    record {
+      types = k .types ∙ rw (s .types, s .used) (sym (types-more ds d));
+      members = k .members ∙ rw (s .members, s .used) (sym (members-more ds d));
+      names = k .names ∙ rw (s .names, s .used) (sym (names-more ds d));
+      used = used-then u u′ d (k .is) ∙ rw (s .used) (sym (used-more ds d));
+    }

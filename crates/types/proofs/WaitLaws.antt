@@ -1,0 +1,132 @@
+-- Laws of the types that wait by their flags (document 01, "Order of building"): before, at and after one of them, the
+-- first that waits, and what stands before what is left of a round.
+use Prim.Native.Nat.{ℕ, zero, suc, _+_, _-_, _<_, _≤_}
+use native.Mathlib.Nat.{add-zero, sub-zero, zero-add, suc-add}
+use native.Mathlib.Omega.{arith}
+use mathlib.Core.Path.{_≡_, refl, sym, ap, _∙_}
+use mathlib.Core.Bool.{Bool, true, false, cond}
+use mathlib.Core.List.{List, [], _∷_, _++_, append-assoc, append-nil}
+use borrow.Author.Tests.{eq-eqb, ne-eqb}
+use lib.Dec.{eqb}
+use lib.ListN.{length, getD, set, replicate}
+use lib.Seq.{getD-set-same, getD-set-other}
+use Rattle.types.specs.Build.{waits, FirstWaits, Cleared}
+use Rattle.types.specs.Registry.{noTypes, noMembers, noNames}
+use Rattle.types.specs.Rounds.{Out, stop, went, keep}
+use Rattle.types.specs.Turns.{upFrom}
+
+-- tables of zeros
+pub cleared : Cleared (replicate 1600 0) (replicate 16000 0) (replicate 32768 0)
+unfolding noTypes noMembers noNames
+cleared = record { types = refl; members = refl; names = refl }
+
+-- ---- the next flag
+
+module _ (f : List ℕ) (n i : ℕ) where
+  pub waits-on : i < n → getD f i 0 ≡ 0 → waits f i (n - i) ≡ i ∷ waits f (i + 1) (n - (i + 1))
+  unfolding waits
+  waits-on l h =
+      let e : n - i ≡ suc (n - (i + 1)) = omega arith in
+      rw e (simp (eq-eqb _ _ h))
+
+  pub waits-off : i < n → (getD f i 0 ≡ 0 → ⊥) → waits f i (n - i) ≡ waits f (i + 1) (n - (i + 1))
+  unfolding waits
+  waits-off l h =
+      let e : n - i ≡ suc (n - (i + 1)) = omega arith in
+      rw e (simp (ne-eqb _ _ h))
+
+  pub waits-end : n ≤ i → waits f i (n - i) ≡ []
+  unfolding waits
+  waits-end l =
+      let e : n - i ≡ 0 = omega arith in
+      rw e
+
+-- ---- the last flag
+
+push : (b : Bool) (j : ℕ) (xs ys : List ℕ) → cond b (j ∷ (xs ++ ys)) (xs ++ ys) ≡ cond b (j ∷ xs) xs ++ ys
+push true j xs ys = refl
+push false j xs ys = refl
+
+waits-snoc : (f : List ℕ) (j n : ℕ) → waits f j (n + 1) ≡ waits f j n ++ waits f (j + n) 1
+unfolding waits
+waits-snoc f j zero = rw add-zero
+waits-snoc f j (suc n) =
+    let e : j + suc n ≡ j + 1 + n = omega arith in
+    rw (suc-add, e, waits-snoc f (j + 1) n) (push (eqb (getD f j 0) 0) j _ _)
+
+module _ (f : List ℕ) (i : ℕ) where
+  pub snoc-off : (getD f i 0 ≡ 0 → ⊥) → waits f 0 (i + 1) ≡ waits f 0 i
+  unfolding waits
+  snoc-off o = waits-snoc f 0 i ∙ rw zero-add (simp (ne-eqb _ _ o, append-nil))
+
+  pub snoc-on : getD f i 0 ≡ 0 → waits f 0 (i + 1) ≡ waits f 0 i ++ i ∷ []
+  unfolding waits
+  snoc-on o = waits-snoc f 0 i ∙ rw zero-add (simp (eq-eqb _ _ o))
+
+-- ---- a flag that is set
+
+before-set : (f : List ℕ) (i v j n : ℕ) → j + n ≤ i → waits (set f i v) j n ≡ waits f j n
+unfolding waits
+before-set f i v j zero l = refl
+before-set f i v j (suc n) l =
+    rw (getD-set-other f i j v 0 (omega arith), before-set f i v (j + 1) n (omega arith))
+
+pub after-set : (f : List ℕ) (i v j n : ℕ) → i < j → waits (set f i v) j n ≡ waits f j n
+unfolding waits
+after-set f i v j zero l = refl
+after-set f i v j (suc n) l =
+    rw (getD-set-other f i j v 0 (omega arith), after-set f i v (j + 1) n (omega arith))
+
+pub set-snoc : (f : List ℕ) (i : ℕ) → i < length f → waits (set f i 1) 0 (i + 1) ≡ waits f 0 i
+set-snoc f i l =
+    let g : getD (set f i 1) i 0 ≡ 1 = getD-set-same f i 1 0 l in
+    snoc-off (set f i 1) i (λ q. omega (arith, g)) ∙ before-set f i 1 0 i (omega arith)
+
+-- ---- no flag is set: all wait
+
+pub waits-all : (f : List ℕ) → ((k : ℕ) → getD f k 0 ≡ 0) → (i n : ℕ) → waits f i n ≡ upFrom i n
+unfolding waits upFrom
+waits-all f z i zero = refl
+waits-all f z i (suc n) = rw (waits-all f z (i + 1) n) (simp (eq-eqb _ _ (z i)))
+
+pub up-length : (i n : ℕ) → length (upFrom i n) ≡ n
+unfolding upFrom
+up-length i zero = refl
+up-length i (suc n) = ap suc (up-length (i + 1) n)
+
+-- ---- the first that waits
+
+-- none before the i-th waits
+pub record Passed (f : List ℕ) (t i : ℕ) : Type 0 where
+  pub done : i ≤ t
+  pub same : waits f 0 t ≡ waits f i (t - i)
+
+pub passed-start : (f : List ℕ) (t : ℕ) → Passed f t 0
+passed-start f t = record { done = omega arith; same = rw sub-zero }
+
+module _ {f : List ℕ} {t i : ℕ} (p : Passed f t i) where
+  pub passed-on : i < t → (getD f i 0 ≡ 0 → ⊥) → Passed f t (i + 1)
+  passed-on l o = record { done = omega arith; same = p .same ∙ waits-off f t i l o }
+
+  pub passed-found : i < t → getD f i 0 ≡ 0 → FirstWaits f t i
+  passed-found l o =
+      record { is = sym (ap (λ (w : List ℕ). getD w 0 0) (p .same ∙ waits-on f t i l o)); small = omega arith }
+
+  pub passed-done : t ≤ i → FirstWaits f t 0
+  passed-done l =
+      record { is = sym (ap (λ (w : List ℕ). getD w 0 0) (p .same ∙ waits-end f t i l)); small = omega arith }
+
+-- ---- what stands before what is left of a round
+
+module _ {S R : Type 0} where
+  abbrev pub keepAll : List ℕ → Out S R → Out S R
+  keepAll xs (stop r) = stop r
+  keepAll xs (went s ws) = went s (xs ++ ws)
+
+  pub keep-one : (xs : List ℕ) (i : ℕ) (o : Out S R) → keepAll xs (keep i o) ≡ keepAll (xs ++ i ∷ []) o
+  keep-one xs i (stop r) = refl
+  keep-one xs i (went s ws) = rw append-assoc
+
+  pub keep-none : (o : Out S R) → keepAll [] o ≡ o
+  keep-none (stop r) = refl
+  keep-none (went s ws) = refl

@@ -1,0 +1,89 @@
+-- Building (document 01, "Order of building"): the predefined ids (22), the book (1), the four predefined types, then
+-- rounds over the waiting types in book order; and the tables afterwards.
+use Prim.Native.Nat.{ℕ, zero, suc, _+_, _<_, _≤_}
+use mathlib.Core.Path.{_≡_}
+use mathlib.Core.Bool.{true, cond}
+use mathlib.Core.List.{List, [], _∷_}
+use lib.Dec.{eqb}
+use lib.ListN.{length, getD}
+use Rattle.types.specs.declared.building.Built.{Built}
+use Rattle.types.specs.declared.building.Built.the-variants.{Types, Refused}
+use Rattle.types.specs.declared.refusal.Refusal.{Refusal}
+use Rattle.types.specs.declared.refusal.Refusal.the-variants.{PredefinedIds, BookMalformed}
+use Rattle.types.specs.Book.{typesIn, membersIn, bookOk}
+use Rattle.types.specs.Defs.{Def}
+use Rattle.types.specs.Predefined.{predefinedIds, predefined}
+use Rattle.types.specs.Registry.{noTypes, noMembers, noNames}
+use Rattle.types.specs.Registry.{typesTable, membersTable, namesTable}
+use Rattle.types.specs.Rounds.{Answer, refused, accepted}
+use Rattle.types.specs.Turns.{roundsFrom}
+
+-- ---- the whole
+
+unfoldable pub buildOf : ℕ → ℕ → ℕ → ℕ → List ℕ → Answer (List Def) Refusal
+buildOf timer counter control string book =
+    cond (predefinedIds timer counter control string)
+    (cond (bookOk book) (roundsFrom book (predefined timer counter control string)) (refused BookMalformed))
+    (refused PredefinedIds)
+
+abbrev pub builtOf : Answer (List Def) Refusal → Built
+builtOf (refused r) = Refused r
+builtOf (accepted ds) = Types (length ds)
+
+-- after a refusal all three tables are zero
+abbrev pub typesBuilt : Answer (List Def) Refusal → List ℕ
+typesBuilt (refused r) = noTypes
+typesBuilt (accepted ds) = typesTable ds
+
+abbrev pub membersBuilt : Answer (List Def) Refusal → List ℕ
+membersBuilt (refused r) = noMembers
+membersBuilt (accepted ds) = membersTable ds
+
+abbrev pub namesBuilt : Answer (List Def) Refusal → List ℕ
+namesBuilt (refused r) = noNames
+namesBuilt (accepted ds) = namesTable ds
+
+-- a build ended: the answer, and the three tables
+pub record Ended (a : Answer (List Def) Refusal) (t m n : List ℕ) (r : Built) : Type 0 where
+  pub is : r ≡ builtOf a
+  pub types : t ≡ typesBuilt a
+  pub members : m ≡ membersBuilt a
+  pub names : n ≡ namesBuilt a
+
+-- ---- in code
+
+-- the types that wait by their flags, n of them from the i-th on
+unfoldable pub waits : List ℕ → ℕ → ℕ → List ℕ
+waits f i zero = []
+waits f i (suc n) = cond (eqb (getD f i 0) 0) (i ∷ waits f (i + 1) n) (waits f (i + 1) n)
+
+-- the first of them, 0 where none waits
+pub record FirstWaits (f : List ℕ) (t r : ℕ) : Type 0 where
+  pub is : r ≡ getD (waits f 0 t) 0 0
+  pub small : r < t + 1
+
+-- tables of no types
+pub record Cleared (t m n : List ℕ) : Type 0 where
+  pub types : t ≡ noTypes
+  pub members : m ≡ noMembers
+  pub names : n ≡ noNames
+
+-- a good book has at most so many types and members
+pub record AtMost (book : List ℕ) (t m : ℕ) : Type 0 where
+  pub types : bookOk book ≡ true → typesIn book ≤ t
+  pub members : bookOk book ≡ true → membersIn book ≤ m
+
+-- a scratch for the found types of a type's members, and a flag for each type, all unset; both are long enough
+pub record Scratch (book tys done : List ℕ) : Type 0 where
+  pub room : bookOk book ≡ true → membersIn book ≤ length tys
+  pub flags : bookOk book ≡ true → typesIn book ≤ length done
+  pub unset : (k : ℕ) → getD done k 0 ≡ 0
+
+-- what the rounds ask: a good book of t types, good ids, tables of no types, and a scratch
+pub record RunIn (book : List ℕ) (t timer counter control string : ℕ) (types members names tys done : List ℕ)
+    : Type 0 where
+  pub okay : bookOk book ≡ true
+  pub is : t ≡ typesIn book
+  pub ids : predefinedIds timer counter control string ≡ true
+  pub cleared : Cleared types members names
+  pub scratch : Scratch book tys done

@@ -1,0 +1,23 @@
+-- The tables as our own calls left them (document 01, "What promises shut out"): all zero, or those of what a build
+-- accepted of some book and some ids. A promise may assume this, and only this.
+use Prim.Native.Nat.{ℕ}
+use mathlib.Core.Path.{_≡_}
+use mathlib.Core.List.{List, []}
+use Rattle.words.specs.Words.{Bytes}
+use Rattle.types.specs.Build.{buildOf}
+use Rattle.types.specs.Defs.{Def}
+use Rattle.types.specs.Registry.{typesTable, membersTable, namesTable}
+use Rattle.types.specs.Rounds.{accepted}
+
+-- a registry that a build can leave: none yet, or one that it accepted
+pub data Made : List Def → Type 0 where
+  none : Made []
+  built : (timer counter control string : ℕ) (book : List ℕ) (ds : List Def) → Bytes book
+      → buildOf timer counter control string book ≡ accepted ds → Made ds
+
+pub record Kept (types members names : List ℕ) : Type 0 where
+  pub defs : List Def
+  pub made : Made defs
+  pub rows : types ≡ typesTable defs
+  pub parts : members ≡ membersTable defs
+  pub bytes : names ≡ namesTable defs

@@ -1,0 +1,250 @@
+// Building a registry from a declaration book (document 01, "Order of building"): the four predefined types, then
+// rounds over the types that wait. A refusal leaves all three tables zero.
+ghost use mathlib.Core.Path.{_≡_};
+ghost use mathlib.Core.Bool.{true};
+ghost use Prim.Native.Nat.{_<_, _≤_};
+ghost use lib.ListN.{length};
+ghost use Rattle.types.specs.Build.{buildOf, Ended, FirstWaits, Cleared, AtMost, Scratch, RunIn};
+ghost use Rattle.types.specs.Predefined.{predefined};
+ghost use Rattle.types.specs.Turns.{roundsFrom};
+use crate::book::book_ok;
+use crate::book::count_of;
+use crate::book::type_entry;
+use crate::predefined::ids_ok;
+use crate::predefined::put_predefined;
+use crate::refusal::Refusal;
+use crate::tables::MEMBER_WORDS;
+use crate::tables::MEMBERS;
+use crate::tables::MemberTable;
+use crate::tables::NAME_BYTES;
+use crate::tables::NameTable;
+use crate::tables::TYPE_WORDS;
+use crate::tables::TYPES;
+use crate::tables::TypeTable;
+use crate::turn::take_turn;
+use crate::used::Turn;
+use words::load16;
+
+// So many types stand in the tables, or the book was refused.
+pub enum Built {
+    Types(u32),
+    Refused(Refusal),
+}
+
+// Tables of no types.
+fn clear(types: &mut TypeTable, members: &mut MemberTable, names: &mut NameTable)
+    ensures { λ _. ⌜ Cleared (now (types .exit)) (now (members .exit)) (now (names .exit)) ⌝ }
+{
+    *types = [0; TYPES * TYPE_WORDS];
+    *members = [0; MEMBERS * MEMBER_WORDS];
+    *names = [0; NAME_BYTES];
+}
+
+// The first of t types that waits by its flag, 0 where none does.
+fn first_waiting(done: &[u8], t: usize) -> usize
+    requires { ⌜ t ≤ length (now done) ⌝ }
+    ensures { λ r. ⌜ FirstWaits (now (done .entry)) t r ⌝ }
+{
+    let mut i: usize = 0;
+    while i < t {
+        if done[i] == 0 {
+            return i;
+        }
+        i += 1;
+    }
+    0
+}
+
+// The predefined types, then rounds over the t types of a good book until none waits.
+fn run(
+    book: &[u8],
+    t: usize,
+    timer: u16,
+    counter: u16,
+    control: u16,
+    string: u16,
+    types: &mut TypeTable,
+    members: &mut MemberTable,
+    names: &mut NameTable,
+    tys: &mut [u16],
+    done: &mut [u8],
+) -> Built
+    requires { ⌜ RunIn (now book) t timer counter control string (now types) (now members) (now names)
+        (now tys) (now done) ⌝ }
+    ensures { λ r. ⌜ Ended (roundsFrom (now (book .entry)) (predefined timer counter control string))
+        (now (types .exit)) (now (members .exit)) (now (names .exit)) r ⌝ }
+{
+    let mut u = put_predefined(types, members, names, timer, counter, control, string);
+    let mut left = t;
+    while 0 < left {
+        let before = left;
+        let mut i: usize = 0;
+        let mut at: usize = 4 + 16 * t;
+        while i < t {
+            let e = type_entry(book, i);
+            let n = count_of(e.count);
+            if done[i] == 0 {
+                let r = take_turn(book, i, at, types, members, names, u, tys);
+                match r {
+                    Turn::Waits => {}
+                    Turn::Refused(x) => {
+                        clear(types, members, names);
+                        return Built::Refused(x);
+                    }
+                    Turn::Added(next) => {
+                        u = next;
+                        done[i] = 1;
+                        left -= 1;
+                    }
+                }
+            }
+            at += 16 * n;
+            i += 1;
+        }
+        if left == before {
+            clear(types, members, names);
+            let w = first_waiting(done, t);
+            return Built::Refused(Refusal::TypesUnknown(w as u32));
+        }
+    }
+    Built::Types(u.types as u32)
+}
+
+// The registry of a book, with a scratch that is lent.
+fn build_with(
+    book: &[u8],
+    timer: u16,
+    counter: u16,
+    control: u16,
+    string: u16,
+    types: &mut TypeTable,
+    members: &mut MemberTable,
+    names: &mut NameTable,
+    tys: &mut [u16],
+    done: &mut [u8],
+) -> Built
+    requires { ⌜ Scratch (now book) (now tys) (now done) ⌝ }
+    ensures { λ r. ⌜ Ended (buildOf timer counter control string (now (book .entry)))
+        (now (types .exit)) (now (members .exit)) (now (names .exit)) r ⌝ }
+{
+    clear(types, members, names);
+    let ids = ids_ok(timer, counter, control, string);
+    if !ids {
+        return Built::Refused(Refusal::PredefinedIds);
+    }
+    let ok = book_ok(book);
+    if !ok {
+        return Built::Refused(Refusal::BookMalformed);
+    }
+    let t = count_of(load16(book, 0));
+    run(
+        book,
+        t,
+        timer,
+        counter,
+        control,
+        string,
+        types,
+        members,
+        names,
+        tys,
+        done,
+    )
+}
+
+// The same with a scratch on the stack for a small book.
+fn build_small(
+    book: &[u8],
+    timer: u16,
+    counter: u16,
+    control: u16,
+    string: u16,
+    types: &mut TypeTable,
+    members: &mut MemberTable,
+    names: &mut NameTable,
+) -> Built
+    requires { ⌜ AtMost (now book) 256 2048 ⌝ }
+    ensures { λ r. ⌜ Ended (buildOf timer counter control string (now (book .entry)))
+        (now (types .exit)) (now (members .exit)) (now (names .exit)) r ⌝ }
+{
+    let mut tys = [0u16; 2048];
+    let mut done = [0u8; 256];
+    build_with(
+        book,
+        timer,
+        counter,
+        control,
+        string,
+        types,
+        members,
+        names,
+        &mut tys,
+        &mut done,
+    )
+}
+
+// And for any book.
+fn build_large(
+    book: &[u8],
+    timer: u16,
+    counter: u16,
+    control: u16,
+    string: u16,
+    types: &mut TypeTable,
+    members: &mut MemberTable,
+    names: &mut NameTable,
+) -> Built
+    ensures { λ r. ⌜ Ended (buildOf timer counter control string (now (book .entry)))
+        (now (types .exit)) (now (members .exit)) (now (names .exit)) r ⌝ }
+{
+    let mut tys = [0u16; 65536];
+    let mut done = [0u8; 65536];
+    build_with(
+        book,
+        timer,
+        counter,
+        control,
+        string,
+        types,
+        members,
+        names,
+        &mut tys,
+        &mut done,
+    )
+}
+
+// A book that a small scratch is enough for; one that is too short for its counts is refused before.
+fn is_small(book: &[u8]) -> bool
+    ensures { λ r. ⌜ (r ≡ true → AtMost (now (book .entry)) 256 2048) ⌝ }
+{
+    if book.len() < 4 {
+        return true;
+    }
+    let t = count_of(load16(book, 0));
+    if 256 < t {
+        return false;
+    }
+    let m = count_of(load16(book, 2));
+    m <= 2048
+}
+
+// The registry of a book in the lent tables, after the predefined types under the given ids.
+pub fn build(
+    book: &[u8],
+    timer: u16,
+    counter: u16,
+    control: u16,
+    string: u16,
+    types: &mut TypeTable,
+    members: &mut MemberTable,
+    names: &mut NameTable,
+) -> Built
+    ensures { λ r. ⌜ Ended (buildOf timer counter control string (now (book .entry)))
+        (now (types .exit)) (now (members .exit)) (now (names .exit)) r ⌝ }
+{
+    let small = is_small(book);
+    if small {
+        return build_small(book, timer, counter, control, string, types, members, names);
+    }
+    build_large(book, timer, counter, control, string, types, members, names)
+}
