@@ -59,3 +59,4 @@ pub mod StandLaws
 pub mod RunLaws
 pub mod BuildLaws
 pub mod ScratchLaws
+pub mod KeptLaws

@@ -96,7 +96,7 @@ well-more ds d w n i l = go (decLt i (length ds))
         let e = List·getD-append ds (d ∷ []) noDef i o in
         rw e (record {
           laid = laid-same (sizesOf ds) (sizesOf (ds ++ d ∷ [])) i (λ k h. sizes-stay ds d k (omega arith)) _ _
-          (w i o .laid);
+              (w i o .laid);
           most = w i o .most;
           long = w i o .long;
           short = w i o .short;

@@ -1,18 +1,20 @@
 -- The tables as our own calls left them (document 01, "What promises shut out"): all zero, or those of what a build
 -- accepted of some book and some ids. A promise may assume this, and only this.
-use Prim.Native.Nat.{ℕ}
+use Prim.Native.Nat.{ℕ, _<_, _≤_}
 use mathlib.Core.Path.{_≡_}
 use mathlib.Core.List.{List, []}
 use Rattle.words.specs.Words.{Bytes}
 use Rattle.types.specs.Build.{buildOf}
 use Rattle.types.specs.Defs.{Def}
+use Rattle.types.specs.Listing.{Listable}
 use Rattle.types.specs.Registry.{typesTable, membersTable, namesTable}
 use Rattle.types.specs.Rounds.{accepted}
+use Rattle.types.specs.Tables.{typeAt}
 
 -- a registry that a build can leave: none yet, or one that it accepted
-pub data Made : List Def → Type 0 where
-  none : Made []
-  built : (timer counter control string : ℕ) (book : List ℕ) (ds : List Def) → Bytes book
+pub data Made (ds : List Def) : Type 0 where
+  none : ds ≡ [] → Made ds
+  built : (timer counter control string : ℕ) (book : List ℕ) → Bytes book
       → buildOf timer counter control string book ≡ accepted ds → Made ds
 
 pub record Kept (types members names : List ℕ) : Type 0 where
@@ -21,3 +23,8 @@ pub record Kept (types members names : List ℕ) : Type 0 where
   pub rows : types ≡ typesTable defs
   pub parts : members ≡ membersTable defs
   pub bytes : names ≡ namesTable defs
+
+-- the first n types can be listed
+pub record Listed (types members : List ℕ) (n : ℕ) : Type 0 where
+  pub few : n ≤ 200
+  pub each : (i : ℕ) → i < n → Listable types members (typeAt types i)

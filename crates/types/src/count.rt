@@ -5,8 +5,8 @@ ghost use Rattle.types.specs.Registry.{typeCount};
 use crate::lookups::FoundTy;
 use crate::lookups::lookup;
 use crate::tables::NameTable;
-use crate::tables::TYPES;
 use crate::tables::TYPE_WORDS;
+use crate::tables::TYPES;
 use crate::tables::TypeTable;
 
 // A template id of 0 marks an unused row.

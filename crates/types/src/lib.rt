@@ -1,9 +1,8 @@
-// Types and layouts (document 01's first crate): the atomic types, names, the book's entries, refusals, rows
-// of the lent tables, layouts, templates and waste.
+// Types and layouts (document 01's first crate): a declaration book is built into lent tables, and the tables
+// answer for their types: rows, templates, headers, waste, tag shapes, listings.
 mod add;
 mod add_more;
 mod add_type;
-// of the lent tables, layouts, templates, waste and the lines of a listing.
 mod aoi;
 mod atomic;
 mod book;
@@ -36,42 +35,23 @@ mod udt;
 mod used;
 mod waste_bits;
 
-pub use aoi::measure_aoi;
-pub use aoi::store_aoi;
 pub use atomic::Atomic;
 pub use atomic::AtomicRow;
 pub use atomic::FoundAtomic;
-pub use book::MemberEntry;
-pub use book::TypeEntry;
-pub use book::book_ok;
 pub use building::Built;
 pub use building::build;
-pub use book::member_entry;
-pub use book::type_entry;
-pub use fixed::put_control_type;
-pub use fixed::put_counter;
-pub use fixed::put_string;
-pub use fixed::put_timer;
-pub use fixed::string_size;
-pub use handle::fold_handle;
+pub use count::find;
+pub use count::type_count;
 pub use handle::structure_handle;
 pub use header::Header;
 pub use header::type_header;
-pub use ids::free_id;
-pub use layout::Cursor;
-pub use layout::Decl;
 pub use layout::End;
-pub use layout::Host;
-pub use layout::Placed;
 pub use layout::member_end;
-pub use layout::place;
 pub use listing::put_decimal;
 pub use listing::put_member_line;
 pub use listing::put_refused_line;
 pub use listing::put_type_line;
 pub use lookups::FoundTy;
-pub use lookups::lookup;
-pub use measure::Measured;
 pub use member::Bit;
 pub use member::Member;
 pub use member::Span;
@@ -91,17 +71,10 @@ pub use tables::NameTable;
 pub use tables::TypeTable;
 pub use tables::member_at;
 pub use tables::name_at;
-pub use tables::put_member;
-pub use tables::put_type;
 pub use tables::type_at;
 pub use templates::Wrote;
 pub use templates::object_definition_size;
 pub use templates::template;
-pub use templates::template_handle;
 pub use templates::template_len;
-pub use templates::write_template;
-pub use udt::measure_udt;
-pub use udt::size_at;
-pub use udt::store_udt;
 pub use waste_bits::waste;
 pub use words::set_bit;

@@ -1,0 +1,119 @@
+-- What follows from tables as our own calls left them (document 01, "What promises shut out"): each call's conditions,
+-- and that every type is laid out well. A build keeps it.
+use Prim.Native.Nat.{ℕ, _+_, _^_, _<_, _≤_}
+use native.Mathlib.Omega.{arith}
+use mathlib.Core.Path.{_≡_, refl, sym, ap, _∙_}
+use mathlib.Core.Bool.{Bool, true, false, cond}
+use mathlib.Core.List.{List, []}
+use lib.ListN.{length}
+use Rattle.words.specs.Words.{Bytes}
+use Rattle.types.specs.declared.building.Built.{Built}
+use Rattle.types.specs.declared.refusal.Refusal.{Refusal}
+use Rattle.types.specs.declared.refusal.Refusal.the-variants.{BookMalformed, PredefinedIds}
+use Rattle.types.specs.Book.{bookOk}
+use Rattle.types.specs.Build.{buildOf, typesBuilt, membersBuilt, namesBuilt, Ended}
+use Rattle.types.specs.Defs.{Def, AllReadable, partsAt}
+use Rattle.types.specs.Kept.{Made, none, built, Kept, Listed}
+use Rattle.types.specs.Laid.{Laid}
+use Rattle.types.specs.Lookup.{NamesInside}
+use Rattle.types.specs.Predefined.{predefinedIds, predefined}
+use Rattle.types.specs.Registry.{noTypes, noMembers, noNames, typesTable, membersTable, namesTable, typeCount}
+use Rattle.types.specs.Registry.{typeRows, memberRows, bytesOf}
+use Rattle.types.specs.Rounds.{Answer, refused, accepted}
+use Rattle.types.specs.Tables.{typeAt}
+use Rattle.types.specs.Turns.{roundsFrom}
+use Rattle.types.specs.Waste.{sizesIn}
+use Rattle.types.proofs.GoodLaws.{good-count, good-inside, good-laid, good-most, good-listable}
+use Rattle.types.proofs.PredefinedLaws.{predefined-shown}
+use Rattle.types.proofs.PredefinedWell.{predefined-well}
+use Rattle.types.proofs.RoundsKeep.{Good, rounds-good}
+use Rattle.types.proofs.ShownLaws.{shown-none, all-readable, ids-fit}
+use Rattle.types.proofs.WellLaws.{well-none}
+
+-- ---- what a build makes is good
+
+-- an accepted build passed both tests
+passed : (p b : Bool) (a : Answer (List Def) Refusal) (ds : List Def)
+    → cond p (cond b a (refused BookMalformed)) (refused PredefinedIds) ≡ accepted ds → (p ≡ true) × (a ≡ accepted ds)
+passed true true a ds e = (refl, e)
+passed true false a ds e = (refl, cc)
+passed false b a ds e = (cc, cc)
+
+accepted-both : (timer counter control string : ℕ) (book : List ℕ) (ds : List Def)
+    → buildOf timer counter control string book ≡ accepted ds
+    → (predefinedIds timer counter control string ≡ true)
+    × (roundsFrom book (predefined timer counter control string) ≡ accepted ds)
+unfolding buildOf
+accepted-both timer counter control string book ds e =
+    passed (predefinedIds timer counter control string) (bookOk book) _ ds e
+
+pub made-good : (ds : List Def) → Made ds → Good ds
+made-good ds (none e) = rw e (record { shown = shown-none; well = well-none })
+made-good ds (built timer counter control string book bytes e) =
+    let a = accepted-both timer counter control string book ds e in
+    rounds-good book bytes (predefined timer counter control string) ds
+    (record {
+      shown = predefined-shown timer counter control string (a .0);
+      well = predefined-well timer counter control string;
+    })
+    (a .1)
+
+-- ---- what a caller may count on
+
+module _ {types members names : List ℕ} (k : Kept types members names) where
+  good : Good (k .defs)
+  good = made-good (k .defs) (k .made)
+
+  pub kept-readable : AllReadable types members
+  kept-readable = rw (k .rows, k .parts) (all-readable (k .defs) (good .shown))
+
+  pub kept-inside : NamesInside types names (typeCount types)
+  kept-inside = rw (k .rows, k .bytes) (good-inside (k .defs) good)
+
+  pub kept-ids : (n : ℕ) → n < 200 → typeAt types n .id < 0x1000
+  kept-ids n l = rw (k .rows) (ids-fit (k .defs) (good .shown) n l)
+
+  pub kept-listed : Listed types members (typeCount types)
+  kept-listed =
+      rw (k .rows, k .parts)
+      (record {
+        few = rw (good-count (k .defs) good) (good .shown .few);
+        each = λ i l. good-listable (k .defs) good i (rw (good-count (k .defs) good) at l);
+      })
+
+  -- every type is laid out well, and is at most 2^26 + 224 bytes long
+  pub kept-laid : (i : ℕ) → i < typeCount types
+      → Laid (sizesIn types) i (typeAt types i .size)
+      (partsAt members names (typeAt types i .first) (typeAt types i .count))
+  kept-laid =
+      rw (k .rows, k .parts, k .bytes)
+      (λ i l. good-laid (k .defs) good i (rw (good-count (k .defs) good) at l))
+
+  pub kept-most : (i : ℕ) → i < typeCount types → typeAt types i .size ≤ 2 ^ 26 + 224
+  kept-most = rw (k .rows) (λ i l. good-most (k .defs) good i (rw (good-count (k .defs) good) at l))
+
+-- ---- and what keeps it
+
+-- tables of zeros are kept
+pub none-kept : {types members names : List ℕ} → types ≡ noTypes → members ≡ noMembers → names ≡ noNames
+    → Kept types members names
+unfolding typesTable membersTable namesTable typeRows memberRows bytesOf
+none-kept a b c = record { defs = []; made = none refl; rows = a; parts = b; bytes = c }
+
+module _ (timer counter control string : ℕ) (book : List ℕ) (bytes : Bytes book) where
+  kept-by : (a : Answer (List Def) Refusal) → buildOf timer counter control string book ≡ a
+      → {t m n : List ℕ} {r : Built} → Ended a t m n r → Kept t m n
+  kept-by (refused x) e w = none-kept (w .types) (w .members) (w .names)
+  kept-by (accepted ds) e w =
+      record {
+        defs = ds;
+        made = built timer counter control string book bytes e;
+        rows = w .types;
+        parts = w .members;
+        bytes = w .names;
+      }
+
+  -- a build keeps it, accepted or refused
+  pub build-kept : {t m n : List ℕ} {r : Built} → Ended (buildOf timer counter control string book) t m n r
+      → Kept t m n
+  build-kept w = kept-by (buildOf timer counter control string book) refl w
