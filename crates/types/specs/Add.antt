@@ -201,6 +201,13 @@ pub record AddableEntry (types members names book tys : List ℕ) (u : Used) (at
   pub rows : length members ≡ 16000
   pub bytes : length names ≡ 32768
 
+-- the same without members, for a string
+pub record AddableString (types members names name : List ℕ) (u : Used) : Type 0 where
+  pub usable : Usable types names u
+  pub long : length name ≤ 40
+  pub rows : length members ≡ 16000
+  pub bytes : length names ≡ 32768
+
 -- and with a name that meets the rule's length
 pub record Addable (types members names book tys name : List ℕ) (u : Used) (at n : ℕ) : Type 0 where
   pub usable : Usable types names u

@@ -1,112 +1,73 @@
-// Adding one type of the book (document 01, "Refusal numbers"): 2, 3, 4, 5, 6, 7; per member 2, 8, 9; layout
-// per member 11, 12; then 13. Nothing is stored before all is known.
+// Adding one type of the book (document 01, "Refusal numbers"), in the document's order: 2, 3, 4, 5, 6, 7; per
+// member 2, 8, 9; then its layout, and 13.
 ghost use mathlib.Core.Path.{_≡_};
-ghost use Prim.Native.Nat.{_+_, _*_, _<_, _≤_, _^_};
-ghost use lib.ListN.{length};
-ghost use lib.Seq.{sets};
-ghost use Rattle.types.specs.Add.{addUdt, addAoi, addString, addMembers, addNamed, addTo, Took, Addable};
-ghost use Rattle.types.specs.Book.{typeEntry};
-ghost use Rattle.types.specs.Defs.{Readable};
+ghost use mathlib.Core.List.{[]};
+ghost use Prim.Native.Nat.{_<_};
+ghost use Rattle.types.specs.Add.{addMembers, addNamed, addFresh, addEntry, isAoi, isString, hasId, stringOk};
+ghost use Rattle.types.specs.Add.{Took, Addable, AddableEntry};
 ghost use Rattle.types.specs.Entries.{declsFrom};
-ghost use Rattle.types.specs.Handle.{handleOf};
-ghost use Rattle.types.specs.Registry.{viewIn, withHandle, bareHead, usedWith};
-ghost use Rattle.types.specs.Tables.{typeRow};
-ghost use Rattle.types.specs.Template.{templateIn};
-use crate::digits::put_bytes;
-use crate::fixed::put_string;
-use crate::fixed::string_size;
-use crate::measure::Measured;
-use crate::member::Span;
-use crate::member::StructDef;
-use crate::member::StructKind;
+ghost use Rattle.types.specs.Registry.{viewIn};
+use crate::book::TypeEntry;
+use crate::book::count_of;
+use crate::checks::Checked;
+use crate::checks::check_members;
+use crate::ids::Picked;
+use crate::ids::pick_id;
+use crate::lookups::FoundTy;
+use crate::lookups::lookup;
+use crate::names::good_name;
+use crate::new_types::add_aoi;
+use crate::new_types::add_string;
+use crate::new_types::add_udt;
 use crate::refusal::Refusal;
 use crate::tables::MemberTable;
 use crate::tables::NameTable;
 use crate::tables::TypeTable;
-use crate::tables::put_type;
-use crate::templates::template_handle;
-use crate::udt::measure_udt;
-use crate::udt::size_at;
-use crate::udt::store_udt;
 use crate::used::Turn;
 use crate::used::Used;
-use crate::used::has_room;
-use words::wide;
 
-// Stores a type's row, with the handle that its template gives; its members and names stand already.
-pub fn enter(
-    types: &mut TypeTable,
-    members: &MemberTable,
-    names: &NameTable,
-    i: usize,
-    head: StructDef,
-)
-    requires { ⌜ (i < 200) × Readable (now members) head ⌝ }
-    ensures { λ _. ⌜ now (types .exit) ≡ sets (now (types .entry)) (8 * i) (typeRow (withHandle head
-        (handleOf (templateIn (now (types .entry)) (now (members .entry)) (now (names .entry)) head)))) ⌝ }
+// Flags: 1 AOI, 2 string, 4 id given.
+fn is_aoi(e: TypeEntry) -> bool
+    ensures { λ r. ⌜ r ≡ isAoi e ⌝ }
 {
-    let handle = template_handle(types, members, names, head);
-    let name = head.name;
-    let kind = head.kind;
-    put_type(
-        types,
-        i,
-        StructDef {
-            name,
-            id: head.id,
-            handle,
-            size: head.size,
-            kind,
-            first: head.first,
-            count: head.count,
-        },
-    );
+    e.flags % 2 == 1
 }
 
-// The row of a type whose name and parts stand from the used rows and bytes on, still without its handle.
-pub fn bare_head(
-    u: Used,
-    long: usize,
-    id: u16,
-    size: u32,
-    kind: StructKind,
-    count: u32,
-) -> StructDef
-    requires { ⌜ (u .members ≤ 2000) × ((u .bytes ≤ 32768) × (long ≤ 32768)) ⌝ }
-    ensures { λ r. ⌜ r ≡ bareHead u long id size kind count ⌝ }
+fn is_string(e: TypeEntry) -> bool
+    ensures { λ r. ⌜ r ≡ isString e ⌝ }
 {
-    StructDef {
-        name: Span {
-            at: u.bytes as u32,
-            long: long as u32,
-        },
-        id,
-        handle: 0,
-        size,
-        kind,
-        first: u.members as u32,
-        count,
+    e.flags / 2 % 2 == 1
+}
+
+fn has_id(e: TypeEntry) -> bool
+    ensures { λ r. ⌜ r ≡ hasId e ⌝ }
+{
+    4 <= e.flags
+}
+
+// A string has a length from 1 to 2^26 - 4, no members, and is no AOI.
+fn string_ok(e: TypeEntry) -> bool
+    ensures { λ r. ⌜ r ≡ stringOk e ⌝ }
+{
+    if e.string < 1 {
+        return false;
     }
-}
-
-// How much is used with one type more.
-pub fn used_more(u: Used, members: usize, bytes: usize) -> Used
-    requires { ⌜ (u .types < 200) × ((u .members + members ≤ 2000) × (u .bytes + bytes ≤ 32768)) ⌝ }
-    ensures { λ r. ⌜ r ≡ usedWith u members bytes ⌝ }
-{
-    Used {
-        types: u.types + 1,
-        members: u.members + members,
-        bytes: u.bytes + bytes,
+    if 67108860 < e.string {
+        return false;
     }
+    if e.count != 0 {
+        return false;
+    }
+    !is_aoi(e)
 }
 
-// A UDT: measured, and stored where it can be laid out and there is room.
-pub fn add_udt(
+// A type of members: each is checked, then all are laid out.
+fn add_members(
     book: &[u8],
     tys: &[u16],
     at: usize,
     n: usize,
+    aoi: bool,
     i: u32,
     name: &[u8],
     id: u16,
@@ -116,45 +77,134 @@ pub fn add_udt(
     u: Used,
 ) -> Turn
     requires { ⌜ Addable (now types) (now members) (now names) (now book) (now tys) (now name) u at n ⌝ }
-    ensures { λ r. ⌜ Took (addUdt (viewIn (now (types .entry)) (now (names .entry)) u) (now (book .entry)) i
+    ensures { λ r. ⌜ Took (addMembers (viewIn (now (types .entry)) (now (names .entry)) u) (now (book .entry)) i at n aoi
         (now (name .entry)) id (declsFrom (now (types .entry)) (now (book .entry)) (now (tys .entry)) at 0 n)) u
         (now (types .entry)) (now (members .entry)) (now (names .entry))
         (now (types .exit)) (now (members .exit)) (now (names .exit)) r ⌝ }
 {
-    let m = measure_udt(types, book, tys, at, n, name);
-    match m {
-        Measured::AccessWrong => {
-            return Turn::Refused(Refusal::AccessWrong(i));
-        }
-        Measured::TooFar => {
-            return Turn::Refused(Refusal::MemberTooFar(i));
-        }
-        Measured::Laid(c, long) => {
-            let count = c.members;
-            let bytes = name.len() + wide(long);
-            let room = has_room(u, wide(count), bytes);
-            if room {
-                let size = size_at(c);
-                let place = u.bytes + name.len();
-                put_bytes(names, u.bytes, name);
-                store_udt(
-                    types,
-                    book,
-                    tys,
-                    at,
-                    n,
-                    name,
-                    members,
-                    u.members,
-                    names,
-                    place,
-                );
-                let head = bare_head(u, name.len(), id, size, StructKind::Udt, count);
-                enter(types, members, names, u.types, head);
-                let more = used_more(u, wide(count), bytes);
-                return Turn::Added(more);
+    let c = check_members(book, at, n, aoi);
+    match c {
+        Checked::Good => {
+            if aoi {
+                return add_aoi(book, tys, at, n, i, name, id, types, members, names, u);
             }
-            return Turn::Refused(Refusal::TablesFull(i));
+            return add_udt(book, tys, at, n, i, name, id, types, members, names, u);
+        }
+        Checked::NameWrong => {
+            return Turn::Refused(Refusal::NameOutsideRule(i));
+        }
+        Checked::Twice => {
+            return Turn::Refused(Refusal::MemberTwice(i));
+        }
+        Checked::LocalOutside => {
+            return Turn::Refused(Refusal::LocalOutsideAoi(i));
         }
     }
+}
+
+// A type with a name and an id: a string, or a type of members.
+fn add_named(
+    book: &[u8],
+    tys: &[u16],
+    at: usize,
+    e: TypeEntry,
+    i: u32,
+    name: &[u8],
+    id: u16,
+    types: &mut TypeTable,
+    members: &mut MemberTable,
+    names: &mut NameTable,
+    u: Used,
+) -> Turn
+    requires { ⌜ Addable (now types) (now members) (now names) (now book) (now tys) (now name) u at (e .count) ⌝ }
+    ensures { λ r. ⌜ Took (addNamed (viewIn (now (types .entry)) (now (names .entry)) u) (now (book .entry)) i at e
+        (now (name .entry)) id
+        (declsFrom (now (types .entry)) (now (book .entry)) (now (tys .entry)) at 0 (e .count))) u
+        (now (types .entry)) (now (members .entry)) (now (names .entry))
+        (now (types .exit)) (now (members .exit)) (now (names .exit)) r ⌝ }
+{
+    let string = is_string(e);
+    if string {
+        let ok = string_ok(e);
+        if ok {
+            return add_string(i, e.string, name, id, types, members, names, u);
+        }
+        return Turn::Refused(Refusal::StringWrong(i));
+    }
+    let n = count_of(e.count);
+    let aoi = is_aoi(e);
+    add_members(book, tys, at, n, aoi, i, name, id, types, members, names, u)
+}
+
+// A type with a name that is new: it gets an id.
+fn add_fresh(
+    book: &[u8],
+    tys: &[u16],
+    at: usize,
+    e: TypeEntry,
+    i: u32,
+    name: &[u8],
+    types: &mut TypeTable,
+    members: &mut MemberTable,
+    names: &mut NameTable,
+    u: Used,
+) -> Turn
+    requires { ⌜ Addable (now types) (now members) (now names) (now book) (now tys) (now name) u at (e .count) ⌝ }
+    ensures { λ r. ⌜ Took (addFresh (viewIn (now (types .entry)) (now (names .entry)) u) (now (book .entry)) i at e
+        (now (name .entry))
+        (declsFrom (now (types .entry)) (now (book .entry)) (now (tys .entry)) at 0 (e .count))) u
+        (now (types .entry)) (now (members .entry)) (now (names .entry))
+        (now (types .exit)) (now (members .exit)) (now (names .exit)) r ⌝ }
+{
+    let given = has_id(e);
+    let p = pick_id(types, u.types, given, e.id);
+    match p {
+        Picked::Free(id) => {
+            return add_named(book, tys, at, e, i, name, id, types, members, names, u);
+        }
+        Picked::OutsideRange => {
+            return Turn::Refused(Refusal::IdOutsideRange(i));
+        }
+        Picked::InUse => {
+            return Turn::Refused(Refusal::IdInUse(i));
+        }
+        Picked::NoneFree => {
+            return Turn::Refused(Refusal::NoIdFree(i));
+        }
+    }
+}
+
+// A type of the book, with its name.
+pub fn add_entry(
+    book: &[u8],
+    tys: &[u16],
+    at: usize,
+    e: TypeEntry,
+    i: u32,
+    name: &[u8],
+    types: &mut TypeTable,
+    members: &mut MemberTable,
+    names: &mut NameTable,
+    u: Used,
+) -> Turn
+    requires { ⌜ AddableEntry (now types) (now members) (now names) (now book) (now tys) u at (e .count) ⌝ }
+    ensures { λ r. ⌜ Took (addEntry (viewIn (now (types .entry)) (now (names .entry)) u) (now (book .entry)) i at e
+        (now (name .entry))
+        (declsFrom (now (types .entry)) (now (book .entry)) (now (tys .entry)) at 0 (e .count))) u
+        (now (types .entry)) (now (members .entry)) (now (names .entry))
+        (now (types .exit)) (now (members .exit)) (now (names .exit)) r ⌝ }
+{
+    let good = good_name(name);
+    if good {
+        let found = lookup(types, names, u.types, name);
+        match found {
+            FoundTy::Is(_) => {
+                return Turn::Refused(Refusal::NameKnown(i));
+            }
+            FoundTy::Nothing => {
+                return add_fresh(book, tys, at, e, i, name, types, members, names, u);
+            }
+        }
+    }
+    Turn::Refused(Refusal::NameOutsideRule(i))
 }

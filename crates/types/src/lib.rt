@@ -1,8 +1,6 @@
 // Types and layouts (document 01's first crate): a declaration book is built into lent tables, and the tables
 // answer for their types: rows, templates, headers, waste, tag shapes, listings.
 mod add;
-mod add_more;
-mod add_type;
 mod aoi;
 mod atomic;
 mod book;
@@ -21,6 +19,8 @@ mod lookups;
 mod measure;
 mod member;
 mod names;
+mod new_row;
+mod new_types;
 mod pieces;
 mod predefined;
 mod refusal;

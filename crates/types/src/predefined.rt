@@ -9,19 +9,19 @@ ghost use Rattle.types.specs.Predefined.{predefinedId, distinct, predefi
 ghost use Rattle.types.specs.Predefined.{timerName, counterName, controlName, stringName};
 ghost use Rattle.types.specs.Registry.{viewIn, noTypes, noMembers, noNames};
 ghost use Rattle.types.specs.Structs.{timerParts, counterParts, controlTypeParts, stringParts, stringSize};
-use crate::add::bare_head;
-use crate::add::enter;
-use crate::add::used_more;
 use crate::digits::put_bytes;
 use crate::fixed::put_control_type;
 use crate::fixed::put_counter;
 use crate::fixed::put_string;
 use crate::fixed::put_timer;
 use crate::member::StructKind;
+use crate::new_row::bare_head;
+use crate::new_row::enter;
 use crate::tables::MemberTable;
 use crate::tables::NameTable;
 use crate::tables::TypeTable;
 use crate::used::Used;
+use crate::used::used_more;
 
 // An id of a predefined type: no type of a book can take it.
 fn id_ok(id: u16) -> bool

@@ -8,7 +8,7 @@ ghost use Rattle.types.specs.Lookup.{rowNames};
 ghost use Rattle.types.specs.Registry.{viewIn};
 ghost use Rattle.types.specs.Resolve.{typeNames, allKnown};
 ghost use Rattle.types.specs.Turns.{countOf, declsOf, TurnIn, Turned};
-use crate::add_type::add_entry;
+use crate::add::add_entry;
 use crate::book::count_of;
 use crate::book::type_entry;
 use crate::resolve::resolve;

@@ -1,8 +1,9 @@
 // How much of the lent tables is used, and what a waiting type's turn in a round gives (document 01, "Order of
 // building").
 ghost use mathlib.Core.Path.{_≡_};
-ghost use Prim.Native.Nat.{_+_, _≤_, _^_};
+ghost use Prim.Native.Nat.{_+_, _<_, _≤_, _^_};
 ghost use Rattle.types.specs.Add.{hasRoom};
+ghost use Rattle.types.specs.Registry.{usedWith};
 use crate::refusal::Refusal;
 use crate::tables::MEMBERS;
 use crate::tables::NAME_BYTES;
@@ -34,4 +35,16 @@ pub fn has_room(u: Used, members: usize, bytes: usize) -> bool
         return false;
     }
     u.bytes + bytes <= NAME_BYTES
+}
+
+// How much is used with one type more.
+pub fn used_more(u: Used, members: usize, bytes: usize) -> Used
+    requires { ⌜ (u .types < 200) × ((u .members + members ≤ 2000) × (u .bytes + bytes ≤ 32768)) ⌝ }
+    ensures { λ r. ⌜ r ≡ usedWith u members bytes ⌝ }
+{
+    Used {
+        types: u.types + 1,
+        members: u.members + members,
+        bytes: u.bytes + bytes,
+    }
 }

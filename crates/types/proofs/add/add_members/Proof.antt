@@ -2,8 +2,8 @@
 use borrow.Author.Needs.{needs}
 use Rattle.types.proofs.AddStoreLaws.{took-no}
 use Rattle.types.proofs.AddTypeLaws.{members-aoi, members-udt, members-name, members-twice, members-local}
-use Rattle.types.proofs.add_type.add_members.Statement.{statement}
-use Rattle.types.proofs.add_type.add_members.Tie as tie
+use Rattle.types.proofs.add.add_members.Statement.{statement}
+use Rattle.types.proofs.add.add_members.Tie as tie
 
 check-members-requires : tie.Need-check-members-requires
 check-members-requires c κs = search needs

@@ -2,8 +2,8 @@
 use borrow.Author.Needs.{needs}
 use mathlib.Core.Path.{sym, _∙_}
 use Rattle.types.proofs.AddTypeLaws.{string-short, string-long, string-members, string-rest}
-use Rattle.types.proofs.add_type.string_ok.Statement.{statement}
-use Rattle.types.proofs.add_type.string_ok.Tie as tie
+use Rattle.types.proofs.add.string_ok.Statement.{statement}
+use Rattle.types.proofs.add.string_ok.Tie as tie
 
 returns : tie.Need-returns
 returns c = string-short (c .before .before .args .e) (c .if1 .taken)

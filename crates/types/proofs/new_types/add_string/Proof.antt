@@ -6,8 +6,8 @@ use mathlib.Core.Path.{_∙_}
 use lib.ListN.{length}
 use Rattle.types.proofs.AddStoreLaws.{Roomy}
 use Rattle.types.proofs.AddStringLaws.{string-full, string-room, string-readable, string-took}
-use Rattle.types.proofs.add_more.add_string.Statement.{statement}
-use Rattle.types.proofs.add_more.add_string.Tie as tie
+use Rattle.types.proofs.new_types.add_string.Statement.{statement}
+use Rattle.types.proofs.new_types.add_string.Tie as tie
 
 -- there is room
 fits : (c : tie.Then1)
@@ -15,16 +15,13 @@ fits : (c : tie.Then1)
     Roomy (a .u) 2 (length (a .name .now) + 7)
 fits c =
     let s = c .before .before .before in
-    string-room (s .pre .0) (s .args .name .now) (s .args .capacity) (c .before .has-room .ensures) (c .if1 .taken)
+    string-room (s .pre .0 .usable) (s .args .name .now) (s .args .capacity) (c .before .has-room .ensures) (c .if1 .taken)
 
 add-bytes : tie.Need-add-bytes
 add-bytes c = search needs
 
 has-room-requires : tie.Need-has-room-requires
 has-room-requires c κs = search needs
-
-whole-requires : tie.Need-whole-requires
-whole-requires c κs = search needs
 
 string-size-requires : tie.Need-string-size-requires
 string-size-requires c κs = search needs
@@ -33,11 +30,11 @@ add-place : tie.Need-add-place
 add-place c = search needs
 
 put-bytes-requires : tie.Need-put-bytes-requires
-put-bytes-requires c κs = omega (arith, fits (c .before .before .before .before .before .before) .bytes)
+put-bytes-requires c κs = omega (arith, fits (c .before .before .before) .bytes)
 
 put-string-requires : tie.Need-put-string-requires
 put-string-requires c κs =
-    let f = fits (c .before .before .before .before .before .before .before .before .before) in
+    let f = fits (c .before .before .before .before .before .before) in
     (f .members, omega (arith, f .bytes))
 
 bare-head-requires : tie.Need-bare-head-requires
@@ -48,18 +45,18 @@ enter-requires c κs =
     let head = c .before .before .before in
     let stored = head .before in
     let size = stored .before .before .before .before .before .before in
-    let t = size .before .before .before .before in
+    let t = size .before in
     let s = t .before .before .before in (
       fits t .types,
       rw (head .bare-head .ensures, size .string-size .ensures, stored .put-string .ensures .0)
-          (string-readable (s .pre .0) (s .args .name .now) _ (t .before .has-room .ensures) (t .if1 .taken)
-          (s .args .members .now) (size .before .whole .ensures .0) _),
+          (string-readable (s .pre .0 .usable) (s .args .name .now) _ (t .before .has-room .ensures) (t .if1 .taken)
+          (s .args .members .now) (s .pre .0 .rows) _),
     )
 
 used-more-requires : tie.Need-used-more-requires
 used-more-requires c κs =
     let stored = c .before .before .before .before .before in
-    let f = fits (stored .before .before .before .before .before .before .before .before .before .before) in
+    let f = fits (stored .before .before .before .before .before .before .before) in
     (f .types, (f .members, f .bytes))
 
 returns : tie.Need-returns
@@ -69,11 +66,10 @@ returns c =
     let stored = head .before in
     let put = stored .before .before .before in
     let size = put .before .before .before in
-    let t = size .before .before .before .before in
+    let t = size .before in
     let s = t .before .before .before in
-    let long = size .before .whole .ensures in
     rw (c .used-more .ensures)
-    (string-took (s .pre .0) _ _ (t .before .has-room .ensures) (t .if1 .taken) _ (long .0) _ _ (long .1)
+    (string-took (s .pre .0 .usable) _ _ (t .before .has-room .ensures) (t .if1 .taken) _ (s .pre .0 .rows) _ _ (s .pre .0 .bytes)
     (stored .put-string .ensures .0)
     (stored .put-string .ensures .1 ∙ rw (put .put-bytes .ensures))
     (entered .enter .ensures ∙ rw (head .bare-head .ensures, size .string-size .ensures)))
@@ -81,7 +77,7 @@ returns c =
 returns-2 : tie.Need-returns-2
 returns-2 c =
     let s = (c .before .before .before) in
-    string-full (s .pre .0) _ _ (c .before .has-room .ensures) _ _ _ (c .if1 .left)
+    string-full (s .pre .0 .usable) _ _ (c .before .has-room .ensures) _ _ _ (c .if1 .left)
 
 pub add-string-spec : {M : Type 1} → statement M
 add-string-spec =
@@ -89,7 +85,6 @@ add-string-spec =
     (tie.spec
     add-bytes
     has-room-requires
-    whole-requires
     string-size-requires
     add-place
     put-bytes-requires

@@ -12,8 +12,8 @@ use Rattle.types.specs.Structs.{measuredAoi}
 use Rattle.types.proofs.AddStoreLaws.{declared-found, Roomy}
 use Rattle.types.proofs.AddAoiLaws.{hosts-counted, aoi-access, aoi-far, aoi-full, aoi-room, aoi-near}
 use Rattle.types.proofs.AddAoiLaws.{aoi-storable, aoi-readable, aoi-took}
-use Rattle.types.proofs.add_more.add_aoi.Statement.{statement}
-use Rattle.types.proofs.add_more.add_aoi.Tie as tie
+use Rattle.types.proofs.new_types.add_aoi.Statement.{statement}
+use Rattle.types.proofs.new_types.add_aoi.Tie as tie
 
 bytes : (c : tie.After-shared-slice-known3) → Bytes (c .before .before .before .args .book .now)
 bytes c k = (c .before .before .shared-slice-known .given k) .fits
@@ -22,7 +22,7 @@ abbrev start : tie.After-m → tie.Start
 start c = c .before .before .before .before .before .before .before
 
 abbrev taken : tie.After-hosts-for → tie.Then1
-taken c = c .before .before .before .before .before .before .before .before
+taken c = c .before .before .before .before .before
 
 -- where the layout ended
 laid : (c : tie.After-has-room)
@@ -48,12 +48,12 @@ fits : (c : tie.Then1)
 fits c =
     let h = c .before in
     let s = start (h .before .before .before .before) in
-    aoi-room (s .pre .0 .0) (s .pre .0 .1) _ (laid h) (room h) (c .if1 .taken)
+    aoi-room (s .pre .usable) (s .pre .declared) _ (laid h) (room h) (c .if1 .taken)
 
 measure-aoi-requires : tie.Need-measure-aoi-requires
 measure-aoi-requires c κs =
     let p = (c .before .before .before .before) .pre in
-    (declared-found (p .0 .1) (p .0 .0 .rows .few), p .0 .1 .few)
+    (declared-found (p .declared) (p .usable .rows .few), p .declared .few)
 
 enum-told : tie.Need-enum-told
 enum-told c = search needs
@@ -62,7 +62,7 @@ returns : tie.Need-returns
 returns c =
     let m = (c .before .before) in
     let s = (c .before .before .before .before .before .before .before) in
-    aoi-access (s .pre .0 .0) (s .pre .0 .1) _ _ _ _ (sym (c .enum-told .given .1) ∙ m .measure-aoi .ensures)
+    aoi-access (s .pre .usable) (s .pre .declared) _ _ _ _ (sym (c .enum-told .given .1) ∙ m .measure-aoi .ensures)
 
 enum-told-2 : tie.Need-enum-told-2
 enum-told-2 c = search needs
@@ -71,7 +71,7 @@ returns-2 : tie.Need-returns-2
 returns-2 c =
     let m = (c .before .before) in
     let s = (c .before .before .before .before .before .before .before) in
-    aoi-far (s .pre .0 .0) (s .pre .0 .1) _ _ _ _ (sym (c .enum-told2 .given .1) ∙ m .measure-aoi .ensures)
+    aoi-far (s .pre .usable) (s .pre .declared) _ _ _ _ (sym (c .enum-told2 .given .1) ∙ m .measure-aoi .ensures)
 
 enum-known-m : tie.Need-enum-known-m
 enum-known-m c = search needs
@@ -88,29 +88,25 @@ wide-requires-2 c κs = search needs
 has-room-requires : tie.Need-has-room-requires
 has-room-requires c κs = search needs
 
-whole-requires : tie.Need-whole-requires
-whole-requires c κs = search needs
-
 size-at-requires : tie.Need-size-at-requires
 size-at-requires c κs =
-    let t = c .before .before .before in
-    let h = t .before in
+    let h = c .before in
     let s = start (h .before .before .before .before) in
-    aoi-near (s .pre .0 .0) (s .pre .0 .1) _ (laid h) (room h) (t .if1 .taken)
+    aoi-near (s .pre .usable) (s .pre .declared) _ (laid h) (room h) (c .if1 .taken)
 
 add-place : tie.Need-add-place
 add-place c = search needs
 
 count-bools-requires : tie.Need-count-bools-requires
 count-bools-requires c κs =
-    let m = c .before .before .before .before .before .before .before .before .before .before .before in
-    let p = start m .pre .0 in
-    (declared-found (p .1) (p .0 .rows .few), omega (arith, p .1 .few))
+    let m = c .before .before .before .before .before .before .before .before in
+    let p = start m .pre in
+    (declared-found (p .declared) (p .usable .rows .few), omega (arith, p .declared .few))
 
 hosts-for-requires : tie.Need-hosts-for-requires
 hosts-for-requires c κs =
-    let m = c .before .before .before .before .before .before .before .before .before .before .before .before in
-    omega (arith, c .count-bools .ensures .most, start m .pre .0 .1 .few)
+    let m = c .before .before .before .before .before .before .before .before .before in
+    omega (arith, c .count-bools .ensures .most, start m .pre .declared .few)
 
 put-bytes-requires : tie.Need-put-bytes-requires
 put-bytes-requires c κs = omega (arith, fits (taken (c .before)) .bytes)
@@ -121,7 +117,7 @@ store-aoi-requires c κs =
     let t = taken hosts in
     let h = t .before in
     let s = start (h .before .before .before .before) in
-    aoi-storable (s .pre .0 .0) (s .pre .0 .1) _ (laid h) (room h) (t .if1 .taken)
+    aoi-storable (s .pre .usable) (s .pre .declared) _ (laid h) (room h) (t .if1 .taken)
     (hosts-counted (hosts .before .count-bools .ensures) (hosts .hosts-for .ensures))
 
 bare-head-requires : tie.Need-bare-head-requires
@@ -134,15 +130,15 @@ enter-requires c κs =
     let head = c .before .before .before in
     let stored = head .before in
     let size = stored .before .before .before .before .before .before .before .before .before .before in
-    let t = size .before .before .before .before in
+    let t = size .before in
     let h = t .before in
     let known = h .before .before .before .before .before .before .before .before in
     let s = start (h .before .before .before .before) in (
       fits t .types,
       rw (head .bare-head .ensures, size .size-at .ensures, stored .store-aoi .ensures .0)
-          (aoi-readable (s .pre .0 .0) (s .pre .0 .1) _ (laid h) (room h) (t .if1 .taken) (bytes known)
+          (aoi-readable (s .pre .usable) (s .pre .declared) _ (laid h) (room h) (t .if1 .taken) (bytes known)
           (s .args .members .now)
-          (size .before .whole .ensures .0) _),
+          (s .pre .rows) _),
     )
 
 wide-requires-3 : tie.Need-wide-requires-3
@@ -164,13 +160,12 @@ returns-3 c =
     let stored = head .before in
     let put = stored .before .before .before .before in
     let size = put .before .before .before .before .before .before in
-    let t = size .before .before .before .before in
+    let t = size .before in
     let h = t .before in
     let known = h .before .before .before .before .before .before .before .before in
     let s = start (h .before .before .before .before) in
-    let long = size .before .whole .ensures in
     rw (c .used-more .ensures, c .before .wide3 .ensures, h .before .before .wide .ensures)
-    (aoi-took (s .pre .0 .0) (s .pre .0 .1) _ (laid h) (room h) (t .if1 .taken) (bytes known) _ (long .0) _ _ (long .1)
+    (aoi-took (s .pre .usable) (s .pre .declared) _ (laid h) (room h) (t .if1 .taken) (bytes known) _ (s .pre .rows) _ _ (s .pre .bytes)
     (stored .store-aoi .ensures .0)
     (stored .store-aoi .ensures .1 ∙ rw (put .put-bytes .ensures))
     (entered .enter .ensures ∙ rw (head .bare-head .ensures, size .size-at .ensures)))
@@ -179,7 +174,7 @@ returns-4 : tie.Need-returns-4
 returns-4 c =
     let h = c .before in
     let s = start (h .before .before .before .before) in
-    aoi-full (s .pre .0 .0) (s .pre .0 .1) _ (laid h) (room h) _ _ _ (c .if1 .left)
+    aoi-full (s .pre .usable) (s .pre .declared) _ (laid h) (room h) _ _ _ (c .if1 .left)
 
 pub add-aoi-spec : {M : Type 1} → statement M
 add-aoi-spec =
@@ -195,7 +190,6 @@ add-aoi-spec =
     add-bytes
     wide-requires-2
     has-room-requires
-    whole-requires
     size-at-requires
     add-place
     count-bools-requires

@@ -4,8 +4,8 @@ use borrow.Author.Needs.{needs}
 use mathlib.Core.Path.{sym, _∙_}
 use Rattle.types.proofs.AddStoreLaws.{took-no}
 use Rattle.types.proofs.AddTypeLaws.{string-most, named-string, named-wrong, named-members}
-use Rattle.types.proofs.add_type.add_named.Statement.{statement}
-use Rattle.types.proofs.add_type.add_named.Tie as tie
+use Rattle.types.proofs.add.add_named.Statement.{statement}
+use Rattle.types.proofs.add.add_named.Tie as tie
 
 is-string-requires : tie.Need-is-string-requires
 is-string-requires c κs = search needs
@@ -16,8 +16,11 @@ string-ok-requires c κs = search needs
 add-string-requires : tie.Need-add-string-requires
 add-string-requires c κs =
     let ok = c .before .before .before .before in
-    let s = ok .before .before .before .before .before .before in
-    (s .pre .usable, (s .pre .long, string-most (s .args .e) (sym (ok .string-ok .ensures) ∙ c .before .before .before .if2 .taken)))
+    let p = ok .before .before .before .before .before .before .pre in
+    let e = ok .before .before .before .before .before .before .args .e in (
+      record { usable = p .usable; long = p .long; rows = p .rows; bytes = p .bytes },
+      string-most e (sym (ok .string-ok .ensures) ∙ c .before .before .before .if2 .taken),
+    )
 
 returns : tie.Need-returns
 returns c =

@@ -6,8 +6,8 @@ use Rattle.types.specs.Ids.{idFor}
 use Rattle.types.specs.Registry.{viewIn}
 use Rattle.types.proofs.AddStoreLaws.{took-no, took-so}
 use Rattle.types.proofs.AddTypeLaws.{fresh-free, fresh-outside, fresh-used, fresh-none}
-use Rattle.types.proofs.add_type.add_fresh.Statement.{statement}
-use Rattle.types.proofs.add_type.add_fresh.Tie as tie
+use Rattle.types.proofs.add.add_fresh.Statement.{statement}
+use Rattle.types.proofs.add.add_fresh.Tie as tie
 
 has-id-requires : tie.Need-has-id-requires
 has-id-requires c κs = search needs

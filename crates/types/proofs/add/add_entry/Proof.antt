@@ -6,8 +6,8 @@ use Rattle.types.specs.Lookup.{typeAmong}
 use Rattle.types.specs.Registry.{viewIn}
 use Rattle.types.proofs.AddStoreLaws.{took-no, took-so}
 use Rattle.types.proofs.AddTypeLaws.{entry-bad, entry-known, entry-fresh, good-long}
-use Rattle.types.proofs.add_type.add_entry.Statement.{statement}
-use Rattle.types.proofs.add_type.add_entry.Tie as tie
+use Rattle.types.proofs.add.add_entry.Statement.{statement}
+use Rattle.types.proofs.add.add_entry.Tie as tie
 
 good-name-requires : tie.Need-good-name-requires
 good-name-requires c κs = search needs

@@ -13,8 +13,8 @@ use Rattle.types.specs.Structs.{udtStart, measured}
 use Rattle.types.proofs.AddStoreLaws.{declared-found, Roomy}
 use Rattle.types.proofs.AddUdtLaws.{udt-access, udt-far, udt-full, udt-room, udt-near, udt-storable}
 use Rattle.types.proofs.AddUdtLaws.{udt-readable, udt-took}
-use Rattle.types.proofs.add.add_udt.Statement.{statement}
-use Rattle.types.proofs.add.add_udt.Tie as tie
+use Rattle.types.proofs.new_types.add_udt.Statement.{statement}
+use Rattle.types.proofs.new_types.add_udt.Tie as tie
 
 bytes : (c : tie.After-shared-slice-known3) → Bytes (c .before .before .before .args .book .now)
 bytes c k = (c .before .before .shared-slice-known .given k) .fits

@@ -1,0 +1,75 @@
+// The row of a new type (document 01, "Template and handle"): its members and names stand already, and its handle is
+// that of its template.
+ghost use mathlib.Core.Path.{_≡_};
+ghost use Prim.Native.Nat.{_*_, _<_, _≤_};
+ghost use lib.Seq.{sets};
+ghost use Rattle.types.specs.Defs.{Readable};
+ghost use Rattle.types.specs.Handle.{handleOf};
+ghost use Rattle.types.specs.Registry.{withHandle, bareHead};
+ghost use Rattle.types.specs.Tables.{typeRow};
+ghost use Rattle.types.specs.Template.{templateIn};
+use crate::member::Span;
+use crate::member::StructDef;
+use crate::member::StructKind;
+use crate::tables::MemberTable;
+use crate::tables::NameTable;
+use crate::tables::TypeTable;
+use crate::tables::put_type;
+use crate::templates::template_handle;
+use crate::used::Used;
+
+// Stores a type's row, with the handle that its template gives; its members and names stand already.
+pub fn enter(
+    types: &mut TypeTable,
+    members: &MemberTable,
+    names: &NameTable,
+    i: usize,
+    head: StructDef,
+)
+    requires { ⌜ (i < 200) × Readable (now members) head ⌝ }
+    ensures { λ _. ⌜ now (types .exit) ≡ sets (now (types .entry)) (8 * i) (typeRow (withHandle head
+        (handleOf (templateIn (now (types .entry)) (now (members .entry)) (now (names .entry)) head)))) ⌝ }
+{
+    let handle = template_handle(types, members, names, head);
+    let name = head.name;
+    let kind = head.kind;
+    put_type(
+        types,
+        i,
+        StructDef {
+            name,
+            id: head.id,
+            handle,
+            size: head.size,
+            kind,
+            first: head.first,
+            count: head.count,
+        },
+    );
+}
+
+// The row of a type whose name and parts stand from the used rows and bytes on, still without its handle.
+pub fn bare_head(
+    u: Used,
+    long: usize,
+    id: u16,
+    size: u32,
+    kind: StructKind,
+    count: u32,
+) -> StructDef
+    requires { ⌜ (u .members ≤ 2000) × ((u .bytes ≤ 32768) × (long ≤ 32768)) ⌝ }
+    ensures { λ r. ⌜ r ≡ bareHead u long id size kind count ⌝ }
+{
+    StructDef {
+        name: Span {
+            at: u.bytes as u32,
+            long: long as u32,
+        },
+        id,
+        handle: 0,
+        size,
+        kind,
+        first: u.members as u32,
+        count,
+    }
+}
