@@ -32,9 +32,9 @@ use Rattle.types.specs.Structs.{namesOf, rowsOf, namedIn}
 use Rattle.types.specs.Tables.{tyOf, typeRow}
 use Rattle.types.specs.Template.{templateIn}
 use Rattle.types.proofs.AddLaws.{Able, row-same, fitted-no, fitted-yes}
-use Rattle.types.proofs.DefLaws.{PartFits, head-readable}
+use Rattle.types.proofs.DefLaws.{PartFits, earlier-fits, head-readable}
 use Rattle.types.proofs.FoundLaws.{decl-resolved, all-named}
-use Rattle.types.proofs.ResolveLaws.{earlier-fits}
+use Rattle.types.proofs.TestLaws.{and-left, and-right}
 
 -- ---- the declared members
 
@@ -79,14 +79,6 @@ pub record Roomy (u : Used) (m b : ℕ) : Type 0 where
   pub types : u .types < 200
   pub members : u .members + m ≤ 2000
   pub bytes : u .bytes + b ≤ 32768
-
-and-left : (a b : Bool) → (a && b) ≡ true → a ≡ true
-and-left true b e = refl
-and-left false b e = e
-
-and-right : (a b : Bool) → (a && b) ≡ true → b ≡ true
-and-right true b e = e
-and-right false b e = cc
 
 pub roomy : (u : Used) (members bytes : ℕ) → true ≡ hasRoom u members bytes → Roomy u members bytes
 unfolding hasRoom

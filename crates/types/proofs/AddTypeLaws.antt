@@ -28,6 +28,7 @@ use Rattle.types.specs.Names.{goodName, nameBytes}
 use Rattle.types.specs.Registry.{View}
 use Rattle.types.specs.Resolve.{isFound}
 use Rattle.types.specs.Structs.{stringParts, stringSize}
+use Rattle.types.proofs.TestLaws.{and-left, and-right}
 
 -- ---- per member 2, 8, 9
 
@@ -73,14 +74,6 @@ module _ (e : TypeEntry) where
       pub string-rest : e .count ≡ 0 → (r : Bool) → r ≡ isAoi e → not r ≡ stringOk e
       unfolding stringOk
       string-rest q r s = rw s (simp (le-leb _ _ a, le-leb _ _ b, eq-eqb _ _ q))
-
-and-left : (a b : Bool) → (a && b) ≡ true → a ≡ true
-and-left true b e = refl
-and-left false b e = e
-
-and-right : (a b : Bool) → (a && b) ≡ true → b ≡ true
-and-right true b e = e
-and-right false b e = cc
 
 -- what is laid out as a string has at most 2^26 - 4 bytes
 pub string-most : (e : TypeEntry) → stringOk e ≡ true → e .string ≤ 2 ^ 26 - 4

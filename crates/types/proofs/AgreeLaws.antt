@@ -37,7 +37,7 @@ module _ (f g : ℕ → ℕ) (n : ℕ) (same : (k : ℕ) → k < n → f k ≡ g
   unfolding templateOf frontOf
   template-same d e = rw (infos-same (d .parts) e)
 
-  size-same : (ty : Ty) → Earlier n ty → sizeIn f ty ≡ sizeIn g ty
+  pub size-same : (ty : Ty) → Earlier n ty → sizeIn f ty ≡ sizeIn g ty
   size-same (Atomic a) e = refl
   size-same (Struct k) e = same k e
 

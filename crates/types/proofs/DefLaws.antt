@@ -198,12 +198,12 @@ rows-within m row at n (p ∷ ps) h f (suc k) l =
     (rows-within (sets m (8 * row) (rowOf at p)) (row + 1) (at + length (p .name)) n ps
     (omega (arith, length-sets m (8 * row) (rowOf at p))) (f .1) k (omega arith))
 
-earlier-fits : (n : ℕ) (ty : Ty) → n ≤ 200 → Earlier n ty → TyFits ty
-earlier-fits n (Atomic a) h e = tt
-earlier-fits n (Struct k) h e = omega arith
+pub earlier-fits : (n : ℕ) → n ≤ 200 → (ty : Ty) → Earlier n ty → TyFits ty
+earlier-fits n h (Atomic a) e = tt
+earlier-fits n h (Struct k) e = omega arith
 
 pub within-fits : {m : List ℕ} {n edge row : ℕ} → n ≤ 200 → Within m n edge row → TyFits (memberAt m row .ty)
-within-fits {m} {n} {edge} {row} h w = earlier-fits n (memberAt m row .ty) h (w .earlier)
+within-fits {m} {n} {edge} {row} h w = earlier-fits n h (memberAt m row .ty) (w .earlier)
 
 -- its rows can be read
 pub head-readable : (m : List ℕ) (row at n : ℕ) (d : Def) → length m ≡ 16000 → row + length (d .parts) ≤ 2000

@@ -12,6 +12,7 @@ use Rattle.types.specs.declared.ids.Picked.{Picked}
 use Rattle.types.specs.declared.ids.Picked.the-variants.{Free, OutsideRange, InUse, NoneFree}
 use Rattle.types.specs.Book.{listFrom}
 use Rattle.types.specs.Ids.{idWord, Held, Lowest, inUse, lowestFrom, lowestFree, idFor}
+use Rattle.types.proofs.TestLaws.{or-right, clash}
 
 pub held-more : (t : List ℕ) (n r i : ℕ) → ((k : ℕ) → 0x100 ≤ k → k < r → Held t n k) → i < n → idWord t i ≡ r
     → (k : ℕ) → 0x100 ≤ k → k < r + 1 → Held t n k
@@ -53,13 +54,6 @@ module _ (ids : ℕ → ℕ) (id n i : ℕ) where
       rw f
 
 -- ---- held by a row, and in use among the rows' ids
-
-clash : {A : Type 0} {b : Bool} → b ≡ true → b ≡ false → A
-clash p q = let z : _≡_ {A = ℕ} 0 1 = cc in absurd (let y : ⊥ = omega arith in y)
-
-or-right : (a b : Bool) → b ≡ true → (a || b) ≡ true
-or-right true b e = refl
-or-right false b e = e
 
 held-use : (t : List ℕ) (k j n i : ℕ) → j ≤ i → i < j + n → idWord t i ≡ k → inUse k (listFrom (idWord t) j n) ≡ true
 unfolding inUse listFrom

@@ -60,3 +60,4 @@ pub mod RunLaws
 pub mod BuildLaws
 pub mod ScratchLaws
 pub mod KeptLaws
+pub mod TestLaws

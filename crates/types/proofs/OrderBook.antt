@@ -28,6 +28,7 @@ use Rattle.types.specs.Turns.{usesOf, readyIn, verdictOn, stepOf, addIn,
 use Rattle.types.proofs.NameLaws.{same-lower, lower-same}
 use Rattle.types.proofs.OrderLaws.{Ties, shown, none}
 use Rattle.types.proofs.VerdictLaws.{verdict-name, verdict-never}
+use Rattle.types.proofs.TestLaws.{or-right}
 
 -- ---- a name is found as any other that is the same without case
 
@@ -91,10 +92,6 @@ has-more K n x = go (atomicNamed x)
 
 or-left : (a b : Bool) → a ≡ true → (a || b) ≡ true
 or-left a b e = rw e
-
-or-right : (a b : Bool) → b ≡ true → (a || b) ≡ true
-or-right true b e = refl
-or-right false b e = e
 
 or-cases : (a b : Bool) → (a || b) ≡ true → (a ≡ true) ⊎ (b ≡ true)
 or-cases true b e = inl refl

@@ -56,10 +56,6 @@ pub found-earlier : (known : List (List ℕ)) (s : List ℕ) (ty : Ty) → typeA
     → Earlier (length known) ty
 found-earlier known s ty e = rw e at (found-below known s)
 
-pub earlier-fits : (n : ℕ) → n ≤ 200 → (ty : Ty) → Earlier n ty → TyFits ty
-earlier-fits n l (Atomic a) e = tt
-earlier-fits n l (Struct k) e = omega arith
-
 -- ---- the words that are left
 
 pub record Left (known : List (List ℕ)) (book : List ℕ) (at n : ℕ) (tys₀ tys : List ℕ) (j : ℕ) : Type 0 where

@@ -34,6 +34,7 @@ use Rattle.types.specs.Shape.{boolTag, boolShape, plainShape, shapeOf, p
 use Rattle.types.specs.Tables.{TyFits, typeAt}
 use Rattle.types.specs.Template.{typeIn, idsIn}
 use Rattle.types.specs.Waste.{sizeIn, sizesIn}
+use Rattle.types.proofs.TestLaws.{and-left, and-right}
 
 -- ---- the types that are there
 
@@ -43,14 +44,6 @@ no-row types n h = simp (le-ltb n 200 h)
 pub row-used : (types : List ℕ) (n : ℕ) {d : StructDef} → n < 200 → d ≡ typeAt types n
     → not (eqb (d .id) 0) ≡ isThere types (Struct n)
 row-used types n h e = rw e (simp (lt-ltb n 200 h))
-
-and-left : (a b : Bool) → (a && b) ≡ true → a ≡ true
-and-left true b e = refl
-and-left false b e = e
-
-and-right : (a b : Bool) → (a && b) ≡ true → b ≡ true
-and-right true b e = e
-and-right false b e = cc
 
 pub there-fits : (types : List ℕ) (t : Ty) → isThere types t ≡ true → TyFits t
 there-fits types (Atomic a) e = tt

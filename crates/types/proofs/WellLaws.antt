@@ -12,13 +12,12 @@ use lib.Seq.{getD-append-seam}
 use Rattle.types.specs.declared.member.Bit.{Bit}
 use Rattle.types.specs.declared.member.Bit.the-variants.{None, At}
 use Rattle.types.specs.declared.member.Member.{Member}
-use Rattle.types.specs.declared.member.Ty.{Ty}
-use Rattle.types.specs.declared.member.Ty.the-variants.{Atomic, Struct}
 use Rattle.types.specs.Defs.{Part, Def}
 use Rattle.types.specs.Laid.{Earlier, firstBit, Apart, Clear, Lies, Laid, Every}
 use Rattle.types.specs.Layout.{times}
 use Rattle.types.specs.Registry.{sizeAt, viewOf}
-use Rattle.types.specs.Waste.{sizeIn, bitsOf}
+use Rattle.types.specs.Waste.{bitsOf}
+use Rattle.types.proofs.AgreeLaws.{size-same}
 use Rattle.types.proofs.RegistryLaws.{length-snoc}
 use Rattle.types.proofs.ShortLaws.{ShortPart}
 use Rattle.types.proofs.ShownLaws.{noDef}
@@ -34,12 +33,8 @@ all-before sizes i size [] l = tt
 all-before sizes i size (p ∷ ps) (l, ls) = (l .earlier, all-before sizes i size ps ls)
 
 module _ (f g : ℕ → ℕ) (i : ℕ) (same : (k : ℕ) → k < i → f k ≡ g k) where
-  size-same : (t : Ty) → Earlier i t → sizeIn f t ≡ sizeIn g t
-  size-same (Atomic a) e = refl
-  size-same (Struct n) e = same n e
-
   bits-same : (m : Member) (b : Bit) → Earlier i (m .ty) → bitsOf f b m ≡ bitsOf g b m
-  bits-same m None e = ap (λ (s : ℕ). 8 * (s * times (m .count))) (size-same (m .ty) e)
+  bits-same m None e = ap (λ (s : ℕ). 8 * (s * times (m .count))) (size-same f g i same (m .ty) e)
   bits-same m (At k) e = refl
 
   apart-same : (m n : Member) → Earlier i (m .ty) → Earlier i (n .ty) → Apart f m n → Apart g m n

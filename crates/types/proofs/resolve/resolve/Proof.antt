@@ -9,7 +9,8 @@ use Rattle.types.specs.Lookup.{rowName, rowNames, typeAmong}
 use Rattle.types.specs.Resolve.{typeName, Resolvable}
 use Rattle.types.specs.Tables.{TyFits}
 use Rattle.types.proofs.AgreeLaws.{length-list}
-use Rattle.types.proofs.ResolveLaws.{found-earlier, earlier-fits, Left, left-on, left-stop, left-end}
+use Rattle.types.proofs.DefLaws.{earlier-fits}
+use Rattle.types.proofs.ResolveLaws.{found-earlier, Left, left-on, left-stop, left-end}
 use Rattle.types.proofs.StoreOneLaws.{lent-name}
 use Rattle.types.proofs.resolve.resolve.Statement.{statement}
 use Rattle.types.proofs.resolve.resolve.Tie as tie
