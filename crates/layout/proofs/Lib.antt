@@ -1,0 +1,2 @@
+-- Laws that the proofs of program `layout` share.
+pub mod LineLaws
