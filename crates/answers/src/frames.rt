@@ -2,11 +2,10 @@
 ghost use Prim.Native.Nat.{_≤_};
 ghost use lib.ListN.{length};
 use words::load32;
-use words::store16;
 use words::store32;
 
-// What a question too short for its fields, or of an unknown kind, is answered with.
-pub const NOT_A_QUESTION: u8 = 255;
+// The most bytes of a question or an answer.
+const MOST: usize = 1048576;
 
 // How many bytes a question has, or that there is none: the input ended or was cut short, or the
 // question is longer than its room.
@@ -39,19 +38,26 @@ pub fn read_question(room: &mut [u8]) -> Asked {
     Asked::End
 }
 
-// An answer that is a number and a place and no more.
-pub fn say_refused(number: u8, place: u32) -> bool {
-    let mut out = [0u8; 9];
-    store32(&mut out, 0, 5);
-    store32(&mut out, 5, place);
-    out[4] = number;
-    io::write_all(1, &out)
+// Writes the first n bytes; says whether they could be written.
+fn write_first(out: &[u8], n: usize) -> bool {
+    if out.len() < n {
+        return false;
+    }
+    io::write_all(1, &out[0..n])
 }
 
-// An answer that is one word.
-pub fn say_word(word: u16) -> bool {
-    let mut out = [0u8; 11];
-    store32(&mut out, 0, 7);
-    store16(&mut out, 9, word);
-    io::write_all(1, &out)
+// Writes the answer that ends at a place of the buffer, with its length before it.
+pub fn send(out: &mut [u8], end: usize) -> bool {
+    if end < 4 {
+        return false;
+    }
+    if out.len() < 4 {
+        return false;
+    }
+    let long = end - 4;
+    if MOST < long {
+        return false;
+    }
+    store32(out, 0, long as u32);
+    write_first(out, end)
 }

@@ -1,30 +1,69 @@
 // The program `answers`: the public calls behind questions and answers on standard input and output,
 // each a little-endian u32 length and that many bytes. The first byte of a question is its kind; an
 // answer begins with a refusal's number and place, and what was asked for follows where the number is 0.
-// Here: kind 8, a type's header, and kind 10, the type of a name, before any types are built.
+// The tables live for the run. Here: kinds 1 to 4, 8 and 10.
 ghost use mathlib.Core.Path.{_≡_};
 ghost use lib.ListN.{length};
+ghost use Rattle.types.specs.Kept.{Kept};
+ghost use Rattle.types.specs.Registry.{noTypes, noMembers, noNames};
 
+mod describe;
 mod frames;
 mod kinds;
+mod puts;
+mod shapes;
+mod type_words;
 
 use crate::frames::Asked;
 use crate::frames::read_question;
+use crate::frames::send;
 use crate::kinds::answer;
+use types::MemberTable;
+use types::NameTable;
+use types::TypeTable;
 
 // Answers one question; says whether to go on.
-fn serve_one(question: &mut [u8]) -> bool {
+fn serve_one(
+    question: &mut [u8],
+    out: &mut [u8],
+    types: &mut TypeTable,
+    members: &mut MemberTable,
+    names: &mut NameTable,
+) -> bool
+    requires { ⌜ Kept (now types) (now members) (now names) ⌝ }
+    ensures { λ _. ⌜ Kept (now (types .exit)) (now (members .exit)) (now (names .exit)) ⌝ }
+{
     let asked = read_question(question);
     match asked {
-        Asked::End => false,
-        Asked::Bytes(n) => answer(question, n),
+        Asked::End => {
+            return false;
+        }
+        Asked::Bytes(n) => {
+            if question.len() < n {
+                return false;
+            }
+            let end = answer(&question[0..n], types, members, names, out);
+            return send(out, end);
+        }
     }
 }
 
 // The count only lets the loop be seen to end: no input has as many questions.
-fn serve(question: &mut [u8]) {
+fn serve(
+    question: &mut [u8],
+    out: &mut [u8],
+    types: &mut TypeTable,
+    members: &mut MemberTable,
+    names: &mut NameTable,
+)
+    requires { ⌜ Kept (now types) (now members) (now names) ⌝ }
+{
     let mut turns = u64::MAX;
-    while turns > 0 && serve_one(question) {
+    while turns > 0 {
+        let more = serve_one(question, out, types, members, names);
+        if !more {
+            return;
+        }
         turns -= 1;
     }
 }
@@ -36,7 +75,43 @@ fn room() -> [u8; 1048576]
     [0; 1048576]
 }
 
+// And of the longest answer, with its length, number and place.
+fn answer_room() -> [u8; 1048585]
+    ensures { λ r. ⌜ 1048585 ≡ length r ⌝ }
+{
+    [0; 1048585]
+}
+
+// Tables of no types.
+fn no_types() -> TypeTable
+    ensures { λ r. ⌜ r ≡ noTypes ⌝ }
+{
+    [0; 1600]
+}
+
+fn no_members() -> MemberTable
+    ensures { λ r. ⌜ r ≡ noMembers ⌝ }
+{
+    [0; 16000]
+}
+
+fn no_names() -> NameTable
+    ensures { λ r. ⌜ r ≡ noNames ⌝ }
+{
+    [0; 32768]
+}
+
 fn main() {
     let mut question = room();
-    serve(&mut question);
+    let mut out = answer_room();
+    let mut types = no_types();
+    let mut members = no_members();
+    let mut names = no_names();
+    serve(
+        &mut question,
+        &mut out,
+        &mut types,
+        &mut members,
+        &mut names,
+    );
 }

@@ -1,43 +1,50 @@
--- `answers::serve` is safe and ends: the measure is the number of turns that are left.
-use native.Mathlib.Omega.{arith}
+-- `answers::serve` is safe and ends: the tables stay kept, and the measure is the number of turns that are left.
 use borrow.Author.Needs.{needs}
 use mathlib.Core.Path.{_≡_}
 use lib.ListN.{length}
+use Rattle.types.specs.Kept.{Kept}
 use Rattle.answers.proofs.serve.Statement.{statement}
 use Rattle.answers.proofs.serve.Tie as tie
 
 abbrev Inv-loop : tie.InvT-loop
-Inv-loop question₀ turns₀ question turns = length question ≡ length question₀
+Inv-loop question₀ out₀ types₀ members₀ names₀ turns₀ question out types members names turns =
+    Kept types members names × ((length question ≡ length question₀) × (length out ≡ length out₀))
 
 abbrev μ-loop : tie.MeasureT-loop
-μ-loop question₀ turns₀ question turns = turns
+μ-loop question₀ out₀ types₀ members₀ names₀ turns₀ question out types members names turns = turns
 
 loop-holds : tie.Need-loop-holds Inv-loop μ-loop
 loop-holds c = search needs
 
 serve-one-requires : tie.Need-serve-one-requires Inv-loop μ-loop
-serve-one-requires c κs = tt
-
-sub-turns : tie.Need-sub-turns Inv-loop μ-loop
-sub-turns c = omega arith
-
-loop-less : tie.Need-loop-less Inv-loop μ-loop
-loop-less c = omega arith
-
-loop-again : tie.Need-loop-again Inv-loop μ-loop
-loop-again c = search needs
+serve-one-requires c κs = search needs
 
 same-length : tie.Need-same-length Inv-loop μ-loop
 same-length c = search needs
 
-returns : tie.Need-returns Inv-loop μ-loop
-returns c = tt
-
 same-length-2 : tie.Need-same-length-2 Inv-loop μ-loop
 same-length-2 c = search needs
 
+returns : tie.Need-returns Inv-loop μ-loop
+returns c = search needs
+
+sub-turns : tie.Need-sub-turns Inv-loop μ-loop
+sub-turns c = search needs
+
+loop-less : tie.Need-loop-less Inv-loop μ-loop
+loop-less c = search needs
+
+loop-again : tie.Need-loop-again Inv-loop μ-loop
+loop-again c = search needs
+
+same-length-3 : tie.Need-same-length-3 Inv-loop μ-loop
+same-length-3 c = search needs
+
+same-length-4 : tie.Need-same-length-4 Inv-loop μ-loop
+same-length-4 c = search needs
+
 returns-2 : tie.Need-returns-2 Inv-loop μ-loop
-returns-2 c = tt
+returns-2 c = search needs
 
 pub serve-spec : {M : Type 1} → statement M
 serve-spec =
@@ -47,10 +54,12 @@ serve-spec =
     μ-loop
     loop-holds
     serve-one-requires
+    same-length
+    same-length-2
+    returns
     sub-turns
     loop-less
     loop-again
-    same-length
-    returns
-    same-length-2
+    same-length-3
+    same-length-4
     returns-2)

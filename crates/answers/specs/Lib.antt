@@ -1,0 +1,2 @@
+-- The few definitions that the program's contracts cite.
+pub mod Fits

@@ -1,0 +1,165 @@
+// Kind 2: a type of the tables, whole, with its members.
+ghost use Prim.Native.Nat.{_<_};
+ghost use Rattle.types.specs.Kept.{Kept};
+ghost use Rattle.types.specs.Registry.{typeCount};
+use crate::puts::accept;
+use crate::puts::malformed;
+use crate::puts::put_count;
+use crate::puts::put_name;
+use crate::puts::put8;
+use crate::puts::put16;
+use crate::puts::put32;
+use crate::puts::put64;
+use crate::puts::refuse;
+use crate::type_words::word_of_ty;
+use types::Bit;
+use types::Member;
+use types::MemberTable;
+use types::NameTable;
+use types::Refusal;
+use types::StructDef;
+use types::StructKind;
+use types::TypeTable;
+use types::member_at;
+use types::name_at;
+use types::object_definition_size;
+use types::template_len;
+use types::type_at;
+use types::type_count;
+use types::waste;
+use words::load16;
+use words::wide;
+use words::wide16;
+
+// The rows of the members' table.
+const MEMBERS: usize = 2000;
+
+fn kind_byte(kind: StructKind) -> u8 {
+    match kind {
+        StructKind::Udt => 0,
+        StructKind::Predefined => 1,
+        StructKind::Str => 2,
+        StructKind::Aoi => 3,
+    }
+}
+
+// 255 for no bit.
+fn bit_byte(bit: Bit) -> u8 {
+    match bit {
+        Bit::None => 255,
+        Bit::At(k) => k,
+    }
+}
+
+// 1 for hidden, and 2 for local.
+fn flags_byte(hidden: bool, local: bool) -> u8 {
+    if hidden {
+        if local {
+            return 3;
+        }
+        return 1;
+    }
+    if local {
+        return 2;
+    }
+    0
+}
+
+// A member's fields after its name.
+fn put_member_fields(m: Member, out: &mut [u8], at: usize) -> usize {
+    let ty = m.ty;
+    let bit = m.bit;
+    let k1 = put16(out, at, word_of_ty(ty));
+    let k2 = put32(out, k1, m.count);
+    let k3 = put32(out, k2, m.offset);
+    let k4 = put8(out, k3, bit_byte(bit));
+    let k5 = put8(out, k4, flags_byte(m.hidden, m.local));
+    put8(out, k5, m.access)
+}
+
+// The member in a row, where there is such a row.
+fn put_member(members: &MemberTable, names: &[u8], row: usize, out: &mut [u8], at: usize) -> usize {
+    if MEMBERS <= row {
+        return at;
+    }
+    let m = member_at(members, row);
+    let name = name_at(members, row);
+    let k = put_name(out, at, names, name);
+    put_member_fields(m, out, k)
+}
+
+// The members of a structure, with their number before them.
+fn put_members(
+    members: &MemberTable,
+    names: &[u8],
+    d: StructDef,
+    out: &mut [u8],
+    at: usize,
+) -> usize {
+    let first = wide(d.first);
+    let n = wide(d.count);
+    let mut k = put_count(out, at, d.count);
+    let mut i: usize = 0;
+    while i < n {
+        k = put_member(members, names, first + i, out, k);
+        i += 1;
+    }
+    k
+}
+
+// A structure's own fields, to its kind.
+fn put_row(names: &[u8], d: StructDef, out: &mut [u8], at: usize) -> usize {
+    let name = d.name;
+    let kind = d.kind;
+    let k1 = put_name(out, at, names, name);
+    let k2 = put16(out, k1, d.id);
+    let k3 = put16(out, k2, d.handle);
+    let k4 = put32(out, k3, d.size);
+    put8(out, k4, kind_byte(kind))
+}
+
+// What is computed of a structure.
+fn put_sizes(bytes: u32, bits: u64, out: &mut [u8], at: usize) -> usize {
+    let k1 = put32(out, at, bytes);
+    let k2 = put32(out, k1, object_definition_size(bytes));
+    put64(out, k2, bits)
+}
+
+// The structure in a row.
+fn put_type(
+    types: &TypeTable,
+    members: &MemberTable,
+    names: &NameTable,
+    i: usize,
+    out: &mut [u8],
+) -> usize
+    requires { ⌜ Kept (now types) (now members) (now names) × (i < typeCount (now types)) ⌝ }
+{
+    let d = type_at(types, i);
+    let bytes = template_len(types, members, names, d);
+    let bits = waste(types, members, d);
+    let k1 = accept(out);
+    let k2 = put_row(names, d, out, k1);
+    let k3 = put_sizes(bytes, bits, out, k2);
+    put_members(members, names, d, out, k3)
+}
+
+pub fn describe(
+    rest: &[u8],
+    types: &TypeTable,
+    members: &MemberTable,
+    names: &NameTable,
+    out: &mut [u8],
+) -> usize
+    requires { ⌜ Kept (now types) (now members) (now names) ⌝ }
+{
+    if rest.len() < 2 {
+        return malformed(out);
+    }
+    let i = wide(wide16(load16(rest, 0)));
+    let n = type_count(types);
+    if n <= i {
+        return refuse(out, Refusal::NoSuchType);
+    }
+    put_type(types, members, names, i, out)
+}
