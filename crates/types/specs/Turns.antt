@@ -1,5 +1,5 @@
--- One type's turn in a round (document 01, "Order of building"): it waits until all its member types are known, then it is
--- added or refused; and the rounds over a book's types.
+-- One type's turn in a round (document 01, "Order of building"): it waits until all its member types are known, then it
+-- is added or refused; and the rounds over a book's types.
 use Prim.Native.Nat.{ℕ, zero, suc, _+_, _*_, _<_, _≤_}
 use mathlib.Core.Path.{_≡_}
 use mathlib.Core.Bool.{Bool, true, false}

@@ -77,8 +77,8 @@ fn add_members(
     u: Used,
 ) -> Turn
     requires { ⌜ Addable (now types) (now members) (now names) (now book) (now tys) (now name) u at n ⌝ }
-    ensures { λ r. ⌜ Took (addMembers (viewIn (now (types .entry)) (now (names .entry)) u) (now (book .entry)) i at n aoi
-        (now (name .entry)) id (declsFrom (now (types .entry)) (now (book .entry)) (now (tys .entry)) at 0 n)) u
+    ensures { λ r. ⌜ Took (addMembers (viewIn (now (types .entry)) (now (names .entry)) u) (now (book .entry)) i at n
+        aoi (now (name .entry)) id (declsFrom (now (types .entry)) (now (book .entry)) (now (tys .entry)) at 0 n)) u
         (now (types .entry)) (now (members .entry)) (now (names .entry))
         (now (types .exit)) (now (members .exit)) (now (names .exit)) r ⌝ }
 {

@@ -22,7 +22,8 @@ pub enum FoundTy {
 
 // The structure in a row has a name. A name of another length is told apart without being read.
 fn row_named(types: &TypeTable, names: &[u8], i: usize, name: &[u8]) -> bool
-    requires { ⌜ (i < 200) × (typeAt (now types) i .name .at + typeAt (now types) i .name .long ≤ length (now names)) ⌝ }
+    requires { ⌜ (i < 200)
+        × (typeAt (now types) i .name .at + typeAt (now types) i .name .long ≤ length (now names)) ⌝ }
     ensures { λ r. ⌜ r ≡ sameName (rowName (now (types .entry)) (now (names .entry)) i) (now (name .entry)) ⌝ }
 {
     let long = wide(types[TYPE_WORDS * i + 1]);
