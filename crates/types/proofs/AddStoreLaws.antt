@@ -116,7 +116,8 @@ module _ (types members names : List ℕ) (u : Used) (name : List ℕ) (id size 
         (head-readable members (u .members) (u .bytes) (u .types) bare m a b (ready .rows .few) fit)
 
     -- the verdict was carried out
-    pub took-new : (k : length names ≡ 32768) (i : ℕ) (r : Bool) → r ≡ hasRoom u (length parts) (length (name ++ namesOf parts))
+    pub took-new : (k : length names ≡ 32768) (i : ℕ) (r : Bool)
+        → r ≡ hasRoom u (length parts) (length (name ++ namesOf parts))
         → r ≡ true → {t′ m′ n′ : List ℕ}
         → m′ ≡ sets members (8 * u .members) (rowsOf (u .bytes + length name) parts)
         → n′ ≡ sets (sets names (u .bytes) name) (u .bytes + length name) (namesOf parts)

@@ -32,7 +32,8 @@ stored-earlier i t dim e = go (boolArray t dim)
     go false = e
 
 module _ (types book tys : List ℕ) (at i : ℕ) where
-  pub decl-resolved : (j : ℕ) → Earlier i (tyOf (getD tys j 0)) → Resolved (sizesIn types) i (declAt types book tys at j)
+  pub decl-resolved : (j : ℕ) → Earlier i (tyOf (getD tys j 0)) → Resolved (sizesIn types) i
+      (declAt types book tys at j)
   unfolding declAt resolved
   decl-resolved j e =
       let ty = storedTy (tyOf (getD tys j 0)) (wordAt 4 book (at + 16 * j + 8)) in

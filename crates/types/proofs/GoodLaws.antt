@@ -1,4 +1,5 @@
--- What every caller may count on in the tables of a registry that our own calls made: each type can be read, counted and
+-- What every caller may count on in the tables of a registry that our own calls made: each type can be read, counted
+-- and
 -- listed, and is laid out well.
 use Prim.Native.Nat.{ℕ, zero, suc, _+_, _*_, _^_, _<_, _≤_}
 use native.Mathlib.Omega.{arith}
@@ -121,7 +122,8 @@ module _ (ds : List Def) (g : Good ds) where
     pub good-countable : Countable types members (typeAt types i)
     good-countable =
         record {
-          rows = all-readable ds (g .shown) i (omega (arith, g .shown .few)) (λ e. r .used (sym (ap (λ (h : StructDef). h .id) (r .head)) ∙ e));
+          rows = all-readable ds (g .shown) i (omega (arith, g .shown .few)) (λ e. r .used (sym (ap (λ
+              (h : StructDef). h .id) (r .head)) ∙ e));
           small = rw (r .head)
               (λ k h b. small (memberAt members (r .row + k)) (drop (suc k) (d .parts))
               (rw (member-is k h) (part-lies (sizesIn types) i (d .size) noPart (d .parts) k def-laid h)) b);
@@ -165,5 +167,6 @@ module _ (ds : List Def) (g : Good ds) where
         rows = good-countable ds g i l;
         name = name-short ds g i l;
         names = rw (r .head) (λ k h. member-short ds g i l k h);
-        tys = rw (r .head) (λ k h. type-named i l (memberAt (membersTable ds) (r .row + k) .ty) (r .within k h .earlier));
+        tys = rw (r .head) (λ k h. type-named i l (memberAt (membersTable ds) (r .row + k) .ty)
+            (r .within k h .earlier));
       }

@@ -19,7 +19,8 @@ module _ (name : ℕ → List ℕ) (s : List ℕ) (n i : ℕ) where
         let g : sameName (name i) s ≡ true = sym e ∙ q in
         rw f (rw g)
 
-    pub named-later : b ≡ false → namedAmong (listFrom name i (n - i)) s i ≡ namedAmong (listFrom name (i + 1) (n - (i + 1))) s (i + 1)
+    pub named-later : b ≡ false → namedAmong (listFrom name i (n - i)) s i
+        ≡ namedAmong (listFrom name (i + 1) (n - (i + 1))) s (i + 1)
     unfolding namedAmong listFrom
     named-later q =
         let f : n - i ≡ suc (n - (i + 1)) = omega arith in

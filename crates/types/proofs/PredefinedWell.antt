@@ -1,36 +1,52 @@
 -- The predefined types are laid out well (document 01, "Layout", Predefined).
 use Prim.Native.Nat.{ℕ, _≤_}
 use native.Mathlib.Omega.{arith}
+use mathlib.Core.Path.{refl}
 use mathlib.Core.List.{List, [], _∷_}
 use lib.ListN.{length}
 use Rattle.types.specs.Defs.{Def}
 use Rattle.types.specs.Add.{newDef}
-use Rattle.types.specs.Laid.{Every}
+use Rattle.types.specs.Book.{every}
 use Rattle.types.specs.Layout.{alignUp}
 use Rattle.types.specs.Predefined.{withTimer, withCounter, withControl, predefined}
 use Rattle.types.specs.Structs.{timerParts, counterParts, controlTypeParts, stringSize}
 use Rattle.types.proofs.LaidLaws.{control-laid, string-laid}
-use Rattle.types.proofs.ShortLaws.{control-short, string-short}
+use Rattle.types.proofs.ShortLaws.{all-short, control-short, string-short}
 use Rattle.types.proofs.WellLaws.{Well, WellMade, sizesOf, well-none, well-more}
 
 module _ (timer counter control string : ℕ) where
   timer-well : Well (withTimer timer)
-  unfolding withTimer newDef timerParts Every
+  unfolding withTimer newDef timerParts every
   timer-well =
       well-more [] _ well-none
-      (record { laid = control-laid (sizesOf []) 0 _ _ _ (omega arith); most = omega arith; long = omega arith; short = control-short _ _ _ (omega arith) (omega arith) (omega arith, (omega arith, (omega arith, tt))) })
+      (record {
+        laid = control-laid (sizesOf []) 0 _ _ _ (omega arith);
+        most = omega arith;
+        long = omega arith;
+        short = control-short _ _ _ (omega arith) (omega arith) (all-short _ refl);
+      })
 
   counter-well : Well (withCounter timer counter)
-  unfolding withCounter newDef counterParts Every
+  unfolding withCounter newDef counterParts every
   counter-well =
       well-more (withTimer timer) _ timer-well
-      (record { laid = control-laid (sizesOf (withTimer timer)) _ _ _ _ (omega arith); most = omega arith; long = omega arith; short = control-short _ _ _ (omega arith) (omega arith) (omega arith, (omega arith, (omega arith, (omega arith, (omega arith, tt))))) })
+      (record {
+        laid = control-laid (sizesOf (withTimer timer)) _ _ _ _ (omega arith);
+        most = omega arith;
+        long = omega arith;
+        short = control-short _ _ _ (omega arith) (omega arith) (all-short _ refl);
+      })
 
   control-well : Well (withControl timer counter control)
-  unfolding withControl newDef controlTypeParts Every
+  unfolding withControl newDef controlTypeParts every
   control-well =
       well-more (withCounter timer counter) _ counter-well
-      (record { laid = control-laid (sizesOf (withCounter timer counter)) _ _ _ _ (omega arith); most = omega arith; long = omega arith; short = control-short _ _ _ (omega arith) (omega arith) (omega arith, (omega arith, (omega arith, (omega arith, (omega arith, (omega arith, (omega arith, (omega arith, tt)))))))) })
+      (record {
+        laid = control-laid (sizesOf (withCounter timer counter)) _ _ _ _ (omega arith);
+        most = omega arith;
+        long = omega arith;
+        short = control-short _ _ _ (omega arith) (omega arith) (all-short _ refl);
+      })
 
   pub predefined-well : Well (predefined timer counter control string)
   unfolding predefined newDef stringSize alignUp

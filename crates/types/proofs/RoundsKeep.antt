@@ -28,7 +28,8 @@ record Added (s : Verdict) (ds ds′ : List Def) : Type 0 where
   pub is : s ≡ for def
   pub next : ds′ ≡ ds ++ def ∷ []
 
-step-added : (s : Verdict) (ds ds′ : List Def) → _≡_ {A = Step (List Def) Refusal} (stepOf s ds) (ok ds′) → Added s ds ds′
+step-added : (s : Verdict) (ds ds′ : List Def) → _≡_ {A = Step (List Def) Refusal} (stepOf s ds) (ok ds′)
+    → Added s ds ds′
 step-added (for d) ds ds′ e = record { def = d; is = refl; next = cc }
 step-added (against r) ds ds′ e = record { def = noDef; is = cc; next = cc }
 

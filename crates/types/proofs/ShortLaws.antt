@@ -5,13 +5,15 @@ use native.Mathlib.Omega.{arith}
 use mathlib.Core.Path.{_≡_, refl, sym}
 use mathlib.Core.Bool.{Bool, true, false, cond, not, _&&_}
 use mathlib.Core.List.{List, [], _∷_, _++_}
-use lib.Dec.{eqb, ltb}
+use borrow.Author.Tests.{leb-true}
+use lib.Dec.{eqb, leb, ltb}
 use lib.ListN.{length, length-append}
 use Rattle.types.specs.declared.book.MemberEntry.{MemberEntry}
 use Rattle.types.specs.declared.checks.Checked.{Checked}
 use Rattle.types.specs.declared.checks.Checked.the-variants.{Good, NameWrong, Twice, LocalOutside}
 use Rattle.types.specs.declared.layout.Cursor.{Cursor}
 use Rattle.types.specs.declared.layout.Decl.{Decl}
+use Rattle.types.specs.Book.{every}
 use Rattle.types.specs.Checks.{among, checked}
 use Rattle.types.specs.Defs.{Part, nameIn}
 use Rattle.types.specs.Digits.{digits, hostName, bitHost, bitHostName}
@@ -24,6 +26,7 @@ use Rattle.types.proofs.AddLaws.{every-append}
 use Rattle.types.proofs.AddTypeLaws.{good-long}
 use Rattle.types.proofs.DigitLaws.{digits-most, host-most}
 use Rattle.types.proofs.PlaceLaws.{place-cases}
+use Rattle.types.proofs.TestLaws.{and-left, and-right}
 
 abbrev pub ShortPart : Part → Type 0
 ShortPart p = length (p .name) ≤ 40
@@ -44,7 +47,8 @@ module _ (book type : List ℕ) where
   parts-short c (d ∷ ds) (a, rest) =
       place-cases
       (λ p. Every ShortPart
-      (thenParts p (hostName type (c .members)) (namedIn book d) (λ c′. partsFrom (namedIn book) (hostName type) c′ ds)))
+      (thenParts p (hostName type (c .members)) (namedIn book d) (λ c′. partsFrom (namedIn book)
+      (hostName type) c′ ds)))
       c d
       (record {
         wrong = λ q. tt;
@@ -92,6 +96,16 @@ pub control-short : (one two : List ℕ) (bits : List (List ℕ)) → length one
     → Every (λ (s : List ℕ). length s ≤ 40) bits → Every ShortPart (controlParts one two bits)
 unfolding controlParts Every
 control-short one two bits a b c = (omega arith, (a, (b, status-short 0 bits c)))
+
+-- names that a computed test finds short
+pub all-short : (names : List (List ℕ)) → every (λ (s : List ℕ). leb (length s) 40) names ≡ true
+    → Every (λ (s : List ℕ). length s ≤ 40) names
+unfolding every Every
+all-short [] e = tt
+all-short (s ∷ names) e = (
+  leb-true _ _ (and-left (leb (length s) 40) _ e),
+  all-short names (and-right (leb (length s) 40) _ e),
+)
 
 -- ---- members that were checked
 

@@ -125,7 +125,8 @@ module _ (types names book tys : List ℕ) (u : Used) (at n : ℕ) where
         × (getD (foundWords (view .names) uses) k 0 ≡ tyWord (w .ty))
         = rw zero-add at (words-at (view .names) (typeName book at) 0 n a k h) in
         let s : getD scratch k 0 ≡ getD (foundWords (view .names) uses) k 0
-        = rw zero-add at (getD-sets tys 0 (foundWords (view .names) uses) k 0 (omega (arith, long)) (omega (arith, long)))
+        = rw zero-add at (getD-sets tys 0 (foundWords (view .names) uses) k 0 (omega (arith, long)) (omega
+        (arith, long)))
         in
         (r .0, ap tyOf (s ∙ r .1) ∙ ty-back (r .0 .ty))
 
@@ -164,7 +165,8 @@ module _ (types names book tys : List ℕ) (u : Used) (at n : ℕ) where
             → _≡_ {A = List Decl}
             (declared (sizesIn types) (tyOf (getD scratch j 0)) (entryOf book at j)
             ∷ declsFrom types book scratch at (j + 1) m)
-            (thenDecl (typeAmong (view .names) (typeName book at j)) (λ ty. declared (sizeAt view) ty (entryOf book at j))
+            (thenDecl (typeAmong (view .names) (typeName book at j)) (λ ty. declared (sizeAt view) ty
+            (entryOf book at j))
             (declsOf view book (entriesFrom book at (j + 1) m)))
         go (w, q) rest =
             rw (w .is, q, rest)

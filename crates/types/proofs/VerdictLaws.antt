@@ -152,7 +152,8 @@ module _ (v : View) (book : List ℕ) (i at : ℕ) (e : TypeEntry) (name : List 
     unfolding addString
     string-ends =
         either Ends (stringOk e) _ _
-        (λ q. fitted-ends _ Str _ (λ n a. string-fits n (e .string)) (λ n r. string-laid (sizeAt v) n (e .string) (string-least e q))
+        (λ q. fitted-ends _ Str _ (λ n a. string-fits n (e .string)) (λ n r. string-laid (sizeAt v) n (e .string)
+        (string-least e q))
         (λ l. omega (arith, string-most (e .string) (string-room e q))) (string-short (e .string)))
         (λ q z. omega arith)
 

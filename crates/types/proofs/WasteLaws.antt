@@ -61,4 +61,8 @@ module _ {types members : List ℕ} {first n bits i : ℕ} (w : Counting types m
 -- a row of a structure that can be counted
 pub row-fitting : {types members : List ℕ} {d : StructDef} {first n i : ℕ} → first ≡ d .first → n ≡ d .count → i < n
     → Countable types members d → Fitting types (memberAt members (first + i))
-row-fitting p q h r = record { ty = row-type p q h (r .rows); small = λ b. rw p (r .small _ (omega arith) (rw (← p) b)) }
+row-fitting p q h r = record {
+  ty = row-type p q h (r .rows);
+  small = λ b. rw p (r .small _ (omega arith) (rw
+      (← p) b));
+}

@@ -55,7 +55,8 @@ returns-2 c =
     let told = c .before .before .before .before in
     let found = told .before .before in
     let good = found .before .before .before .before .before in
-    took-so (entry-fresh _ _ _ _ _ _ _ _ (good .good-name .ensures) (found .before .before .before .before .if1 .taken) _
+    took-so (entry-fresh _ _ _ _ _ _ _ _ (good .good-name .ensures)
+    (found .before .before .before .before .if1 .taken) _
     (looked found) (told .enum-told2 .given .1)) (c .add-fresh .ensures)
 
 returns-3 : tie.Need-returns-3

@@ -49,7 +49,12 @@ returns-3 : tie.Need-returns-3
 returns-3 c =
     let aoi = c .before .before .before .before in
     let n = aoi .before in
-    rw (named-members _ _ _ _ _ _ _ _ _ (n .before .before .is-string .ensures) (n .before .if1 .left), ← n .count-of .ensures .0, ← aoi .is-aoi .ensures)
+    rw (
+      named-members _ _ _ _ _ _ _ _ _ (n .before .before .is-string .ensures)
+          (n .before .if1 .left),
+      ← n .count-of .ensures .0,
+      ← aoi .is-aoi .ensures,
+    )
     (c .add-members .ensures)
 
 pub add-named-spec : {M : Type 1} → statement M

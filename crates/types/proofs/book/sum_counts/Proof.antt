@@ -44,7 +44,8 @@ loop-again : tie.Need-loop-again Inv-loop μ-loop
 loop-again c =
     let at-loop = c .before .before .before in
     sum-on (at-loop .loop .inv) (c .before .before .loop-test .taken)
-    (c .count-of .ensures .0 ∙ ap (λ (e : TypeEntry). e .count) (c .before .type-entry .ensures)) (c .count-of .ensures .1)
+    (c .count-of .ensures .0 ∙ ap (λ (e : TypeEntry). e .count) (c .before .type-entry .ensures))
+    (c .count-of .ensures .1)
 
 returns : tie.Need-returns Inv-loop μ-loop
 returns c = sum-done (c .before .loop .inv) (c .loop-test .left)

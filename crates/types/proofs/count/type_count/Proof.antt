@@ -35,7 +35,8 @@ returns : tie.Need-returns Inv-loop μ-loop
 returns c =
     let at-loop = c .before .before .before in
     sym (at-loop .loop .inv .1
-    ∙ count-stop (idWord (at-loop .before .args .types .now)) 200 (at-loop .loop .i) (c .before .before .loop-test .taken)
+    ∙ count-stop (idWord (at-loop .before .args .types .now)) 200 (at-loop .loop .i)
+    (c .before .before .loop-test .taken)
     (c .if1 .taken))
 
 add-i : tie.Need-add-i Inv-loop μ-loop

@@ -36,7 +36,8 @@ returns c =
     let at-loop = c .before .before .before in
     let a = at-loop .before .args in
     sym (at-loop .loop .inv .1
-    ∙ use-here (idWord (a .types .now)) (a .id) (a .n) (at-loop .loop .i) (c .before .before .loop-test .taken) (c .if1 .taken))
+    ∙ use-here (idWord (a .types .now)) (a .id) (a .n) (at-loop .loop .i) (c .before .before .loop-test .taken)
+    (c .if1 .taken))
 
 add-i : tie.Need-add-i Inv-loop μ-loop
 add-i c = omega arith

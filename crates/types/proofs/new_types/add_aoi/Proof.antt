@@ -165,7 +165,8 @@ returns-3 c =
     let known = h .before .before .before .before .before .before .before .before in
     let s = start (h .before .before .before .before) in
     rw (c .used-more .ensures, c .before .wide3 .ensures, h .before .before .wide .ensures)
-    (aoi-took (s .pre .usable) (s .pre .declared) _ (laid h) (room h) (t .if1 .taken) (bytes known) _ (s .pre .rows) _ _ (s .pre .bytes)
+    (aoi-took (s .pre .usable) (s .pre .declared) _ (laid h) (room h) (t .if1 .taken) (bytes known) _
+    (s .pre .rows) _ _ (s .pre .bytes)
     (stored .store-aoi .ensures .0)
     (stored .store-aoi .ensures .1 ∙ rw (put .put-bytes .ensures))
     (entered .enter .ensures ∙ rw (head .bare-head .ensures, size .size-at .ensures)))

@@ -15,7 +15,8 @@ fits : (c : tie.Then1)
     Roomy (a .u) 2 (length (a .name .now) + 7)
 fits c =
     let s = c .before .before .before in
-    string-room (s .pre .0 .usable) (s .args .name .now) (s .args .capacity) (c .before .has-room .ensures) (c .if1 .taken)
+    string-room (s .pre .0 .usable) (s .args .name .now) (s .args .capacity) (c .before .has-room .ensures)
+    (c .if1 .taken)
 
 add-bytes : tie.Need-add-bytes
 add-bytes c = search needs
@@ -69,7 +70,8 @@ returns c =
     let t = size .before in
     let s = t .before .before .before in
     rw (c .used-more .ensures)
-    (string-took (s .pre .0 .usable) _ _ (t .before .has-room .ensures) (t .if1 .taken) _ (s .pre .0 .rows) _ _ (s .pre .0 .bytes)
+    (string-took (s .pre .0 .usable) _ _ (t .before .has-room .ensures) (t .if1 .taken) _ (s .pre .0 .rows) _ _
+    (s .pre .0 .bytes)
     (stored .put-string .ensures .0)
     (stored .put-string .ensures .1 ∙ rw (put .put-bytes .ensures))
     (entered .enter .ensures ∙ rw (head .bare-head .ensures, size .string-size .ensures)))

@@ -31,7 +31,8 @@ returns : tie.Need-returns
 returns c =
     let m = c .before .before in
     let s = m .before .before .before .before .before in
-    udt-access _ _ _ _ _ _ _ _ _ _ _ (s .pre .usable) (s .pre .declared) (sym (c .enum-told .given .1) ∙ m .measure-udt .ensures)
+    udt-access _ _ _ _ _ _ _ _ _ _ _ (s .pre .usable) (s .pre .declared) (sym (c .enum-told .given .1)
+    ∙ m .measure-udt .ensures)
 
 enum-told-2 : tie.Need-enum-told-2
 enum-told-2 c = search needs
@@ -40,7 +41,8 @@ returns-2 : tie.Need-returns-2
 returns-2 c =
     let m = c .before .before in
     let s = m .before .before .before .before .before in
-    udt-far _ _ _ _ _ _ _ _ _ _ _ (s .pre .usable) (s .pre .declared) (sym (c .enum-told2 .given .1) ∙ m .measure-udt .ensures)
+    udt-far _ _ _ _ _ _ _ _ _ _ _ (s .pre .usable) (s .pre .declared) (sym (c .enum-told2 .given .1)
+    ∙ m .measure-udt .ensures)
 
 enum-known-m : tie.Need-enum-known-m
 enum-known-m c = search needs
@@ -78,7 +80,8 @@ size-at-requires : tie.Need-size-at-requires
 size-at-requires c κs =
     let h = c .before in
     let s = h .before .before .before .before .before .before .before .before .before .before .before in
-    udt-near _ (s .args .members .now) _ _ _ _ _ _ 0 0 _ (s .pre .usable) (s .pre .declared) _ _ (laid h) _ (room h) (c .if1 .taken)
+    udt-near _ (s .args .members .now) _ _ _ _ _ _ 0 0 _ (s .pre .usable) (s .pre .declared) _ _ (laid h) _
+    (room h) (c .if1 .taken)
 
 add-place : tie.Need-add-place
 add-place c = search needs
@@ -91,7 +94,8 @@ fits : (c : tie.Then1)
 fits c =
     let h = c .before in
     let s = h .before .before .before .before .before .before .before .before .before .before .before in
-    udt-room _ (s .args .members .now) _ _ _ _ _ _ 0 0 _ (s .pre .usable) (s .pre .declared) _ _ (laid h) _ (room h) (c .if1 .taken)
+    udt-room _ (s .args .members .now) _ _ _ _ _ _ 0 0 _ (s .pre .usable) (s .pre .declared) _ _ (laid h) _
+    (room h) (c .if1 .taken)
 
 put-bytes-requires : tie.Need-put-bytes-requires
 put-bytes-requires c κs = omega (arith, fits (c .before .before .before) .bytes)
@@ -101,7 +105,8 @@ store-udt-requires c κs =
     let t = c .before .before .before .before .before .before .before in
     let h = t .before in
     let s = h .before .before .before .before .before .before .before .before .before .before .before in
-    udt-storable _ (s .args .members .now) _ _ _ _ _ _ 0 0 _ (s .pre .usable) (s .pre .declared) _ _ (laid h) _ (room h) (t .if1 .taken)
+    udt-storable _ (s .args .members .now) _ _ _ _ _ _ 0 0 _ (s .pre .usable) (s .pre .declared) _ _ (laid h) _
+    (room h) (t .if1 .taken)
 
 bare-head-requires : tie.Need-bare-head-requires
 bare-head-requires c κs =
@@ -119,7 +124,8 @@ enter-requires c κs =
     let s = known .before .before .before in (
       fits t .types,
       rw (c .before .before .before .bare-head .ensures, size .size-at .ensures, stored .store-udt .ensures .0)
-          (udt-readable _ _ _ _ _ _ _ _ _ 0 _ (s .pre .usable) (s .pre .declared) _ _ (laid h) _ (room h) (t .if1 .taken)
+          (udt-readable _ _ _ _ _ _ _ _ _ 0 _ (s .pre .usable) (s .pre .declared) _ _ (laid h) _ (room h)
+          (t .if1 .taken)
           (bytes known) (s .pre .rows)),
     )
 
@@ -130,8 +136,14 @@ used-more-requires : tie.Need-used-more-requires
 used-more-requires c κs =
     let e = c .before in
     let t = e .before .before .before .before .before .before .before .before .before .before .before .before .before in
-    let f = fits t in
-    (f .types, (omega (arith, f .members, c .wide3 .ensures), omega (arith, f .bytes, t .before .before .before .wide .ensures)))
+    let f = fits t in (
+      f .types,
+      (
+        omega (arith, f .members, c .wide3 .ensures),
+        omega
+            (arith, f .bytes, t .before .before .before .wide .ensures),
+      ),
+    )
 
 returns-3 : tie.Need-returns-3
 returns-3 c =

@@ -74,7 +74,8 @@ looked : (c : tie.After-lookup Inv-loop μ-loop)
     → let at-loop = c .before .before .before .before .before .before .before in
     let a = at-loop .before .before .before .before .args in
     c .lookup .result
-    ≡ typeAmong (rowNames (a .types .now) (a .names .now) (a .known)) (typeName (a .book .now) (a .at) (at-loop .loop .j))
+    ≡ typeAmong (rowNames (a .types .now) (a .names .now) (a .known)) (typeName (a .book .now) (a .at)
+    (at-loop .loop .j))
 looked c =
     let wide = c .before .before in
     c .lookup .ensures
@@ -114,7 +115,8 @@ returns c =
     let found = c .before .before in
     let at-loop = found .before .before .before .before .before .before .before in
     left-stop _ _ _ _ (at-loop .loop .j) (at-loop .loop .inv .1 .1)
-    (found .before .before .before .before .before .before .loop-test .taken) (sym (looked found) ∙ c .enum-told .given .1)
+    (found .before .before .before .before .before .before .loop-test .taken) (sym (looked found)
+    ∙ c .enum-told .given .1)
 
 add-j : tie.Need-add-j Inv-loop μ-loop
 add-j c = omega arith

@@ -20,7 +20,8 @@ count-of-requires c κs = search needs
 
 -- the number of members is the entry's
 counted : (c : tie.After-count-of)
-    → c .count-of .result ≡ countOf (c .before .before .before .before .args .book .now) (c .before .before .before .before .args .i)
+    → c .count-of .result ≡ countOf (c .before .before .before .before .args .book .now)
+    (c .before .before .before .before .args .i)
 counted c = c .count-of .ensures .0 ∙ ap (λ (e : TypeEntry). e .count) (c .before .type-entry .ensures)
 
 resolve-requires : tie.Need-resolve-requires
@@ -62,7 +63,8 @@ end : (c : tie.After-wide2)
     ≤ length (c .before .before .before .before .before .before .before .before .before .before .before .before .before .before .before .args .book .now)
 end c =
     let entry = c .before .before .before .before .before .before .before .before .before .before .before .before in
-    rw (c .before .wide .ensures, c .wide2 .ensures, entry .type-entry .ensures) (entry .before .before .before .pre .named)
+    rw (c .before .wide .ensures, c .wide2 .ensures, entry .type-entry .ensures)
+    (entry .before .before .before .pre .named)
 
 part-add-entry-end : tie.Need-part-add-entry-end
 part-add-entry-end c = omega (arith, end (c .before))
@@ -78,7 +80,8 @@ add-entry-requires c κs =
       usable = s .pre .usable;
       declared =
           rw (← n .count-of .ensures .0)
-          (turn-ready _ (s .args .members .now) _ _ (s .args .u) _ _ _ few _ (resolved .resolve .ensures) (more .if1 .left)
+          (turn-ready _ (s .args .members .now) _ _ (s .args .u) _ _ _ few _ (resolved .resolve .ensures)
+          (more .if1 .left)
           (omega (arith, few, s .pre .room)) (rw few (s .pre .inside)) (omega (arith, n .count-of .ensures .1)));
       rows = s .pre .rows;
       bytes = s .pre .bytes;
