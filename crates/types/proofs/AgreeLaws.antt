@@ -62,7 +62,7 @@ module _ {A : Type 0} where
   length-list f i zero = refl
   length-list f i (suc n) = ap suc (length-list f (i + 1) n)
 
-  getD-from : (f : ℕ → A) (i n k : ℕ) (d : A) → k < n → getD (listFrom f i n) k d ≡ f (i + k)
+  pub getD-from : (f : ℕ → A) (i n k : ℕ) (d : A) → k < n → getD (listFrom f i n) k d ≡ f (i + k)
   unfolding listFrom
   getD-from f i zero k d h = absurd (omega arith)
   getD-from f i (suc n) zero d h = rw add-zero

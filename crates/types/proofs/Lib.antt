@@ -60,4 +60,5 @@ pub mod RunLaws
 pub mod BuildLaws
 pub mod ScratchLaws
 pub mod KeptLaws
+pub mod SearchLaws
 pub mod TestLaws

@@ -1,5 +1,6 @@
 -- Laws of names: equality without case goes by the small letters, one byte after the other; the rule goes byte by byte.
-use Prim.Native.Nat.{ℕ, suc, _+_, _≤_, _<_}
+use Prim.Native.Nat.{ℕ, zero, suc, _+_, _-_, _≤_, _<_}
+use native.Mathlib.Decide.{decLt}
 use native.Mathlib.Numerals.{add-one}
 use native.Mathlib.Omega.{arith}
 use mathlib.Core.Path.{_≡_, refl, sym, ap, _∙_}
@@ -77,18 +78,52 @@ lower-same (x ∷ xs) (y ∷ ys) e =
     let t : map lowerOf xs ≡ map lowerOf ys = cc in
     same-on x y xs ys h ∙ lower-same xs ys t
 
--- one byte of what is left of two names
-module _ (a b : List ℕ) (i : ℕ) (l : i < length a) (m : i < length b) where
-  pub name-on : lowerOf (getD a i 0) ≡ lowerOf (getD b i 0)
-      → sameName (drop i a) (drop i b) ≡ sameName (drop (i + 1) a) (drop (i + 1) b)
-  name-on e = rw (add-one, drop-cons a i 0 l, drop-cons b i 0 m) (same-on _ _ _ _ e)
-
-  pub name-off : (lowerOf (getD a i 0) ≡ lowerOf (getD b i 0) → ⊥) → sameName (drop i a) (drop i b) ≡ false
-  name-off e = rw (drop-cons a i 0 l, drop-cons b i 0 m) (same-off _ _ _ _ e)
-
-pub name-done : (a b : List ℕ) (i : ℕ) → length a ≤ i → length b ≤ i → sameName (drop i a) (drop i b) ≡ true
+-- names are the same where each byte is
+same-each : (xs ys : List ℕ) → length xs ≡ length ys
+    → ((j : ℕ) → j < length xs → lowerOf (getD xs j 0) ≡ lowerOf (getD ys j 0)) → sameName xs ys ≡ true
 unfolding sameName
-name-done a b i l m = rw (drop-of-length-le a l, drop-of-length-le b m)
+same-each [] [] l e = refl
+same-each [] (y ∷ ys) l e = absurd (let z : ⊥ = omega arith in z)
+same-each (x ∷ xs) [] l e = absurd (let z : ⊥ = omega arith in z)
+same-each (x ∷ xs) (y ∷ ys) l e =
+    same-on x y xs ys (e 0 (omega arith)) ∙ same-each xs ys (omega arith) (λ j h. e (suc j) (omega arith))
+
+-- and differ where one does
+same-not : (xs ys : List ℕ) (j : ℕ) → j < length xs → j < length ys
+    → (lowerOf (getD xs j 0) ≡ lowerOf (getD ys j 0) → ⊥) → sameName xs ys ≡ false
+unfolding sameName
+same-not [] ys j l m e = absurd (let z : ⊥ = omega arith in z)
+same-not (x ∷ xs) [] j l m e = absurd (let z : ⊥ = omega arith in z)
+same-not (x ∷ xs) (y ∷ ys) zero l m e = same-off x y xs ys e
+same-not (x ∷ xs) (y ∷ ys) (suc j) l m e =
+    and-off (eqb (lowerOf x) (lowerOf y)) (sameName xs ys) (same-not xs ys j (omega arith) (omega arith) e)
+
+-- two names of one length have the same bytes from the i-th on
+pub record SameFrom (a b : List ℕ) (i : ℕ) : Type 0 where
+  pub inside : i ≤ length a
+  pub long : length a ≡ length b
+  pub same : (j : ℕ) → i ≤ j → j < length a → lowerOf (getD a j 0) ≡ lowerOf (getD b j 0)
+
+pub from-end : (a b : List ℕ) → length a ≡ length b → SameFrom a b (length a)
+from-end a b e =
+    record { inside = omega arith; long = e; same = λ j l h. absurd (let z : ⊥ = omega arith in z) }
+
+module _ {a b : List ℕ} {i : ℕ} (s : SameFrom a b i) where
+  pub from-less : 0 < i → lowerOf (getD a (i - 1) 0) ≡ lowerOf (getD b (i - 1) 0) → SameFrom a b (i - 1)
+  from-less l e =
+      record { inside = omega (arith, s .inside); long = s .long; same = λ j h m. go j h m (decLt j i) }
+    where
+      go : (j : ℕ) → i - 1 ≤ j → j < length a → Dec (j < i) → lowerOf (getD a j 0) ≡ lowerOf (getD b j 0)
+      go j h m (yes o) =
+          let q : j ≡ i - 1 = omega arith in
+          rw q e
+      go j h m (no o) = s .same j (omega (arith, o)) m
+
+  pub from-not : 0 < i → (lowerOf (getD a (i - 1) 0) ≡ lowerOf (getD b (i - 1) 0) → ⊥) → sameName a b ≡ false
+  from-not l e = same-not a b (i - 1) (omega (arith, s .inside)) (omega (arith, s .inside, s .long)) e
+
+  pub from-first : i ≤ 0 → sameName a b ≡ true
+  from-first l = same-each a b (s .long) (λ j h. s .same j (omega arith) h)
 
 -- ---- the rule
 

@@ -42,10 +42,14 @@ unset zero k = refl
 unset (suc n) zero = refl
 unset (suc n) (suc k) = unset n k
 
-pub scratch-local : (book : List ℕ) (t m : ℕ) → AtMost book t m → Scratch book (replicate m 0) (replicate t 0)
+pub scratch-local : (book : List ℕ) (t m : ℕ) → AtMost book t m
+    → Scratch book (replicate m 0) (replicate t 0) (replicate t 0) (replicate t 0)
 scratch-local book t m a =
     record {
       room = λ q. rw (length-replicate {A = ℕ} m 0) (a .members q);
       flags = λ q. rw (length-replicate {A = ℕ} t 0) (a .types q);
       unset = unset t;
+      members = λ q. rw (length-replicate {A = ℕ} t 0) (a .types q);
+      rows = λ q. rw (length-replicate {A = ℕ} t 0) (a .types q);
+      untried = unset t;
     }

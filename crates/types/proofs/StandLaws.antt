@@ -4,7 +4,7 @@ use Prim.Native.Nat.{ℕ, _<_, _≤_}
 use native.Mathlib.Omega.{arith}
 use mathlib.Core.Path.{_≡_, refl, sym, ap, _∙_}
 use mathlib.Core.Bool.{Bool, true, false, true≢false}
-use mathlib.Core.List.{List, [], _∷_, _++_}
+use mathlib.Core.List.{List, [], _∷_, _++_, map-append}
 use lib.ListN.{length}
 use Rattle.words.specs.Words.{Bytes}
 use Rattle.words.proofs.WordLaws.{word-below}
@@ -20,8 +20,9 @@ use Rattle.types.specs.Lookup.{rowNames}
 use Rattle.types.specs.Predefined.{Stands}
 use Rattle.types.specs.Registry.{View, viewIn, viewOf, usedMore}
 use Rattle.types.specs.Resolve.{typeNames, allKnown}
-use Rattle.types.specs.Turns.{entriesAt, countOf, usesOf, declsOf, readyIn, verdictOn, TurnIn, Turned}
+use Rattle.types.specs.Turns.{entriesAt, countOf, usesOf, declsOf, readyIn, verdictOn, TurnIn, Turned, Tries}
 use Rattle.types.proofs.RegistryLaws.{types-more, members-more, names-more, used-more, members-long, names-long}
+use Rattle.types.proofs.SearchLaws.{tries-more}
 use Rattle.types.proofs.ShownLaws.{Shown, view-same, names-inside, ids-small}
 use Rattle.types.proofs.SoundLaws.{Sound, among-all, type-inside, entries-inside, entries-uses}
 
@@ -31,7 +32,7 @@ module _ {ds : List Def} {t m n : List ℕ} {u : Used} (shown : Shown ds) (stand
   view-stands : viewIn t n u ≡ viewOf ds
   view-stands = rw (stands .types, stands .names, stands .used) (view-same ds shown)
 
-  names-stand : rowNames t n (u .types) ≡ viewOf ds .names
+  pub names-stand : rowNames t n (u .types) ≡ viewOf ds .names
   unfolding viewIn
   names-stand = ap (λ (v : View). v .names) view-stands
 
@@ -48,9 +49,10 @@ module _ {ds : List Def} {t m n : List ℕ} {u : Used} (shown : Shown ds) (stand
   -- ---- a turn
 
   module _ (book : List ℕ) (i at : ℕ) (e : at ≡ entriesAt book i) where
-    pub turn-in : (tys : List ℕ) → Bytes book → Sound book → i < typesIn book → membersIn book ≤ length tys
-        → TurnIn t m n book tys i at u
-    turn-in tys bytes s l room =
+    pub turn-in : {stuck tried : List ℕ} (tys : List ℕ) → Bytes book → Sound book → i < typesIn book
+        → membersIn book ≤ length tys → Tries book (rowNames t n (u .types)) stuck tried
+        → TurnIn t m n book tys stuck tried i at u
+    turn-in tys bytes s l room tries =
         record {
           usable = usable-stands;
           rows = rw (stands .members) (members-long ds);
@@ -61,6 +63,9 @@ module _ {ds : List Def} {t m n : List ℕ} {u : Used} (shown : Shown ds) (stand
           uses = rw e (entries-uses s l);
           room = omega (arith, among-all s l, room);
           small = omega (arith, l, word-below 2 book 0 bytes);
+          among = l;
+          place = e;
+          tries = tries;
         }
 
     -- what it gives is what the definition says
@@ -143,3 +148,12 @@ stands-more {ds} {u = u} {u′ = u′} d s k =
       names = k .names ∙ rw (s .names, s .used) (sym (names-more ds d));
       used = used-then u u′ d (k .is) ∙ rw (s .used) (sym (used-more ds d));
     }
+
+-- and one name more
+pub tries-stand : {ds : List Def} {t m n t′ m′ n′ book stuck tried : List ℕ} {u u′ : Used} (d : Def) → Shown ds
+    → Stands ds t m n u → Shown (ds ++ d ∷ []) → Stands (ds ++ d ∷ []) t′ m′ n′ u′
+    → Tries book (rowNames t n (u .types)) stuck tried → Tries book (rowNames t′ n′ (u′ .types)) stuck tried
+unfolding viewOf
+tries-stand {ds} d a s b h t =
+    let e = map-append (λ (x : Def). x .name) ds (d ∷ []) in
+    rw (names-stand b h, e) (tries-more (rw (names-stand a s) at t) (d .name))

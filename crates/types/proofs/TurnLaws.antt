@@ -6,7 +6,7 @@ use native.Mathlib.Nat.{zero-add}
 use mathlib.Core.Path.{_≡_, refl, sym, ap, _∙_}
 use mathlib.Core.Bool.{Bool, true, false, _&&_, true≢false}
 use mathlib.Core.List.{List, [], _∷_}
-use lib.ListN.{length, getD}
+use lib.ListN.{length, getD, set}
 use lib.Seq.{sets, length-sets}
 use Rattle.words.proofs.Lists.{getD-sets}
 use Rattle.types.specs.declared.layout.Decl.{Decl}
@@ -25,12 +25,14 @@ use Rattle.types.specs.Laid.{Earlier}
 use Rattle.types.specs.Lookup.{rowName, rowNames, typeAmong}
 use Rattle.types.specs.Registry.{View, sizeAt, viewIn}
 use Rattle.types.specs.Resolve.{typeName, typeNames, isFound, allKnown, thenWord, foundWords, Resolves}
+use Rattle.types.specs.Resolve.{StillIn, Still}
 use Rattle.types.specs.Tables.{tyWord, tyOf}
-use Rattle.types.specs.Turns.{countOf, thenDecl, declsOf, Turned}
+use Rattle.types.specs.Turns.{countOf, thenDecl, declsOf, TurnIn, Turned, Missed, Tries}
 use Rattle.types.specs.Waste.{sizesIn}
 use Rattle.types.proofs.AddStoreLaws.{took-so}
 use Rattle.types.proofs.AgreeLaws.{declared-same, length-list, getD-list}
 use Rattle.types.proofs.ResolveLaws.{found-earlier}
+use Rattle.types.proofs.SearchLaws.{one-unknown, first-unknown, tries-again, tries-new}
 use Rattle.types.proofs.TableLaws.{ty-back}
 
 -- ---- how many were found
@@ -46,18 +48,6 @@ all-found known (s ∷ ss) l = go (typeAmong known s) l (all-found known ss)
         → (isFound f && allKnown known ss) ≡ true
     go (Is ty) h rest = rest (omega arith)
     go Nothing h rest = absurd (let z : ⊥ = omega arith in z)
-
-pub not-all : (known names : List (List ℕ)) → length (foundWords known names) < length names
-    → allKnown known names ≡ false
-unfolding foundWords allKnown
-not-all known [] l = absurd (let z : ⊥ = omega arith in z)
-not-all known (s ∷ ss) l = go (typeAmong known s) l (not-all known ss)
-  where
-    go : (f : FoundTy) → length (thenWord f (foundWords known ss)) < suc (length ss)
-        → (length (foundWords known ss) < length ss → allKnown known ss ≡ false)
-        → (isFound f && allKnown known ss) ≡ false
-    go (Is ty) h rest = rest (omega arith)
-    go Nothing h rest = refl
 
 -- ---- each word is that of the type that was found
 
@@ -191,14 +181,61 @@ module _ (types members names book : List ℕ) (u : Used) (i at n : ℕ) (e : n 
   uses-long : length (typeNames book at 0 n) ≡ n
   uses-long = length-list (typeName book at) 0 n
 
+  rows-long : length (rowNames types names (u .types)) ≡ u .types
+  rows-long = length-list (rowName types names) 0 (u .types)
+
+  -- one member's type is not known
+  turn-idle : (k : ℕ) → k < countOf book i → typeAmong (rowNames types names (u .types)) (typeName book at k) ≡ Nothing
+      → Turned known verdict u types members names types members names Waits
+  turn-idle k l o =
+      let c = countOf book i in
+      let f : known ≡ false
+      = one-unknown (rowNames types names (u .types)) (typeNames book at 0 c) k
+      (omega (arith, length-list (typeName book at) 0 c)) (rw (getD-list (typeName book at) c k [] l) o)
+      in
+      record { waits = λ q. (refl, (refl, (refl, refl))); takes = λ q. absurd (true≢false (sym q ∙ f)) }
+
+  module _ {tys stuck tried : List ℕ} (p : TurnIn types members names book tys stuck tried i at u) where
+    module _ (k from : ℕ) (a : k ≡ getD stuck i 0) (b : from ≡ getD tried i 0) where
+      missed : (from ≡ 0 → ⊥) → Missed book (rowNames types names (u .types)) i k from
+      missed q = rw (a, b) (p .tries .missed i (p .among) (rw b at q))
+
+      -- what is known of an earlier turn
+      pub turn-looks : StillIn types names book at k from (u .types)
+      turn-looks =
+          record {
+            rows = p .usable .rows;
+            inside = λ q. omega (arith, p .inside .inside, missed q .below);
+            uses = λ q. p .uses k (missed q .below);
+            unseen = λ q. rw (p .place) (missed q .unseen);
+          }
+
+      -- the same member's type is still not known
+      pub turn-still : Still types names book at k from (u .types)
+          → Turned known verdict u types members names types members names Waits
+          × Tries book (rowNames types names (u .types)) stuck (set tried i (u .types))
+      turn-still s =
+          let l = missed (s .past) .below in (
+            turn-idle k l (s .missing),
+            tries-again (p .tries) i (u .types) (p .among) (sym rows-long) k l (rw (← p .place) (s .missing)) (sym a),
+          )
+
   module _ {tys tys′ : List ℕ} (r : ℕ)
       (w : Resolves (rowNames types names (u .types)) (typeNames book at 0 n) tys tys′ r) where
-    pub turn-waits : r < n → Turned known verdict u types members names types members names Waits
-    turn-waits l =
-        let f : known ≡ false
-        = rw (← e) (not-all (rowNames types names (u .types)) (typeNames book at 0 n) (omega (arith, w .is, uses-long)))
-        in
-        record { waits = λ q. (refl, (refl, (refl, refl))); takes = λ q. absurd (true≢false (sym q ∙ f)) }
+    -- the member after those that were found is not known
+    stops : r < n → typeAmong (rowNames types names (u .types)) (typeName book at r) ≡ Nothing
+    stops l =
+        let f = first-unknown (rowNames types names (u .types)) (typeNames book at 0 n)
+        (omega (arith, w .is, uses-long)) in
+        rw (getD-list (typeName book at) n r [] l) at (rw (← w .is) at f)
+
+    pub turn-waits : {ws stuck tried : List ℕ} → TurnIn types members names book ws stuck tried i at u → r < n
+        → Turned known verdict u types members names types members names Waits
+        × Tries book (rowNames types names (u .types)) (set stuck i r) (set tried i (u .types))
+    turn-waits p l = (
+      turn-idle r (omega (arith, e)) (stops l),
+      tries-new (p .tries) i (u .types) (p .among) (sym rows-long) r (omega (arith, e)) (rw (← p .place) (stops l)),
+    )
 
     module _ (l : n ≤ r) where
       found-all : allKnown (rowNames types names (u .types)) (typeNames book at 0 n) ≡ true

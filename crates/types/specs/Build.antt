@@ -73,17 +73,21 @@ pub record AtMost (book : List ℕ) (t m : ℕ) : Type 0 where
   pub types : bookOk book ≡ true → typesIn book ≤ t
   pub members : bookOk book ≡ true → membersIn book ≤ m
 
--- a scratch for the found types of a type's members, and a flag for each type, all unset; both are long enough
-pub record Scratch (book tys done : List ℕ) : Type 0 where
+-- a scratch for the found types of a type's members; a flag for each type, all unset; the member whose type was not
+-- found, and among how many types, 0 of them; all are long enough
+pub record Scratch (book tys done stuck tried : List ℕ) : Type 0 where
   pub room : bookOk book ≡ true → membersIn book ≤ length tys
   pub flags : bookOk book ≡ true → typesIn book ≤ length done
   pub unset : (k : ℕ) → getD done k 0 ≡ 0
+  pub members : bookOk book ≡ true → typesIn book ≤ length stuck
+  pub rows : bookOk book ≡ true → typesIn book ≤ length tried
+  pub untried : (k : ℕ) → getD tried k 0 ≡ 0
 
 -- what the rounds ask: a good book of t types, good ids, tables of no types, and a scratch
-pub record RunIn (book : List ℕ) (t timer counter control string : ℕ) (types members names tys done : List ℕ)
-    : Type 0 where
+pub record RunIn (book : List ℕ) (t timer counter control string : ℕ)
+    (types members names tys done stuck tried : List ℕ) : Type 0 where
   pub okay : bookOk book ≡ true
   pub is : t ≡ typesIn book
   pub ids : predefinedIds timer counter control string ≡ true
   pub cleared : Cleared types members names
-  pub scratch : Scratch book tys done
+  pub scratch : Scratch book tys done stuck tried

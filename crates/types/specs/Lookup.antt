@@ -1,8 +1,9 @@
 -- The type of a name: the atomics first, then the types in order (document 01, "Atomic types"; 000's lookup).
 use Prim.Native.Nat.{ℕ, _+_, _<_, _≤_}
-use mathlib.Core.Bool.{cond}
+use mathlib.Core.Path.{_≡_}
+use mathlib.Core.Bool.{false, cond}
 use mathlib.Core.List.{List, [], _∷_}
-use lib.ListN.{length}
+use lib.ListN.{length, getD}
 use Rattle.types.specs.declared.atomic.FoundAtomic.{FoundAtomic}
 use Rattle.types.specs.declared.atomic.FoundAtomic.the-variants.{Is as found, Nothing as none}
 use Rattle.types.specs.declared.lookups.FoundTy.{FoundTy}
@@ -38,6 +39,12 @@ rowNames types names n = listFrom (rowName types names) 0 n
 
 abbrev pub typeOf : List ℕ → List ℕ → ℕ → List ℕ → FoundTy
 typeOf types names n s = typeAmong (rowNames types names n) s
+
+-- a name is no atomic's, and none of the first n names is the same
+pub record Unseen (known : List (List ℕ)) (s : List ℕ) (n : ℕ) : Type 0 where
+  pub few : n ≤ length known
+  pub plain : atomicNamed s ≡ none
+  pub other : (j : ℕ) → j < n → sameName (getD known j []) s ≡ false
 
 -- the names of the first n structures lie among the names
 pub record NamesInside (types names : List ℕ) (n : ℕ) : Type 0 where

@@ -11,7 +11,7 @@ use Rattle.types.specs.declared.lookups.FoundTy.the-variants.{Is, Nothin
 use Rattle.types.specs.Book.{listFrom}
 use Rattle.types.specs.Checks.{entryOf}
 use Rattle.types.specs.Defs.{nameIn}
-use Rattle.types.specs.Lookup.{typeAmong, NamesInside}
+use Rattle.types.specs.Lookup.{typeAmong, rowNames, NamesInside, Unseen}
 use Rattle.types.specs.Tables.{tyWord}
 
 -- the type name of the j-th entry from a place on
@@ -52,3 +52,17 @@ pub record Resolvable (types names book tys : List ℕ) (known at n : ℕ) : Typ
   pub uses : (k : ℕ) → k < n
       → entryOf book at k .ty .at + entryOf book at k .ty .long ≤ length book
   pub room : n ≤ length tys
+
+-- ---- a search that goes on
+
+-- where `from` is not 0, the k-th entry lies in the book with its type name, and that was not among the first `from`
+pub record StillIn (types names book : List ℕ) (at k from n : ℕ) : Type 0 where
+  pub rows : NamesInside types names n
+  pub inside : (from ≡ 0 → ⊥) → at + 16 * k + 16 ≤ length book
+  pub uses : (from ≡ 0 → ⊥) → entryOf book at k .ty .at + entryOf book at k .ty .long ≤ length book
+  pub unseen : (from ≡ 0 → ⊥) → Unseen (rowNames types names n) (typeName book at k) from
+
+-- it is not among the first n either
+pub record Still (types names book : List ℕ) (at k from n : ℕ) : Type 0 where
+  pub past : from ≡ 0 → ⊥
+  pub missing : typeAmong (rowNames types names n) (typeName book at k) ≡ Nothing

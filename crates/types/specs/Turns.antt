@@ -4,7 +4,7 @@ use Prim.Native.Nat.{ℕ, zero, suc, _+_, _*_, _<_, _≤_}
 use mathlib.Core.Path.{_≡_}
 use mathlib.Core.Bool.{Bool, true, false}
 use mathlib.Core.List.{List, [], _∷_, _++_}
-use lib.ListN.{length}
+use lib.ListN.{length, getD}
 use Rattle.types.specs.declared.book.MemberEntry.{MemberEntry}
 use Rattle.types.specs.declared.layout.Decl.{Decl}
 use Rattle.types.specs.declared.lookups.FoundTy.{FoundTy}
@@ -20,9 +20,9 @@ use Rattle.types.specs.Book.{typesIn, typeEntry, listFrom, sumCounts}
 use Rattle.types.specs.Checks.{entryOf, entriesFrom, EntriesInside}
 use Rattle.types.specs.Defs.{Def, nameIn}
 use Rattle.types.specs.Entries.{declared}
-use Rattle.types.specs.Lookup.{typeAmong}
+use Rattle.types.specs.Lookup.{rowNames, typeAmong, Unseen}
 use Rattle.types.specs.Registry.{View, sizeAt, viewOf}
-use Rattle.types.specs.Resolve.{typeNames, allKnown}
+use Rattle.types.specs.Resolve.{typeName, typeNames, allKnown}
 use Rattle.types.specs.Rounds.{Step, no, ok, Answer, rounds}
 
 -- ---- one type of the book
@@ -80,8 +80,21 @@ roundsFrom book ds =
 
 -- ---- a turn in code
 
--- what a turn asks: what our own calls leave, and type i and its members in the book, from a place on
-pub record TurnIn (types members names book tys : List ℕ) (i at : ℕ) (u : Used) : Type 0 where
+-- the type of the k-th member of type i is not among the first n
+pub record Missed (book : List ℕ) (known : List (List ℕ)) (i k n : ℕ) : Type 0 where
+  pub below : k < countOf book i
+  pub unseen : Unseen known (typeName book (entriesAt book i) k) n
+
+-- so for each type of a book by two scratches, of the k and of the n; an n of 0 says nothing
+pub record Tries (book : List ℕ) (known : List (List ℕ)) (stuck tried : List ℕ) : Type 0 where
+  pub members : typesIn book ≤ length stuck
+  pub rows : typesIn book ≤ length tried
+  pub missed : (i : ℕ) → i < typesIn book → (getD tried i 0 ≡ 0 → ⊥)
+      → Missed book known i (getD stuck i 0) (getD tried i 0)
+
+-- what a turn asks: what our own calls leave, type i and its members in the book, from a place on, and what is known
+-- of earlier turns
+pub record TurnIn (types members names book tys stuck tried : List ℕ) (i at : ℕ) (u : Used) : Type 0 where
   pub usable : Usable types names u
   pub rows : length members ≡ 16000
   pub bytes : length names ≡ 32768
@@ -91,6 +104,9 @@ pub record TurnIn (types members names book tys : List ℕ) (i at : ℕ) (u : Us
   pub uses : (k : ℕ) → k < countOf book i → entryOf book at k .ty .at + entryOf book at k .ty .long ≤ length book
   pub room : countOf book i ≤ length tys
   pub small : i < 65536
+  pub among : i < typesIn book
+  pub place : at ≡ entriesAt book i
+  pub tries : Tries book (rowNames types names (u .types)) stuck tried
 
 -- a turn was taken: a type that is not ready waits and nothing is stored, else the verdict is carried out
 pub record Turned (ready : Bool) (s : Verdict) (u : Used) (t₀ m₀ n₀ t m n : List ℕ) (r : Turn) : Type 0 where

@@ -68,9 +68,11 @@ fn run(
     names: &mut NameTable,
     tys: &mut [u16],
     done: &mut [u8],
+    stuck: &mut [u16],
+    tried: &mut [u8],
 ) -> Built
     requires { ⌜ RunIn (now book) t timer counter control string (now types) (now members) (now names)
-        (now tys) (now done) ⌝ }
+        (now tys) (now done) (now stuck) (now tried) ⌝ }
     ensures { λ r. ⌜ Ended (roundsFrom (now (book .entry)) (predefined timer counter control string))
         (now (types .exit)) (now (members .exit)) (now (names .exit)) r ⌝ }
 {
@@ -84,7 +86,7 @@ fn run(
             let e = type_entry(book, i);
             let n = count_of(e.count);
             if done[i] == 0 {
-                let r = take_turn(book, i, at, types, members, names, u, tys);
+                let r = take_turn(book, i, at, types, members, names, u, tys, stuck, tried);
                 match r {
                     Turn::Waits => {}
                     Turn::Refused(x) => {
@@ -122,8 +124,10 @@ fn build_with(
     names: &mut NameTable,
     tys: &mut [u16],
     done: &mut [u8],
+    stuck: &mut [u16],
+    tried: &mut [u8],
 ) -> Built
-    requires { ⌜ Scratch (now book) (now tys) (now done) ⌝ }
+    requires { ⌜ Scratch (now book) (now tys) (now done) (now stuck) (now tried) ⌝ }
     ensures { λ r. ⌜ Ended (buildOf timer counter control string (now (book .entry)))
         (now (types .exit)) (now (members .exit)) (now (names .exit)) r ⌝ }
 {
@@ -149,6 +153,8 @@ fn build_with(
         names,
         tys,
         done,
+        stuck,
+        tried,
     )
 }
 
@@ -169,6 +175,8 @@ fn build_small(
 {
     let mut tys = [0u16; 2048];
     let mut done = [0u8; 256];
+    let mut stuck = [0u16; 256];
+    let mut tried = [0u8; 256];
     build_with(
         book,
         timer,
@@ -180,6 +188,8 @@ fn build_small(
         names,
         &mut tys,
         &mut done,
+        &mut stuck,
+        &mut tried,
     )
 }
 
@@ -199,6 +209,8 @@ fn build_large(
 {
     let mut tys = [0u16; 65536];
     let mut done = [0u8; 65536];
+    let mut stuck = [0u16; 65536];
+    let mut tried = [0u8; 65536];
     build_with(
         book,
         timer,
@@ -210,6 +222,8 @@ fn build_large(
         names,
         &mut tys,
         &mut done,
+        &mut stuck,
+        &mut tried,
     )
 }
 

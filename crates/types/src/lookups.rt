@@ -1,9 +1,10 @@
 // Looking a type up by its name (document 01, "Atomic types": names compare without ASCII case): an atomic
 // first, then the types in order.
 ghost use mathlib.Core.Path.{_≡_};
-ghost use Prim.Native.Nat.{_+_, _<_, _≤_};
+ghost use Prim.Native.Nat.{_+_, _-_, _<_, _≤_};
 ghost use lib.ListN.{length};
-ghost use Rattle.types.specs.Lookup.{NamesInside, rowName, rowNames, namedAmong, typeOf};
+ghost use Rattle.types.specs.Book.{listFrom};
+ghost use Rattle.types.specs.Lookup.{NamesInside, rowName, namedAmong, typeOf};
 ghost use Rattle.types.specs.Names.{sameName};
 ghost use Rattle.types.specs.Tables.{typeAt};
 use crate::atomic::Atomic;
@@ -35,12 +36,13 @@ fn row_named(types: &TypeTable, names: &[u8], i: usize, name: &[u8]) -> bool
     same_name(&names[start..end], name)
 }
 
-// The first of n structures with a name.
-fn find_type(types: &TypeTable, names: &[u8], n: usize, name: &[u8]) -> FoundTy
+// The first of n structures with a name, from one of them on.
+pub fn find_type(types: &TypeTable, names: &[u8], from: usize, n: usize, name: &[u8]) -> FoundTy
     requires { ⌜ NamesInside (now types) (now names) n ⌝ }
-    ensures { λ r. ⌜ r ≡ namedAmong (rowNames (now (types .entry)) (now (names .entry)) n) (now (name .entry)) 0 ⌝ }
+    ensures { λ r. ⌜ r ≡ namedAmong (listFrom (rowName (now (types .entry)) (now (names .entry))) from (n - from))
+        (now (name .entry)) from ⌝ }
 {
-    let mut i: usize = 0;
+    let mut i = from;
     while i < n {
         let same = row_named(types, names, i, name);
         if same {
@@ -59,6 +61,6 @@ pub fn lookup(types: &TypeTable, names: &[u8], n: usize, name: &[u8]) -> FoundTy
     let atomic = Atomic::from_name(name);
     match atomic {
         FoundAtomic::Is(a) => FoundTy::Is(Ty::Atomic(a)),
-        FoundAtomic::Nothing => find_type(types, names, n, name),
+        FoundAtomic::Nothing => find_type(types, names, 0, n, name),
     }
 }

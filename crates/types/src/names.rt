@@ -16,21 +16,22 @@ pub fn lower(x: u8) -> u8
     x
 }
 
-// Two names are the same where they differ in ASCII case at most.
+// Two names are the same where they differ in ASCII case at most. Names that end in numbers differ there, so the last
+// byte comes first.
 pub fn same_name(a: &[u8], b: &[u8]) -> bool
     ensures { λ r. ⌜ r ≡ sameName (now (a .entry)) (now (b .entry)) ⌝ }
 {
     if a.len() != b.len() {
         return false;
     }
-    let mut i: usize = 0;
-    while i < a.len() {
+    let mut i = a.len();
+    while 0 < i {
+        i -= 1;
         let x = lower(a[i]);
         let y = lower(b[i]);
         if x != y {
             return false;
         }
-        i += 1;
     }
     true
 }

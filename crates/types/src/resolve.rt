@@ -1,10 +1,12 @@
 // The member types of a type that waits (document 01, "Order of building"): each is looked up by its name, and
 // its word is kept in a scratch for the layout.
 ghost use mathlib.Core.Path.{_≡_};
+ghost use mathlib.Core.Bool.{true};
 ghost use Rattle.types.specs.Lookup.{rowNames};
-ghost use Rattle.types.specs.Resolve.{typeNames, Resolves, Resolvable};
+ghost use Rattle.types.specs.Resolve.{typeNames, Resolves, Resolvable, StillIn, Still};
 use crate::book::entry_at;
 use crate::lookups::FoundTy;
+use crate::lookups::find_type;
 use crate::lookups::lookup;
 use crate::tables::TypeTable;
 use crate::tables::word_of;
@@ -43,4 +45,32 @@ pub fn resolve(
         j += 1;
     }
     j
+}
+
+// The k-th member's type, which was not among the first `from` types, is not among the first n either. Where `from`
+// is 0 nothing is known of it.
+pub fn waits_still(
+    types: &TypeTable,
+    names: &[u8],
+    book: &[u8],
+    at: usize,
+    k: usize,
+    from: usize,
+    n: usize,
+) -> bool
+    requires { ⌜ StillIn (now types) (now names) (now book) at k from n ⌝ }
+    ensures { λ r. ⌜ (r ≡ true → Still (now (types .entry)) (now (names .entry)) (now (book .entry)) at k from n) ⌝ }
+{
+    if from == 0 {
+        return false;
+    }
+    let e = entry_at(book, at + 16 * k);
+    let span = e.ty;
+    let start = wide(span.at);
+    let end = start + wide(span.long);
+    let found = find_type(types, names, from, n, &book[start..end]);
+    match found {
+        FoundTy::Is(_) => false,
+        FoundTy::Nothing => true,
+    }
 }

@@ -7,19 +7,22 @@ ghost use Rattle.types.specs.Checks.{entriesFrom};
 ghost use Rattle.types.specs.Lookup.{rowNames};
 ghost use Rattle.types.specs.Registry.{viewIn};
 ghost use Rattle.types.specs.Resolve.{typeNames, allKnown};
-ghost use Rattle.types.specs.Turns.{countOf, declsOf, TurnIn, Turned};
+ghost use Rattle.types.specs.Turns.{countOf, declsOf, TurnIn, Turned, Tries};
 use crate::add::add_entry;
 use crate::book::count_of;
 use crate::book::type_entry;
 use crate::resolve::resolve;
+use crate::resolve::waits_still;
 use crate::tables::MemberTable;
 use crate::tables::NameTable;
 use crate::tables::TypeTable;
 use crate::used::Turn;
 use crate::used::Used;
 use words::wide;
+use words::wide8;
 
-// The turn of the i-th type of a book, whose members' entries begin at a place; so much of the tables is used.
+// The turn of the i-th type of a book, whose members' entries begin at a place; so much of the tables is used. A type
+// that waited looks through the types that were added since, for the member whose type was not found.
 pub fn take_turn(
     book: &[u8],
     i: usize,
@@ -29,20 +32,34 @@ pub fn take_turn(
     names: &mut NameTable,
     u: Used,
     tys: &mut [u16],
+    stuck: &mut [u16],
+    tried: &mut [u8],
 ) -> Turn
-    requires { ⌜ TurnIn (now types) (now members) (now names) (now book) (now tys) i at u ⌝ }
-    ensures { λ r. ⌜ Turned (allKnown (rowNames (now (types .entry)) (now (names .entry)) (u .types))
+    requires { ⌜ TurnIn (now types) (now members) (now names) (now book) (now tys) (now stuck) (now tried) i at u ⌝ }
+    ensures { λ r. ⌜ (Turned (allKnown (rowNames (now (types .entry)) (now (names .entry)) (u .types))
         (typeNames (now (book .entry)) at 0 (countOf (now (book .entry)) i)))
         (addTo (viewIn (now (types .entry)) (now (names .entry)) u) (now (book .entry)) i at
         (declsOf (viewIn (now (types .entry)) (now (names .entry)) u) (now (book .entry))
         (entriesFrom (now (book .entry)) at 0 (countOf (now (book .entry)) i)))) u
         (now (types .entry)) (now (members .entry)) (now (names .entry))
-        (now (types .exit)) (now (members .exit)) (now (names .exit)) r ⌝ }
+        (now (types .exit)) (now (members .exit)) (now (names .exit)) r)
+        × (Tries (now (book .entry)) (rowNames (now (types .entry)) (now (names .entry)) (u .types))
+        (now (stuck .exit)) (now (tried .exit))) ⌝ }
 {
+    let known = u.types;
+    let k = count_of(stuck[i]);
+    let from = wide(wide8(tried[i]));
+    let still = waits_still(types, names, book, at, k, from, known);
+    if still {
+        tried[i] = known as u8;
+        return Turn::Waits;
+    }
     let e = type_entry(book, i);
     let n = count_of(e.count);
-    let found = resolve(types, names, u.types, book, at, n, tys);
+    let found = resolve(types, names, known, book, at, n, tys);
     if found < n {
+        stuck[i] = found as u16;
+        tried[i] = known as u8;
         return Turn::Waits;
     }
     let span = e.name;

@@ -10,15 +10,27 @@ slice-aggregate-build-with c = search needs
 slice-aggregate-build-with-2 : tie.Need-slice-aggregate-build-with-2
 slice-aggregate-build-with-2 c = search needs
 
+slice-aggregate-build-with-3 : tie.Need-slice-aggregate-build-with-3
+slice-aggregate-build-with-3 c = search needs
+
+slice-aggregate-build-with-4 : tie.Need-slice-aggregate-build-with-4
+slice-aggregate-build-with-4 c = search needs
+
 build-with-requires : tie.Need-build-with-requires
 build-with-requires c κs =
-    let known = c .before .before .before .before .before in
+    let known = c .before .before .before .before .before .before .before in
     scratch-local _ 65536 65536 (few-all _ (λ k. (known .shared-slice-known .given k) .fits))
 
 returns : tie.Need-returns
-returns c = c .before .before .build-with .ensures
+returns c = c .before .before .before .before .build-with .ensures
 
 pub build-large-spec : {M : Type 1} → statement M
 build-large-spec =
     tie.close
-    (tie.spec slice-aggregate-build-with slice-aggregate-build-with-2 build-with-requires returns)
+    (tie.spec
+    slice-aggregate-build-with
+    slice-aggregate-build-with-2
+    slice-aggregate-build-with-3
+    slice-aggregate-build-with-4
+    build-with-requires
+    returns)

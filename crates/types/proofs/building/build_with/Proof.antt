@@ -11,6 +11,10 @@ use Rattle.types.proofs.SoundLaws.{sound}
 use Rattle.types.proofs.building.build_with.Statement.{statement}
 use Rattle.types.proofs.building.build_with.Tie as tie
 
+-- where the build begins
+abbrev begun : tie.After-clear → tie.Start
+begun c = c .before .before .before .before .before .before .before .before .before
+
 clear-requires : tie.Need-clear-requires
 clear-requires c κs = search needs
 
@@ -24,13 +28,13 @@ returns c =
 
 -- the ids will do, and the book is good
 ids-good : (c : tie.Else1)
-    → let a = c .before .before .before .before .before .before .before .before .before .args in
+    → let a = begun (c .before .before) .args in
     predefinedIds (a .timer) (a .counter) (a .control) (a .string) ≡ true
 ids-good c = sym (c .before .ids-ok .ensures) ∙ not-false _ (c .if1 .left)
 
 book-good : (c : tie.Else2)
     → let ids = c .before .before in
-    bookOk (ids .before .before .before .before .before .before .before .before .before .args .book .now) ≡ true
+    bookOk (begun (ids .before .before) .args .book .now) ≡ true
 book-good c = sym (c .before .book-ok .ensures) ∙ not-false _ (c .if2 .left)
 
 book-ok-requires : tie.Need-book-ok-requires
@@ -49,9 +53,9 @@ count-of-requires c κs = search needs
 
 run-requires : tie.Need-run-requires
 run-requires c κs =
-    let count = c .before .before .before .before .before in
+    let count = c .before .before .before .before .before .before .before in
     let good = count .before .before in
-    let start = good .before .before .before .before .before .before .before .before .before .before .before in
+    let start = begun (good .before .before .before .before) in
     record {
       okay = book-good good;
       is = count .count-of .ensures .0 ∙ count .before .load16 .ensures;
@@ -66,10 +70,16 @@ same-length c = search needs
 same-length-2 : tie.Need-same-length-2
 same-length-2 c = search needs
 
+same-length-3 : tie.Need-same-length-3
+same-length-3 c = search needs
+
+same-length-4 : tie.Need-same-length-4
+same-length-4 c = search needs
+
 returns-3 : tie.Need-returns-3
 returns-3 c =
-    let ran = c .before .before .before .before in
-    let good = ran .before .before .before .before .before .before .before .before in
+    let ran = c .before .before .before .before .before .before .before .before in
+    let good = ran .before .before .before .before .before .before .before .before .before .before in
     ended-run _ _ _ _ _ (ids-good (good .before .before)) (book-good good) (ran .run .ensures)
 
 pub build-with-spec : {M : Type 1} → statement M
@@ -86,4 +96,6 @@ build-with-spec =
     run-requires
     same-length
     same-length-2
+    same-length-3
+    same-length-4
     returns-3)

@@ -14,27 +14,32 @@ use Rattle.types.proofs.building.run.Statement.{statement}
 use Rattle.types.proofs.building.run.Tie as tie
 
 abbrev Inv-loop2 : tie.InvT-loop2
-Inv-loop2 book T timer counter control string t₀ m₀ n₀ tys₀ f₀ u₀ left₀ before i₀ at₀ t m n tys f u left i at =
-    Within book (predefined timer counter control string) T t₀ m₀ n₀ tys₀ f₀ u₀ left₀ t m n tys f u left i at
+Inv-loop2 book T timer counter control str t₀ m₀ n₀ tys₀ f₀ k₀ r₀ u₀ left₀ before i₀ at₀ t m n tys f k r u left i at =
+    Within book (predefined timer counter control str) T t₀ m₀ n₀ tys₀ f₀ k₀ r₀ u₀ left₀ t m n tys f k r u left i at
 
 abbrev μ-loop2 : tie.MeasureT-loop2
-μ-loop2 book T timer counter control string t₀ m₀ n₀ tys₀ f₀ u₀ left₀ before i₀ at₀ t m n tys f u left i at = T - i
+μ-loop2 book T timer counter control str t₀ m₀ n₀ tys₀ f₀ k₀ r₀ u₀ left₀ before i₀ at₀ t m n tys f k r u left i at =
+    T - i
 
 abbrev Inv-loop : tie.InvT-loop
-Inv-loop book T timer counter control string t₀ m₀ n₀ tys₀ f₀ u₀ left₀ t m n tys f u left =
-    Going book (predefined timer counter control string) T tys₀ f₀ t m n tys f u left
+Inv-loop book T timer counter control string t₀ m₀ n₀ tys₀ f₀ k₀ r₀ u₀ left₀ t m n tys f k r u left =
+    Going book (predefined timer counter control string) T tys₀ f₀ k₀ r₀ t m n tys f k r u left
 
 abbrev μ-loop : tie.MeasureT-loop
-μ-loop book T timer counter control string t₀ m₀ n₀ tys₀ f₀ u₀ left₀ t m n tys f u left = left
+μ-loop book T timer counter control string t₀ m₀ n₀ tys₀ f₀ k₀ r₀ u₀ left₀ t m n tys f k r u left = left
+
+-- where a type was seen to wait, before its turn
+abbrev turn-of : tie.After-take-turn Inv-loop2 μ-loop2 Inv-loop μ-loop → tie.Then1 Inv-loop2 μ-loop2 Inv-loop μ-loop
+turn-of c = c .before .before .before .before .before .before .before
 
 put-predefined-requires : tie.Need-put-predefined-requires Inv-loop2 μ-loop2 Inv-loop μ-loop
 put-predefined-requires c κs =
-    let p = c .before .before .before .before .before .before .pre in
+    let p = c .before .before .before .before .before .before .before .before .pre in
     ((p .cleared .types, (p .cleared .members, p .cleared .names)), p .ids)
 
 loop-holds : tie.Need-loop-holds Inv-loop2 μ-loop2 Inv-loop μ-loop
 loop-holds c =
-    let known = c .before .before .before .before .before .before in
+    let known = c .before .before .before .before .before .before .before .before in
     going-start (known .before .pre) (λ k. (known .shared-slice-known .given k) .fits) (c .put-predefined .ensures)
 
 mul-at : tie.Need-mul-at Inv-loop2 μ-loop2 Inv-loop μ-loop
@@ -59,7 +64,7 @@ slice-read-if1 c =
 
 take-turn-requires : tie.Need-take-turn-requires Inv-loop2 μ-loop2 Inv-loop μ-loop
 take-turn-requires c κs =
-    let turn = c .before .before .before .before .before .before .before .before in
+    let turn = c .before .before .before .before .before .before .before .before .before .before in
     within-in (turn .before .loop2 .inv) (turn .loop2-test .taken)
 
 enum-told : tie.Need-enum-told Inv-loop2 μ-loop2 Inv-loop μ-loop
@@ -73,22 +78,42 @@ clear-requires c κs = search needs
 
 same-length : tie.Need-same-length Inv-loop2 μ-loop2 Inv-loop μ-loop
 same-length c =
-    let lent = c .before .before .before .before .before .before .before .before in
-    let at-loop2 = lent .before .before .before .before .before .before .before .before .before .before .before in
-    lent .tys .given ∙ at-loop2 .loop2 .inv .words ∙ at-loop2 .before .before .loop .inv .words
+    let arm = c .before .before .before .before .before .before in
+    let turn = turn-of (arm .before .before .before .before .before .before .before) in
+    let at-loop2 = turn .before .before .before .before .before in
+    arm .before .before .before .before .before .before .tys .given ∙ at-loop2 .loop2 .inv .words
+    ∙ at-loop2 .before .before .loop .inv .words
 
 same-length-2 : tie.Need-same-length-2 Inv-loop2 μ-loop2 Inv-loop μ-loop
 same-length-2 c =
-    let lent = c .before .before .before .before .before .before .before .before in
-    let at-loop2 = lent .before .before .before .before .before .before .before .before .before .before .before in
+    let arm = c .before .before .before .before .before .before in
+    let turn = turn-of (arm .before .before .before .before .before .before .before) in
+    let at-loop2 = turn .before .before .before .before .before in
     at-loop2 .loop2 .inv .flags ∙ at-loop2 .before .before .loop .inv .flags
+
+same-length-3 : tie.Need-same-length-3 Inv-loop2 μ-loop2 Inv-loop μ-loop
+same-length-3 c =
+    let arm = c .before .before .before .before .before .before in
+    let turn = turn-of (arm .before .before .before .before .before .before .before) in
+    let at-loop2 = turn .before .before .before .before .before in
+    arm .before .before .before .before .stuck .given ∙ at-loop2 .loop2 .inv .members
+    ∙ at-loop2 .before .before .loop .inv .members
+
+same-length-4 : tie.Need-same-length-4 Inv-loop2 μ-loop2 Inv-loop μ-loop
+same-length-4 c =
+    let arm = c .before .before .before .before .before .before in
+    let turn = turn-of (arm .before .before .before .before .before .before .before) in
+    let at-loop2 = turn .before .before .before .before .before in
+    arm .before .before .tried .given ∙ at-loop2 .loop2 .inv .rows
+    ∙ at-loop2 .before .before .loop .inv .rows
 
 returns : tie.Need-returns Inv-loop2 μ-loop2 Inv-loop μ-loop
 returns c =
-    let taken = c .before .before .before .before .before .before .before .before .before in
-    let waits = taken .before .before .before .before .before in
+    let took = c .before .before .before .before .before .before
+    .before .before .before .before .before .before .before in
+    let waits = turn-of took in
     let turn = waits .before .before .before .before in
-    ended-no (turn .before .loop2 .inv) (turn .loop2-test .taken) (taken .take-turn .ensures) (waits .if1 .taken) _
+    ended-no (turn .before .loop2 .inv) (turn .loop2-test .taken) (took .take-turn .ensures .0) (waits .if1 .taken) _
     (c .before .before .before .before .before .r .given .1) (c .clear .ensures)
 
 enum-known-r-2 : tie.Need-enum-known-r-2 Inv-loop2 μ-loop2 Inv-loop μ-loop
@@ -96,20 +121,21 @@ enum-known-r-2 c = search needs
 
 slice-write-done : tie.Need-slice-write-done Inv-loop2 μ-loop2 Inv-loop μ-loop
 slice-write-done c =
-    let waits = c .before .before .before .before .before .before .before .before .before .before in
+    let waits = turn-of (c .before .before .before .before .before .before .before .before .before) in
     let turn = waits .before .before .before .before in
     omega (arith, turn .before .loop2 .inv .inner .flags, turn .loop2-test .taken)
 
 sub-left : tie.Need-sub-left Inv-loop2 μ-loop2 Inv-loop μ-loop
 sub-left c =
-    let waits = c .before .before .before .before .before .before .before .before .before .before in
+    let waits = turn-of (c .before .before .before .before .before .before .before .before .before) in
     let turn = waits .before .before .before .before in
     within-left (turn .before .loop2 .inv) (turn .loop2-test .taken) (waits .if1 .taken)
 
 -- a type's count, as it was read
 counted : (c : tie.Joined1 Inv-loop2 μ-loop2 Inv-loop μ-loop)
     → let at-loop2 = c .before .before .before .before .before in
-    let start = at-loop2 .before .before .before .before .before .before .before .before .before .before in
+    let start = at-loop2 .before .before .before .before .before .before .before .before .before .before .before .before
+    in
     c .before .before .count-of .result ≡ countOf (start .args .book .now) (at-loop2 .loop2 .i)
 counted c =
     c .before .before .count-of .ensures .0
@@ -138,12 +164,14 @@ loop2-again c =
     let l = turn .loop2-test .taken in
     rw (counted c)
     (⊎-elim
-    (λ w. rw (w .10, w .11, w .12, w .13, w .14, w .15, w .16)
-    (within-wait v l (w .5 .ensures) (w .0 .taken) (w .6 .given) (w .9 .given .1)))
+    (λ w. rw (w .16, w .17, w .18, w .19, w .20, w .21, w .22, w .23, w .24)
+    (within-wait v l (w .7 .ensures .0) (w .0 .taken) (w .8 .given) (w .10 .given) (w .12 .given) (w .7 .ensures .1)
+    (w .15 .given .1)))
     (⊎-elim
-    (λ w. rw (w .11, w .12, w .13, w .14, w .15, w .16, w .17)
-    (within-yes v l (w .5 .ensures) (w .0 .taken) (w .6 .given) _ (w .9 .given .1)))
-    (λ w. rw (w .1, w .2, w .3, w .4, w .5, w .6, w .7) (within-past v l (w .0 .left))))
+    (λ w. rw (w .17, w .18, w .19, w .20, w .21, w .22, w .23, w .24, w .25)
+    (within-yes v l (w .7 .ensures .0) (w .0 .taken) (w .8 .given) (w .10 .given) (w .12 .given) (w .7 .ensures .1) _
+    (w .15 .given .1)))
+    (λ w. rw (w .1, w .2, w .3, w .4, w .5, w .6, w .7, w .8, w .9) (within-past v l (w .0 .left))))
     (c .if1 .came))
 
 clear-requires-2 : tie.Need-clear-requires-2 Inv-loop2 μ-loop2 Inv-loop μ-loop
@@ -152,20 +180,30 @@ clear-requires-2 c κs = search needs
 first-waiting-requires : tie.Need-first-waiting-requires Inv-loop2 μ-loop2 Inv-loop μ-loop
 first-waiting-requires c κs = c .before .before .before .before .before .before .before .loop2 .inv .inner .flags
 
-cast-t48 : tie.Need-cast-t48 Inv-loop2 μ-loop2 Inv-loop μ-loop
-cast-t48 c =
+cast-t54 : tie.Need-cast-t54 Inv-loop2 μ-loop2 Inv-loop μ-loop
+cast-t54 c =
     let at-loop2 = c .before .before .before .before .before .before .before .before in
     omega (arith, c .first-waiting .ensures .small, const-small (at-loop2 .loop2 .inv .const))
 
-same-length-3 : tie.Need-same-length-3 Inv-loop2 μ-loop2 Inv-loop μ-loop
-same-length-3 c =
+same-length-5 : tie.Need-same-length-5 Inv-loop2 μ-loop2 Inv-loop μ-loop
+same-length-5 c =
     let at-loop2 = c .before .before .before .before .before .before .before .before in
     at-loop2 .loop2 .inv .words ∙ at-loop2 .before .before .loop .inv .words
 
-same-length-4 : tie.Need-same-length-4 Inv-loop2 μ-loop2 Inv-loop μ-loop
-same-length-4 c =
+same-length-6 : tie.Need-same-length-6 Inv-loop2 μ-loop2 Inv-loop μ-loop
+same-length-6 c =
     let at-loop2 = c .before .before .before .before .before .before .before .before in
     at-loop2 .loop2 .inv .flags ∙ at-loop2 .before .before .loop .inv .flags
+
+same-length-7 : tie.Need-same-length-7 Inv-loop2 μ-loop2 Inv-loop μ-loop
+same-length-7 c =
+    let at-loop2 = c .before .before .before .before .before .before .before .before in
+    at-loop2 .loop2 .inv .members ∙ at-loop2 .before .before .loop .inv .members
+
+same-length-8 : tie.Need-same-length-8 Inv-loop2 μ-loop2 Inv-loop μ-loop
+same-length-8 c =
+    let at-loop2 = c .before .before .before .before .before .before .before .before in
+    at-loop2 .loop2 .inv .rows ∙ at-loop2 .before .before .loop .inv .rows
 
 returns-2 : tie.Need-returns-2 Inv-loop2 μ-loop2 Inv-loop μ-loop
 returns-2 c =
@@ -182,14 +220,20 @@ loop-again c =
     within-next (at-loop2 .loop2 .inv) (c .before .loop2-test .left) (c .if2 .left)
     (at-loop2 .before .before .loop .inv)
 
-cast-t50 : tie.Need-cast-t50 Inv-loop2 μ-loop2 Inv-loop μ-loop
-cast-t50 c = omega (arith, going-few (c .before .before .loop .inv))
+cast-t56 : tie.Need-cast-t56 Inv-loop2 μ-loop2 Inv-loop μ-loop
+cast-t56 c = omega (arith, going-few (c .before .before .loop .inv))
 
-same-length-5 : tie.Need-same-length-5 Inv-loop2 μ-loop2 Inv-loop μ-loop
-same-length-5 c = c .before .before .loop .inv .words
+same-length-9 : tie.Need-same-length-9 Inv-loop2 μ-loop2 Inv-loop μ-loop
+same-length-9 c = c .before .before .loop .inv .words
 
-same-length-6 : tie.Need-same-length-6 Inv-loop2 μ-loop2 Inv-loop μ-loop
-same-length-6 c = c .before .before .loop .inv .flags
+same-length-10 : tie.Need-same-length-10 Inv-loop2 μ-loop2 Inv-loop μ-loop
+same-length-10 c = c .before .before .loop .inv .flags
+
+same-length-11 : tie.Need-same-length-11 Inv-loop2 μ-loop2 Inv-loop μ-loop
+same-length-11 c = c .before .before .loop .inv .members
+
+same-length-12 : tie.Need-same-length-12 Inv-loop2 μ-loop2 Inv-loop μ-loop
+same-length-12 c = c .before .before .loop .inv .rows
 
 returns-3 : tie.Need-returns-3 Inv-loop2 μ-loop2 Inv-loop μ-loop
 returns-3 c = ended-all (c .before .before .loop .inv) (omega (arith, c .before .loop-test .left))
@@ -216,6 +260,8 @@ run-spec =
     clear-requires
     same-length
     same-length-2
+    same-length-3
+    same-length-4
     returns
     enum-known-r-2
     slice-write-done
@@ -227,13 +273,17 @@ run-spec =
     loop2-again
     clear-requires-2
     first-waiting-requires
-    cast-t48
-    same-length-3
-    same-length-4
+    cast-t54
+    same-length-5
+    same-length-6
+    same-length-7
+    same-length-8
     returns-2
     loop-less
     loop-again
-    cast-t50
-    same-length-5
-    same-length-6
+    cast-t56
+    same-length-9
+    same-length-10
+    same-length-11
+    same-length-12
     returns-3)

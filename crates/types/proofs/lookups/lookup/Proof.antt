@@ -1,5 +1,6 @@
 -- `types::lookup` meets its contract: an atomic, else the first structure.
 use borrow.Author.Needs.{needs}
+use native.Mathlib.Nat.{sub-zero}
 use mathlib.Core.Path.{sym, _∙_}
 use Rattle.types.specs.Lookup.{typeAmong}
 use Rattle.types.proofs.lookups.lookup.Statement.{statement}
@@ -27,7 +28,7 @@ returns-2 : tie.Need-returns-2
 unfolding typeAmong
 returns-2 c =
     let found = c .before .before .before in
-    c .find-type .ensures ∙ rw (sym (found .from-name .ensures) ∙ c .before .enum-told .given .1)
+    (rw sub-zero at (c .find-type .ensures)) ∙ rw (sym (found .from-name .ensures) ∙ c .before .enum-told .given .1)
 
 pub lookup-spec : {M : Type 1} → statement M
 lookup-spec =

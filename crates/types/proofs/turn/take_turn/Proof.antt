@@ -2,54 +2,130 @@
 use native.Mathlib.Omega.{arith}
 use borrow.Author.Needs.{needs}
 use Prim.Native.Nat.{_+_, _≤_}
-use mathlib.Core.Path.{_≡_, sym, ap, _∙_}
+use mathlib.Core.Path.{_≡_, refl, sym, ap, _∙_}
 use lib.ListN.{length}
 use Rattle.types.specs.declared.book.TypeEntry.{TypeEntry}
 use Rattle.types.specs.Book.{typeEntry}
 use Rattle.types.specs.Turns.{countOf}
 use Rattle.types.proofs.StoreOneLaws.{lent-name}
-use Rattle.types.proofs.TurnLaws.{turn-waits, turn-ready, turn-takes}
+use Rattle.types.proofs.TurnLaws.{turn-looks, turn-still, turn-waits, turn-ready, turn-takes}
 use Rattle.types.proofs.turn.take_turn.Statement.{statement}
 use Rattle.types.proofs.turn.take_turn.Tie as tie
 
-type-entry-requires : tie.Need-type-entry-requires
-type-entry-requires c κs = search needs
+-- where the turn begins, from its two tests
+abbrev begun : tie.After-waits-still → tie.Start
+begun c = c .before .before .before .before .before .before .before .before .before .before .before .before .before
+
+abbrev begun-2 : tie.After-resolve → tie.Start
+begun-2 c = begun (c .before .before .before .before .before .before .before .before)
+
+mul-count-of : tie.Need-mul-count-of
+mul-count-of c = search needs
+
+slice-read-count-of : tie.Need-slice-read-count-of
+slice-read-count-of c = search needs
 
 count-of-requires : tie.Need-count-of-requires
 count-of-requires c κs = search needs
 
--- the number of members is the entry's
-counted : (c : tie.After-count-of)
-    → c .count-of .result ≡ countOf (c .before .before .before .before .args .book .now)
-    (c .before .before .before .before .args .i)
-counted c = c .count-of .ensures .0 ∙ ap (λ (e : TypeEntry). e .count) (c .before .type-entry .ensures)
+slice-read-wide8 : tie.Need-slice-read-wide8
+slice-read-wide8 c = search needs
 
-resolve-requires : tie.Need-resolve-requires
-resolve-requires c κs =
-    let n = c .before .before .before .before in
-    let p = n .before .before .before .before .pre in
-    rw (counted n) (record { rows = p .usable .rows; inside = p .inside .inside; uses = p .uses; room = p .room })
+wide8-requires : tie.Need-wide8-requires
+wide8-requires c κs = search needs
+
+wide-requires : tie.Need-wide-requires
+wide-requires c κs = search needs
+
+waits-still-requires : tie.Need-waits-still-requires
+waits-still-requires c κs =
+    let from = c .before .before .before in
+    let k = from .before .before .before in
+    let s = k .before .before .before .before .before .before in
+    turn-looks _ _ _ _ _ _ _ _ refl (s .pre) _ _ (k .count-of .ensures .0)
+    (from .wide .ensures ∙ from .before .wide8 .ensures)
+
+cast-tried : tie.Need-cast-tried
+cast-tried c = search needs
+
+slice-write-tried : tie.Need-slice-write-tried
+slice-write-tried c = search needs
 
 same-length : tie.Need-same-length
 same-length c = search needs
 
 returns : tie.Need-returns
 returns c =
+    let still = c .before in
+    let from = still .before .before .before .before in
+    let k = from .before .before .before in
+    let s = k .before .before .before .before .before .before in
+    turn-still _ _ _ _ _ _ _ _ refl (s .pre) _ _ (k .count-of .ensures .0)
+    (from .wide .ensures ∙ from .before .wide8 .ensures) (still .waits-still .ensures (c .if1 .taken))
+
+type-entry-requires : tie.Need-type-entry-requires
+type-entry-requires c κs = search needs
+
+count-of-requires-2 : tie.Need-count-of-requires-2
+count-of-requires-2 c κs = search needs
+
+-- the number of members is the entry's
+counted : (c : tie.After-count-of2)
+    → let s = begun (c .before .before .before) in
+    c .count-of2 .result ≡ countOf (s .args .book .now) (s .args .i)
+counted c = c .count-of2 .ensures .0 ∙ ap (λ (e : TypeEntry). e .count) (c .before .type-entry .ensures)
+
+resolve-requires : tie.Need-resolve-requires
+resolve-requires c κs =
+    let n = c .before .before .before .before in
+    let p = begun (n .before .before .before) .pre in
+    rw (counted n) (record { rows = p .usable .rows; inside = p .inside .inside; uses = p .uses; room = p .room })
+
+cast-stuck : tie.Need-cast-stuck
+cast-stuck c = search needs
+
+mul-stuck : tie.Need-mul-stuck
+mul-stuck c = omega (arith, begun-2 (c .before .before .before) .pre .small)
+
+slice-write-stuck : tie.Need-slice-write-stuck
+slice-write-stuck c =
+    let p = begun-2 (c .before .before .before) .pre in
+    omega (arith, p .among, p .tries .members)
+
+cast-tried-2 : tie.Need-cast-tried-2
+cast-tried-2 c = omega (arith, begun-2 (c .before .before .before) .pre .usable .rows .few)
+
+slice-write-tried-2 : tie.Need-slice-write-tried-2
+slice-write-tried-2 c =
+    let p = begun-2 (c .before .before .before) .pre in
+    omega (arith, p .among, p .tries .rows)
+
+same-length-2 : tie.Need-same-length-2
+same-length-2 c = search needs
+
+same-length-3 : tie.Need-same-length-3
+same-length-3 c = search needs
+
+same-length-4 : tie.Need-same-length-4
+same-length-4 c = search needs
+
+returns-2 : tie.Need-returns-2
+returns-2 c =
     let resolved = c .before .before .before in
     let n = resolved .before .before .before .before .before in
-    turn-waits _ _ _ _ _ _ _ _ (counted n) _ (resolved .resolve .ensures) (c .if1 .taken)
-
-wide-requires : tie.Need-wide-requires
-wide-requires c κs = search needs
+    turn-waits _ _ _ _ _ _ _ _ (counted n) _ (resolved .resolve .ensures) (begun-2 resolved .pre) (c .if2 .taken)
 
 wide-requires-2 : tie.Need-wide-requires-2
 wide-requires-2 c κs = search needs
+
+wide-requires-3 : tie.Need-wide-requires-3
+wide-requires-3 c κs = search needs
 
 add-end : tie.Need-add-end
 add-end c = search needs
 
 cast-add-entry : tie.Need-cast-add-entry
-cast-add-entry c = search needs
+cast-add-entry c = omega (arith, begun-2 (c .before .before .before .before .before .before .before) .pre .small)
 
 sub-add-entry : tie.Need-sub-add-entry
 sub-add-entry c = search needs
@@ -58,13 +134,13 @@ part-add-entry-start : tie.Need-part-add-entry-start
 part-add-entry-start c = search needs
 
 -- the type's name lies in the book
-end : (c : tie.After-wide2)
-    → c .before .wide .result + c .wide2 .result
-    ≤ length (c .before .before .before .before .before .before .before .before .before .before .before .before .before .before .before .args .book .now)
+end : (c : tie.After-wide3)
+    → c .before .wide2 .result + c .wide3 .result
+    ≤ length (begun-2 (c .before .before .before .before .before .before) .args .book .now)
 end c =
     let entry = c .before .before .before .before .before .before .before .before .before .before .before .before in
-    rw (c .before .wide .ensures, c .wide2 .ensures, entry .type-entry .ensures)
-    (entry .before .before .before .pre .named)
+    rw (c .before .wide2 .ensures, c .wide3 .ensures, entry .type-entry .ensures)
+    (begun (entry .before .before) .pre .named)
 
 part-add-entry-end : tie.Need-part-add-entry-end
 part-add-entry-end c = omega (arith, end (c .before))
@@ -74,54 +150,73 @@ add-entry-requires c κs =
     let more = c .before .before .before .before .before .before .before .before in
     let resolved = more .before .before .before in
     let n = resolved .before .before .before .before .before in
-    let s = n .before .before .before .before in
+    let s = begun (n .before .before .before) in
     let few = counted n in
     record {
       usable = s .pre .usable;
       declared =
-          rw (← n .count-of .ensures .0)
-          (turn-ready _ (s .args .members .now) _ _ (s .args .u) _ _ _ few _ (resolved .resolve .ensures)
-          (more .if1 .left)
-          (omega (arith, few, s .pre .room)) (rw few (s .pre .inside)) (omega (arith, n .count-of .ensures .1)));
+          rw (← n .count-of2 .ensures .0)
+          (turn-ready _ (s .args .members .now) _ _ (s .args .u) _ _ _ few _ (resolved .resolve .ensures) (more .if2 .left)
+          (omega (arith, few, s .pre .room)) (rw few (s .pre .inside)) (omega (arith, n .count-of2 .ensures .1)));
       rows = s .pre .rows;
       bytes = s .pre .bytes;
     }
 
-same-length-2 : tie.Need-same-length-2
-same-length-2 c = search needs
+same-length-5 : tie.Need-same-length-5
+same-length-5 c = search needs
 
-returns-2 : tie.Need-returns-2
-returns-2 c =
+returns-3 : tie.Need-returns-3
+returns-3 c =
     let wide = c .before .before .before .before .before .before in
     let more = wide .before .before .before in
     let resolved = more .before .before .before in
     let n = resolved .before .before .before .before .before in
     let entry = n .before in
-    let s = entry .before .before .before in
-    let few = counted n in
-    turn-takes _ _ _ _ _ _ _ _ few _ (resolved .resolve .ensures) (more .if1 .left) (omega (arith, few, s .pre .room))
-    (rw (
-      ← entry .type-entry .ensures,
-      n .count-of .ensures .0,
-      ← lent-name _ _ _ _ (wide .before .wide .ensures) (wide .wide2 .ensures),
-    ) (c .add-entry .ensures))
+    let s = begun (entry .before .before) in
+    let few = counted n in (
+      turn-takes _ _ _ _ _ _ _ _ few _ (resolved .resolve .ensures) (more .if2 .left) (omega (arith, few, s .pre .room))
+          (rw (
+            ← entry .type-entry .ensures,
+            n .count-of2 .ensures .0,
+            ← lent-name _ _ _ _ (wide .before .wide2 .ensures) (wide .wide3 .ensures),
+          ) (c .add-entry .ensures)),
+      s .pre .tries,
+    )
 
 pub take-turn-spec : {M : Type 1} → statement M
 take-turn-spec =
     tie.close
     (tie.spec
-    type-entry-requires
+    mul-count-of
+    slice-read-count-of
     count-of-requires
-    resolve-requires
+    slice-read-wide8
+    wide8-requires
+    wide-requires
+    waits-still-requires
+    cast-tried
+    slice-write-tried
     same-length
     returns
-    wide-requires
+    type-entry-requires
+    count-of-requires-2
+    resolve-requires
+    cast-stuck
+    mul-stuck
+    slice-write-stuck
+    cast-tried-2
+    slice-write-tried-2
+    same-length-2
+    same-length-3
+    same-length-4
+    returns-2
     wide-requires-2
+    wide-requires-3
     add-end
     cast-add-entry
     sub-add-entry
     part-add-entry-start
     part-add-entry-end
     add-entry-requires
-    same-length-2
-    returns-2)
+    same-length-5
+    returns-3)
