@@ -13,6 +13,7 @@ use crate::shapes::tell_shape;
 use crate::type_words::ty_of_word;
 use crate::type_words::word_of_ty;
 use types::Built;
+use types::Fit;
 use types::FoundTy;
 use types::Header;
 use types::MemberTable;
@@ -156,6 +157,20 @@ fn put_header(header: Header, out: &mut [u8]) -> usize {
     put8(out, k3, bytes[3])
 }
 
+fn header_of(types: &TypeTable, ty: Ty, out: &mut [u8]) -> usize {
+    let r = type_header(types, ty);
+    let fit = r.fit;
+    let header = r.header;
+    match fit {
+        Fit::Fits => {
+            return put_header(header, out);
+        }
+        Fit::Refused(why) => {
+            return refuse(out, why);
+        }
+    }
+}
+
 // Kind 8.
 fn tell_header(rest: &[u8], types: &TypeTable, out: &mut [u8]) -> usize {
     if rest.len() < 2 {
@@ -164,8 +179,7 @@ fn tell_header(rest: &[u8], types: &TypeTable, out: &mut [u8]) -> usize {
     let found = ty_of_word(types, load16(rest, 0));
     match found {
         FoundTy::Is(ty) => {
-            let header = type_header(types, ty);
-            return put_header(header, out);
+            return header_of(types, ty, out);
         }
         FoundTy::Nothing => {
             return refuse(out, Refusal::NoSuchType);

@@ -5,7 +5,6 @@
 ghost use mathlib.Core.Path.{_≡_};
 ghost use lib.ListN.{length};
 ghost use Rattle.types.specs.Kept.{Kept};
-ghost use Rattle.types.specs.Registry.{noTypes, noMembers, noNames};
 
 mod describe;
 mod frames;
@@ -21,6 +20,9 @@ use crate::kinds::answer;
 use types::MemberTable;
 use types::NameTable;
 use types::TypeTable;
+use types::no_members;
+use types::no_names;
+use types::no_types;
 
 // Answers one question; says whether to go on.
 fn serve_one(
@@ -80,25 +82,6 @@ fn answer_room() -> [u8; 1048585]
     ensures { λ r. ⌜ 1048585 ≡ length r ⌝ }
 {
     [0; 1048585]
-}
-
-// Tables of no types.
-fn no_types() -> TypeTable
-    ensures { λ r. ⌜ r ≡ noTypes ⌝ }
-{
-    [0; 1600]
-}
-
-fn no_members() -> MemberTable
-    ensures { λ r. ⌜ r ≡ noMembers ⌝ }
-{
-    [0; 16000]
-}
-
-fn no_names() -> NameTable
-    ensures { λ r. ⌜ r ≡ noNames ⌝ }
-{
-    [0; 32768]
 }
 
 fn main() {

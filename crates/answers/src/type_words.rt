@@ -1,6 +1,5 @@
 // The words that questions and answers have for types: an atomic's code, or 0x8000 plus the number of a type in the
 // tables.
-ghost use Rattle.answers.specs.Fits.{FoundFits};
 use types::Atomic;
 use types::FoundAtomic;
 use types::FoundTy;
@@ -14,9 +13,7 @@ use words::wide16;
 const STRUCTS: u16 = 0x8000;
 
 // The atomic of a code.
-fn coded(word: u16) -> FoundTy
-    ensures { λ r. ⌜ FoundFits r ⌝ }
-{
+fn coded(word: u16) -> FoundTy {
     let found = Atomic::from_code(word);
     match found {
         FoundAtomic::Is(a) => {
@@ -29,9 +26,7 @@ fn coded(word: u16) -> FoundTy
 }
 
 // The type of a word, where there is one.
-pub fn ty_of_word(types: &TypeTable, word: u16) -> FoundTy
-    ensures { λ r. ⌜ FoundFits r ⌝ }
-{
+pub fn ty_of_word(types: &TypeTable, word: u16) -> FoundTy {
     if word < STRUCTS {
         return coded(word);
     }

@@ -10,29 +10,17 @@ mod list;
 use crate::lines::say_refused;
 use crate::list::list;
 use types::Built;
-use types::MemberTable;
-use types::NameTable;
 use types::Refusal;
-use types::TypeTable;
 use types::build;
+use types::no_members;
+use types::no_names;
+use types::no_types;
 
 // The room of the longest book and one byte more, which shows a longer one. Its length is all that is said of it.
 fn room() -> [u8; 65537]
     ensures { λ r. ⌜ 65537 ≡ length r ⌝ }
 {
     [0; 65537]
-}
-
-fn no_types() -> TypeTable {
-    [0; 1600]
-}
-
-fn no_members() -> MemberTable {
-    [0; 16000]
-}
-
-fn no_names() -> NameTable {
-    [0; 32768]
 }
 
 fn refuse(r: Refusal, out: &mut [u8])

@@ -150,6 +150,6 @@ pub took-no : {s : Verdict} {u : Used} (r : Refusal) (types members names : List
 took-no r types members names e = rw e (record { is = refl; types = refl; members = refl; names = refl })
 
 -- a verdict was carried out that is the one asked for
-pub took-so : {s s′ : Verdict} {u : Used} {t₀ m₀ n₀ t m n : List ℕ} {r : Turn} → s ≡ s′ → Took s′ u t₀ m₀ n₀ t m n r
-    → Took s u t₀ m₀ n₀ t m n r
+pub took-so : {s s′ : Verdict} {u : Used} {t₀ m₀ n₀ t m n : List ℕ} {r : Turn}
+    → s ≡ s′ → Took s′ u t₀ m₀ n₀ t m n r → Took s u t₀ m₀ n₀ t m n r
 took-so e t = rw e t

@@ -21,19 +21,20 @@ use Rattle.types.specs.Build.{buildOf, Ended, FirstWaits, Cleared, RunIn
 use Rattle.types.specs.Checks.{entriesFrom}
 use Rattle.types.specs.Defs.{Def}
 use Rattle.types.specs.Lookup.{rowNames}
-use Rattle.types.specs.Predefined.{predefinedIds, predefined, Stands}
-use Rattle.types.specs.Registry.{viewIn, viewOf}
+use Rattle.types.specs.Predefined.{predefinedIds, predefined}
+use Rattle.types.specs.Registry.{viewIn, viewOf, Stands}
 use Rattle.types.specs.Resolve.{typeNames, allKnown}
 use Rattle.types.specs.Rounds.{no, ok, Answer, refused}
 use Rattle.types.specs.Turns.{entriesAt, countOf, declsOf, readyIn, verdictOn, addIn, roundsFrom, TurnIn, Turned}
 use Rattle.types.specs.Turns.{Tries}
 use Rattle.types.proofs.PredefinedLaws.{predefined-shown}
+use Rattle.types.proofs.RegistryLaws.{stands-more}
 use Rattle.types.proofs.RunLaws.{Inner, inner-start, inner-past, inner-wait, inner-no, inner-yes, inner-end}
 use Rattle.types.proofs.RunLaws.{Outer, outer-start, outer-end, outer-stop, outer-stuck, outer-next}
 use Rattle.types.proofs.SearchLaws.{tries-start}
 use Rattle.types.proofs.ShownLaws.{shown-more}
 use Rattle.types.proofs.SoundLaws.{Sound, sound, among-all}
-use Rattle.types.proofs.StandLaws.{turn-in, turn-same, turn-waits, turn-refused, turn-added, stands-more}
+use Rattle.types.proofs.StandLaws.{turn-in, turn-same, turn-waits, turn-refused, turn-added}
 use Rattle.types.proofs.StandLaws.{tries-stand}
 use Rattle.types.proofs.VerdictLaws.{verdict-fits}
 use Rattle.types.proofs.WaitLaws.{waits-on}
@@ -65,7 +66,8 @@ pub record Going (book : List ℕ) (start : List Def) (T : ℕ) (tys₀ f₀ k�
   pub rows : length r ≡ length r₀
 
 -- in a round
-pub record Within (book : List ℕ) (start : List Def) (T : ℕ) (t₀ m₀ n₀ tys₀ f₀ k₀ r₀ : List ℕ) (u₀ : Used) (left₀ : ℕ)
+pub record Within (book : List ℕ) (start : List Def) (T : ℕ)
+    (t₀ m₀ n₀ tys₀ f₀ k₀ r₀ : List ℕ) (u₀ : Used) (left₀ : ℕ)
     (t m n tys f k r : List ℕ) (u : Used) (left i at : ℕ) : Type 0 where
   pub const : Const book tys T
   pub outer : Outer book start T t₀ m₀ n₀ f₀ u₀ left₀
@@ -141,7 +143,8 @@ ended-all g l =
     let s = o .stands in
     record { is = rw (e, s .used); types = rw e (s .types); members = rw e (s .members); names = rw e (s .names) }
 
-module _ {book t₀ m₀ n₀ tys₀ f₀ k₀ r₀ t m n tys f k r : List ℕ} {start : List Def} {T left₀ left i at : ℕ} {u₀ u : Used}
+module _ {book t₀ m₀ n₀ tys₀ f₀ k₀ r₀ t m n tys f k r : List ℕ} {start : List Def}
+    {T left₀ left i at : ℕ} {u₀ u : Used}
     (w : Within book start T t₀ m₀ n₀ tys₀ f₀ k₀ r₀ u₀ left₀ t m n tys f k r u left i at) where
   -- ---- the end of a round
 
@@ -251,8 +254,8 @@ module _ {book t₀ m₀ n₀ tys₀ f₀ k₀ r₀ t m n tys f k r : List ℕ} 
             }
 
         pub within-yes : (u′ : Used) → x ≡ Added u′
-            → Within book start T t₀ m₀ n₀ tys₀ f₀ k₀ r₀ u₀ left₀ t′ m′ n′ tys′ (set f i 1) k′ r′ u′ (left - 1) (i + 1)
-            (at + 16 * countOf book i)
+            → Within book start T t₀ m₀ n₀ tys₀ f₀ k₀ r₀ u₀ left₀ t′ m′ n′ tys′ (set f i 1) k′ r′ u′
+            (left - 1) (i + 1) (at + 16 * countOf book i)
         within-yes u′ q =
             let a = turn-added went u′ q in
             let ds = w .inner .ds in

@@ -67,7 +67,8 @@ module _ {s : List ℕ} {h i : ℕ} (m : Marking s h i) where
 
 -- a name whose mark was not seen is not one whose mark was
 unseen-one : (seen s x : List ℕ) (xs : List (List ℕ)) → getD seen (markOf s) 0 ≡ 0
-    → (getD seen (markOf x) 0 ≡ 0 → ⊥) → among s xs ≡ false → (b : Bool) → sameName x s ≡ b → (b || among s xs) ≡ false
+    → (getD seen (markOf x) 0 ≡ 0 → ⊥) → among s xs ≡ false
+    → (b : Bool) → sameName x s ≡ b → (b || among s xs) ≡ false
 unseen-one seen s x xs z n r true q = absurd (n (rw (same-mark x s q) z))
 unseen-one seen s x xs z n r false q = r
 

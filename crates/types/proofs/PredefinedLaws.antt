@@ -17,11 +17,11 @@ use Rattle.types.specs.Add.{yes, hasRoom, newDef, Took}
 use Rattle.types.specs.Defs.{Part, Def, Readable}
 use Rattle.types.specs.Handle.{handleOf}
 use Rattle.types.specs.Laid.{Every}
-use Rattle.types.specs.Predefined.{predefinedId, distinct, predefinedIds, added, Stands, Ready}
+use Rattle.types.specs.Predefined.{predefinedId, distinct, predefinedIds, added, Ready}
 use Rattle.types.specs.Predefined.{withTimer, withCounter, withControl, predefined}
 use Rattle.types.specs.Predefined.{timerName, counterName, controlName, stringName}
 use Rattle.types.specs.Registry.{viewIn, viewOf, membersOf, bytesOf, bareHead, withHandle, usedBy, usedWith}
-use Rattle.types.specs.Registry.{usedMore, noTypes, noMembers, noNames, typeRows, memberRows}
+use Rattle.types.specs.Registry.{noTypes, noMembers, noNames, typeRows, memberRows, Stands}
 use Rattle.types.specs.Registry.{typesTable, membersTable, namesTable}
 use Rattle.types.specs.Structs.{namesOf, rowsOf, statusParts, controlParts, stringParts, stringSize}
 use Rattle.types.specs.Structs.{timerParts, counterParts, controlTypeParts}
@@ -31,8 +31,8 @@ use Rattle.types.proofs.AddLaws.{string-fits, fitted-yes}
 use Rattle.types.proofs.AddStoreLaws.{new-readable, took-new}
 use Rattle.types.proofs.DefLaws.{PartFits}
 use Rattle.types.proofs.HandleLaws.{handle-small}
-use Rattle.types.proofs.RegistryLaws.{length-snoc, members-of-snoc, long-snoc, types-more, members-more}
-use Rattle.types.proofs.RegistryLaws.{names-more, used-more, members-long, names-long}
+use Rattle.types.proofs.RegistryLaws.{length-snoc, members-of-snoc, long-snoc, members-long, names-long}
+use Rattle.types.proofs.RegistryLaws.{stands-more}
 use Rattle.types.proofs.RoomLaws.{room-bytes}
 use Rattle.types.proofs.ShownLaws.{Shown, Fits, shown-none, shown-more, view-same, names-inside, ids-small}
 
@@ -237,18 +237,12 @@ module _ (ds : List Def) (name : List ℕ) (id size : ℕ) (kind : StructKind) (
       }
 
   -- and the tables that stand for it
-  pub stands-more : {t m n t′ m′ n′ : List ℕ} {u r : Used} → Shown ds → Stands ds t m n u
+  pub added-stands : {t m n t′ m′ n′ : List ℕ} {u r : Used} → Shown ds → Stands ds t m n u
       → Took (yes (newDef (viewIn t n u) name id size kind parts)) u t m n t′ m′ n′ (Added r)
       → Stands (added ds name id size kind parts) t′ m′ n′ r
-  stands-more {r = r} s k took =
-      let k′ = rw (view-same ds s) at (rw (k .types, k .members, k .names, k .used) at took) in
-      let used : r ≡ usedMore (usedBy ds) new = cc (k′ .is) in
-      record {
-        types = k′ .types ∙ sym (types-more ds new);
-        members = k′ .members ∙ sym (members-more ds new);
-        names = k′ .names ∙ sym (names-more ds new);
-        used = used ∙ sym (used-more ds new);
-      }
+  added-stands {t} {n = n} {u = u} s k took =
+      let view : viewIn t n u ≡ viewOf ds = rw (k .types, k .names, k .used) (view-same ds s) in
+      stands-more new k (rw view at took)
 
 -- ---- the four
 
@@ -299,21 +293,21 @@ pub timer-stands : (a : ℕ) {t m n t′ m′ n′ : List ℕ} {u r : Used} → 
     → Took (yes (newDef (viewIn t n u) timerName a 12 Predefined timerParts)) u t m n t′ m′ n′ (Added r)
     → Stands (withTimer a) t′ m′ n′ r
 unfolding withTimer
-timer-stands a s k = stands-more [] _ a _ _ _ shown-none s k
+timer-stands a s k = added-stands [] _ a _ _ _ shown-none s k
 
 module _ (a : ℕ) (i : predefinedId a ≡ true) (b : ℕ) where
   pub counter-stands : {t m n t′ m′ n′ : List ℕ} {u r : Used} → Stands (withTimer a) t m n u
       → Took (yes (newDef (viewIn t n u) counterName b 12 Predefined counterParts)) u t m n t′ m′ n′ (Added r)
       → Stands (withCounter a b) t′ m′ n′ r
   unfolding withCounter
-  counter-stands s k = stands-more (withTimer a) _ b _ _ _ (timer-built a i .shown) s k
+  counter-stands s k = added-stands (withTimer a) _ b _ _ _ (timer-built a i .shown) s k
 
   module _ (j : predefinedId b ≡ true) (c : ℕ) where
     pub control-stands : {t m n t′ m′ n′ : List ℕ} {u r : Used} → Stands (withCounter a b) t m n u
         → Took (yes (newDef (viewIn t n u) controlName c 12 Predefined controlTypeParts)) u t m n t′ m′ n′ (Added r)
         → Stands (withControl a b c) t′ m′ n′ r
     unfolding withControl
-    control-stands s k = stands-more (withCounter a b) _ c _ _ _ (counter-built a i b j .shown) s k
+    control-stands s k = added-stands (withCounter a b) _ c _ _ _ (counter-built a i b j .shown) s k
 
     pub string-stands : predefinedId c ≡ true → (d : ℕ) {t m n t′ m′ n′ : List ℕ} {u r : Used}
         → Stands (withControl a b c) t m n u
@@ -321,7 +315,7 @@ module _ (a : ℕ) (i : predefinedId a ≡ true) (b : ℕ) where
         (Added r)
         → Stands (predefined a b c d) t′ m′ n′ r
     unfolding predefined
-    string-stands k d s l = stands-more (withControl a b c) _ d _ _ _ (control-built a i b j c k .shown) s l
+    string-stands k d s l = added-stands (withControl a b c) _ d _ _ _ (control-built a i b j c k .shown) s l
 
 -- the tables of a registry are ready for one type more
 pub ready-for : {ds : List Def} {x y z k l : ℕ} {t m n : List ℕ} {u : Used} → Built ds x y z → Stands ds t m n u

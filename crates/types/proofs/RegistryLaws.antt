@@ -9,9 +9,12 @@ use mathlib.Core.List.{List, [], _∷_, _++_, append-assoc, append-nil}
 use lib.ListN.{length, length-append, length-replicate}
 use lib.Seq.{sets, length-sets}
 use Rattle.words.proofs.Lists.{sets-append}
+use Rattle.types.specs.declared.used.Turn.the-variants.{Added}
+use Rattle.types.specs.declared.used.Used.{Used}
+use Rattle.types.specs.Add.{yes, Took}
 use Rattle.types.specs.Defs.{Def}
 use Rattle.types.specs.Registry.{ownNames, membersOf, bytesOf, headOf, typeRows, memberRows, usedBy, usedMore}
-use Rattle.types.specs.Registry.{noTypes, noMembers, noNames, typesTable, membersTable, namesTable}
+use Rattle.types.specs.Registry.{noTypes, noMembers, noNames, typesTable, membersTable, namesTable, Stands}
 use Rattle.types.specs.Structs.{rowsOf}
 use Rattle.types.specs.Tables.{typeRow}
 use Rattle.types.proofs.StoreLaws.{row-long}
@@ -132,3 +135,18 @@ members-long ds = length-sets noMembers 0 (memberRows 0 ds) ∙ no-members-long
 pub names-long : (ds : List Def) → length (namesTable ds) ≡ 32768
 unfolding namesTable
 names-long ds = length-sets noNames 0 (bytesOf ds) ∙ no-names-long
+
+-- ---- tables that stand for a registry, with one type more
+
+used-then : (u u′ : Used) (d : Def) → Added u′ ≡ Added (usedMore u d) → u′ ≡ usedMore u d
+used-then u u′ d e = cc
+
+pub stands-more : {ds : List Def} {t m n t′ m′ n′ : List ℕ} {u u′ : Used} (d : Def) → Stands ds t m n u
+    → Took (yes d) u t m n t′ m′ n′ (Added u′) → Stands (ds ++ d ∷ []) t′ m′ n′ u′
+stands-more {ds} {u = u} {u′ = u′} d s k =
+    record {
+      types = k .types ∙ rw (s .types, s .used) (sym (types-more ds d));
+      members = k .members ∙ rw (s .members, s .used) (sym (members-more ds d));
+      names = k .names ∙ rw (s .names, s .used) (sym (names-more ds d));
+      used = used-then u u′ d (k .is) ∙ rw (s .used) (sym (used-more ds d));
+    }

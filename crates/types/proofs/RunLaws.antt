@@ -14,7 +14,7 @@ use Rattle.types.specs.declared.used.Used.{Used}
 use Rattle.types.specs.Book.{typesIn}
 use Rattle.types.specs.Build.{waits}
 use Rattle.types.specs.Defs.{Def}
-use Rattle.types.specs.Predefined.{Stands}
+use Rattle.types.specs.Registry.{Stands}
 use Rattle.types.specs.Rounds.{no, ok, Out, stop, went, Answer, refused, accepted}
 use Rattle.types.specs.Rounds.{keep, onStep, onRound, round, rounds}
 use Rattle.types.specs.Turns.{entriesAt, countOf, readyIn, addIn, roundsFrom}

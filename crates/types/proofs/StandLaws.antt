@@ -17,11 +17,10 @@ use Rattle.types.specs.Book.{typesIn, membersIn}
 use Rattle.types.specs.Checks.{entriesFrom}
 use Rattle.types.specs.Defs.{Def}
 use Rattle.types.specs.Lookup.{rowNames}
-use Rattle.types.specs.Predefined.{Stands}
-use Rattle.types.specs.Registry.{View, viewIn, viewOf, usedMore}
+use Rattle.types.specs.Registry.{View, viewIn, viewOf, usedMore, Stands}
 use Rattle.types.specs.Resolve.{typeNames, allKnown}
 use Rattle.types.specs.Turns.{entriesAt, countOf, usesOf, declsOf, readyIn, verdictOn, TurnIn, Turned, Tries}
-use Rattle.types.proofs.RegistryLaws.{types-more, members-more, names-more, used-more, members-long, names-long}
+use Rattle.types.proofs.RegistryLaws.{members-long, names-long}
 use Rattle.types.proofs.SearchLaws.{tries-more}
 use Rattle.types.proofs.ShownLaws.{Shown, view-same, names-inside, ids-small}
 use Rattle.types.proofs.SoundLaws.{Sound, among-all, type-inside, entries-inside, entries-uses}
@@ -133,21 +132,6 @@ module _ {b : Bool} {v : Verdict} {u : Used} {t m n t′ m′ n′ : List ℕ} {
 
     pub turn-added : (u′ : Used) → r ≡ Added u′ → AddedBy b v u t m n t′ m′ n′ u′
     turn-added u′ e = added-of u′ b v u r h e
-
--- ---- one type more
-
-used-then : (u u′ : Used) (d : Def) → Added u′ ≡ Added (usedMore u d) → u′ ≡ usedMore u d
-used-then u u′ d e = cc
-
-pub stands-more : {ds : List Def} {t m n t′ m′ n′ : List ℕ} {u u′ : Used} (d : Def) → Stands ds t m n u
-    → Took (for d) u t m n t′ m′ n′ (Added u′) → Stands (ds ++ d ∷ []) t′ m′ n′ u′
-stands-more {ds} {u = u} {u′ = u′} d s k =
-    record {
-      types = k .types ∙ rw (s .types, s .used) (sym (types-more ds d));
-      members = k .members ∙ rw (s .members, s .used) (sym (members-more ds d));
-      names = k .names ∙ rw (s .names, s .used) (sym (names-more ds d));
-      used = used-then u u′ d (k .is) ∙ rw (s .used) (sym (used-more ds d));
-    }
 
 -- and one name more
 pub tries-stand : {ds : List Def} {t m n t′ m′ n′ book stuck tried : List ℕ} {u u′ : Used} (d : Def) → Shown ds

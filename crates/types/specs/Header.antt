@@ -1,13 +1,17 @@
--- A type's header (document 01, "Atomic types"): code and 0, or A0 02 and the handle.
-use Prim.Native.Nat.{ℕ, _≤_}
-use mathlib.Core.Path.{_≡_}
-use mathlib.Core.List.{List, [], _∷_}
+-- A type's header (document 01, "Atomic types"): code and 0, or A0 02 and the handle; 15 where there is no such type.
+use Prim.Native.Nat.{ℕ}
+use mathlib.Core.Bool.{cond}
+use mathlib.Core.List.{List, [], _∷_, _++_}
 use lib.ListN.{length, take}
 use Rattle.words.specs.Words.{bytesOf}
+use Rattle.types.specs.declared.header.Headed.{Headed}
 use Rattle.types.specs.declared.header.Header.{Header}
 use Rattle.types.specs.declared.member.Ty.{Ty}
 use Rattle.types.specs.declared.member.Ty.the-variants.{Atomic, Struct}
+use Rattle.types.specs.declared.refusal.Refusal.the-variants.{NoSuchType}
+use Rattle.types.specs.declared.shape.Fit.the-variants.{Fits, Refused}
 use Rattle.types.specs.Atomic.{codeOf}
+use Rattle.types.specs.Shape.{isThere}
 use Rattle.types.specs.Tables.{typeAt}
 
 abbrev pub headerOf : (ℕ → ℕ) → Ty → List ℕ
@@ -18,7 +22,11 @@ headerOf handles (Struct n) = 0xA0 ∷ 0x02 ∷ bytesOf 2 (handles n)
 abbrev pub handlesIn : List ℕ → ℕ → ℕ
 handlesIn types n = typeAt types n .handle
 
--- the header, as code has it
-pub record Headed (types : List ℕ) (ty : Ty) (r : Header) : Type 0 where
-  pub is : take (r .long) (r .bytes) ≡ headerOf (handlesIn types) ty
-  pub room : r .long ≤ length (r .bytes)
+-- at most four bytes as code has them, with zeros after them
+abbrev pub held : List ℕ → Header
+held s = record { bytes = take 4 (s ++ 0 ∷ 0 ∷ 0 ∷ 0 ∷ []); long = length s }
+
+unfoldable pub headedOf : List ℕ → Ty → Headed
+headedOf types ty =
+    cond (isThere types ty) (record { fit = Fits; header = held (headerOf (handlesIn types) ty) })
+    (record { fit = Refused NoSuchType; header = held [] })

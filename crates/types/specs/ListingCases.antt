@@ -39,37 +39,40 @@ shown structs number m name = memberLine number (typeName structs (m .ty)) m nam
 -- `type Chan 256 4 4 80 14`
 pub chan-type : typeLine chan 256 4 4 80 14
     ≡
-    116 ∷ 121 ∷ 112 ∷ 101 ∷ 32 ∷ 67 ∷ 104 ∷ 97 ∷ 110 ∷ 32 ∷ 50 ∷ 53 ∷ 54 ∷ 32 ∷ 52 ∷ 32 ∷ 52 ∷ 32 ∷ 56 ∷ 48
-    ∷ 32 ∷ 49 ∷ 52 ∷ 10 ∷ []
+    116 ∷ 121 ∷ 112 ∷ 101 ∷ 32 ∷ 67 ∷ 104 ∷ 97 ∷ 110 ∷ 32
+    ∷ 50 ∷ 53 ∷ 54 ∷ 32 ∷ 52 ∷ 32 ∷ 52 ∷ 32 ∷ 56 ∷ 48 ∷ 32 ∷ 49 ∷ 52 ∷ 10 ∷ []
 unfolding typeLine line digits digitsIn
 chan-type = refl
 
 -- `0 h SINT 0 0 - ZZZZZZZZZZChan0`
 pub chan-host : (structs : ℕ → List ℕ) → shown structs 0 (member SInt 0 None true) (hostName chan 0)
     ≡
-    48 ∷ 32 ∷ 104 ∷ 32 ∷ 83 ∷ 73 ∷ 78 ∷ 84 ∷ 32 ∷ 48 ∷ 32 ∷ 48 ∷ 32 ∷ 45 ∷ 32 ∷ 90 ∷ 90 ∷ 90 ∷ 90 ∷ 90 ∷ 90
-    ∷ 90 ∷ 90 ∷ 90 ∷ 90 ∷ 67 ∷ 104 ∷ 97 ∷ 110 ∷ 48 ∷ 10 ∷ []
+    48 ∷ 32 ∷ 104 ∷ 32 ∷ 83 ∷ 73 ∷ 78 ∷ 84 ∷ 32 ∷ 48 ∷ 32 ∷ 48 ∷ 32 ∷ 45 ∷ 32
+    ∷ 90 ∷ 90 ∷ 90 ∷ 90 ∷ 90 ∷ 90 ∷ 90 ∷ 90 ∷ 90 ∷ 90 ∷ 67 ∷ 104 ∷ 97 ∷ 110 ∷ 48 ∷ 10 ∷ []
 unfolding shown hostName digits digitsIn
 chan-host structs = refl
 
 -- `1 v BOOL 0 0 0 Good`
 pub chan-good : (structs : ℕ → List ℕ) → shown structs 1 (member BOOL 0 (At 0) false) good
     ≡
-    49 ∷ 32 ∷ 118 ∷ 32 ∷ 66 ∷ 79 ∷ 79 ∷ 76 ∷ 32 ∷ 48 ∷ 32 ∷ 48 ∷ 32 ∷ 48 ∷ 32 ∷ 71 ∷ 111 ∷ 111 ∷ 100 ∷ 10 ∷ []
+    49 ∷ 32 ∷ 118 ∷ 32 ∷ 66 ∷ 79 ∷ 79 ∷ 76 ∷ 32 ∷ 48 ∷ 32 ∷ 48 ∷ 32 ∷ 48 ∷ 32
+    ∷ 71 ∷ 111 ∷ 111 ∷ 100 ∷ 10 ∷ []
 unfolding shown
 chan-good structs = refl
 
 -- `2 v BOOL 0 0 1 Live`
 pub chan-live : (structs : ℕ → List ℕ) → shown structs 2 (member BOOL 0 (At 1) false) live
     ≡
-    50 ∷ 32 ∷ 118 ∷ 32 ∷ 66 ∷ 79 ∷ 79 ∷ 76 ∷ 32 ∷ 48 ∷ 32 ∷ 48 ∷ 32 ∷ 49 ∷ 32 ∷ 76 ∷ 105 ∷ 118 ∷ 101 ∷ 10 ∷ []
+    50 ∷ 32 ∷ 118 ∷ 32 ∷ 66 ∷ 79 ∷ 79 ∷ 76 ∷ 32 ∷ 48 ∷ 32 ∷ 48 ∷ 32 ∷ 49 ∷ 32
+    ∷ 76 ∷ 105 ∷ 118 ∷ 101 ∷ 10 ∷ []
 unfolding shown
 chan-live structs = refl
 
 -- `3 v INT 0 2 - Level`
 pub chan-level : (structs : ℕ → List ℕ) → shown structs 3 (member Int 2 None false) level
     ≡
-    51 ∷ 32 ∷ 118 ∷ 32 ∷ 73 ∷ 78 ∷ 84 ∷ 32 ∷ 48 ∷ 32 ∷ 50 ∷ 32 ∷ 45 ∷ 32 ∷ 76 ∷ 101 ∷ 118 ∷ 101 ∷ 108 ∷ 10 ∷ []
+    51 ∷ 32 ∷ 118 ∷ 32 ∷ 73 ∷ 78 ∷ 84 ∷ 32 ∷ 48 ∷ 32 ∷ 50 ∷ 32 ∷ 45 ∷ 32
+    ∷ 76 ∷ 101 ∷ 118 ∷ 101 ∷ 108 ∷ 10 ∷ []
 unfolding shown
 chan-level structs = refl
 
@@ -83,6 +86,7 @@ refused-10 = refl
 -- the largest number of 64 bits
 pub most : digits 18446744073709551615
     ≡
-    49 ∷ 56 ∷ 52 ∷ 52 ∷ 54 ∷ 55 ∷ 52 ∷ 52 ∷ 48 ∷ 55 ∷ 51 ∷ 55 ∷ 48 ∷ 57 ∷ 53 ∷ 53 ∷ 49 ∷ 54 ∷ 49 ∷ 53 ∷ []
+    49 ∷ 56 ∷ 52 ∷ 52 ∷ 54 ∷ 55 ∷ 52 ∷ 52 ∷ 48 ∷ 55
+    ∷ 51 ∷ 55 ∷ 48 ∷ 57 ∷ 53 ∷ 53 ∷ 49 ∷ 54 ∷ 49 ∷ 53 ∷ []
 unfolding digits digitsIn
 most = refl

@@ -66,13 +66,6 @@ predefined timer counter control string =
 
 -- ---- in the tables
 
--- the tables are those of a registry, and so much of them is used
-pub record Stands (ds : List Def) (t m n : List ℕ) (u : Used) : Type 0 where
-  pub types : t ≡ typesTable ds
-  pub members : m ≡ membersTable ds
-  pub names : n ≡ namesTable ds
-  pub used : u ≡ usedBy ds
-
 -- what a type with so many members and bytes of names asks of the tables
 pub record Ready (t m n : List ℕ) (u : Used) (parts long : ℕ) : Type 0 where
   pub usable : Usable t n u

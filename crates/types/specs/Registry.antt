@@ -2,6 +2,7 @@
 -- book": the tables; "Order of building"). Each type takes the next row, its members the next rows, its name and
 -- theirs the next bytes.
 use Prim.Native.Nat.{ℕ, zero, suc, _+_}
+use mathlib.Core.Path.{_≡_}
 use mathlib.Core.Bool.{cond}
 use mathlib.Core.List.{List, [], _∷_, _++_, map}
 use lib.Dec.{eqb}
@@ -147,6 +148,13 @@ usedWith u members bytes =
 
 abbrev pub usedMore : Used → Def → Used
 usedMore u d = usedWith u (length (d .parts)) (length (ownNames d))
+
+-- the tables are those of a registry, and so much of them is used
+pub record Stands (ds : List Def) (t m n : List ℕ) (u : Used) : Type 0 where
+  pub types : t ≡ typesTable ds
+  pub members : m ≡ membersTable ds
+  pub names : n ≡ namesTable ds
+  pub used : u ≡ usedBy ds
 
 -- ---- how many types stand in a table: the first row whose template id is 0 is unused
 

@@ -1,40 +1,72 @@
 // A type's header (document 01, "Atomic types"): an atomic's code and 0, or A0 02 and the structure's handle.
-ghost use Rattle.types.specs.Header.{Headed};
+ghost use mathlib.Core.Path.{_≡_};
+ghost use Rattle.types.specs.Header.{held, headerOf, handlesIn, headedOf};
 ghost use Rattle.types.specs.Tables.{TyFits};
 use crate::member::Ty;
+use crate::refusal::Refusal;
+use crate::shape::Fit;
+use crate::shape::is_there;
 use crate::tables::TypeTable;
 use crate::tables::type_at;
 use words::high8;
 use words::low8;
 
-// The first `long` of these bytes.
+// The first `long` of these bytes; those after them are 0.
 pub struct Header {
     pub bytes: [u8; 4],
     pub long: usize,
 }
 
-// The header that a reply has before the bytes of a value of the type.
-pub fn type_header(types: &TypeTable, ty: Ty) -> Header
+// A type's header, or why there is none; then it has no bytes.
+pub struct Headed {
+    pub fit: Fit,
+    pub header: Header,
+}
+
+// The header of a type that is there.
+fn header_in(types: &TypeTable, ty: Ty) -> Header
     requires { ⌜ TyFits ty ⌝ }
-    ensures { λ r. ⌜ Headed (now (types .entry)) ty r ⌝ }
+    ensures { λ r. ⌜ r ≡ held (headerOf (handlesIn (now (types .entry))) ty) ⌝ }
 {
     match ty {
         Ty::Atomic(a) => {
             let code = a.code();
-            Header {
+            return Header {
                 bytes: [code, 0, 0, 0],
                 long: 2,
-            }
+            };
         }
         Ty::Struct(n) => {
             let d = type_at(types, n);
             let handle = d.handle;
             let low = low8(handle);
             let high = high8(handle);
-            Header {
+            return Header {
                 bytes: [0xA0, 0x02, low, high],
                 long: 4,
-            }
+            };
         }
+    }
+}
+
+// The header that a reply has before the bytes of a value of the type; 15 where there is no such type.
+pub fn type_header(types: &TypeTable, ty: Ty) -> Headed
+    ensures { λ r. ⌜ r ≡ headedOf (now (types .entry)) ty ⌝ }
+{
+    let there = is_there(types, ty);
+    if there {
+        let header = header_in(types, ty);
+        return Headed {
+            fit: Fit::Fits,
+            header,
+        };
+    }
+    let none = Header {
+        bytes: [0, 0, 0, 0],
+        long: 0,
+    };
+    Headed {
+        fit: Fit::Refused(Refusal::NoSuchType),
+        header: none,
     }
 }

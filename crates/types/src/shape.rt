@@ -38,7 +38,7 @@ pub struct Shape {
     pub bytes: u64,
 }
 
-// Whether there is such a tag.
+// Whether there is what was asked for.
 pub enum Fit {
     Fits,
     Refused(Refusal),
@@ -75,7 +75,7 @@ fn refused(why: Refusal) -> Shaped
 }
 
 // An atomic, or a structure of the table.
-fn is_there(types: &TypeTable, ty: Ty) -> bool
+pub fn is_there(types: &TypeTable, ty: Ty) -> bool
     ensures { λ r. ⌜ r ≡ isThere (now (types .entry)) ty ⌝ }
 {
     match ty {

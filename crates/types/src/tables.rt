@@ -3,6 +3,7 @@
 ghost use mathlib.Core.Path.{_≡_};
 ghost use Prim.Native.Nat.{_*_, _<_, _%_};
 ghost use lib.Seq.{sets};
+ghost use Rattle.types.specs.Registry.{noTypes, noMembers, noNames};
 ghost use Rattle.types.specs.Tables.{tyWord, tyOf, bitWord, bitOf, flagsOf, kindWord, kindOf, TyFits};
 ghost use Rattle.types.specs.Tables.{memberRow, memberAt, nameAt, typeRow, typeAt};
 use crate::atomic::Atomic;
@@ -29,6 +30,25 @@ pub type TypeTable = [u32; TYPES * TYPE_WORDS];
 pub type MemberTable = [u32; MEMBERS * MEMBER_WORDS];
 
 pub type NameTable = [u8; NAME_BYTES];
+
+// Tables of no types, as a caller begins with.
+pub fn no_types() -> TypeTable
+    ensures { λ r. ⌜ r ≡ noTypes ⌝ }
+{
+    [0; TYPES * TYPE_WORDS]
+}
+
+pub fn no_members() -> MemberTable
+    ensures { λ r. ⌜ r ≡ noMembers ⌝ }
+{
+    [0; MEMBERS * MEMBER_WORDS]
+}
+
+pub fn no_names() -> NameTable
+    ensures { λ r. ⌜ r ≡ noNames ⌝ }
+{
+    [0; NAME_BYTES]
+}
 
 // The word of a type: an atomic's place among the fifteen, or 0x8000 plus a structure's number.
 fn ty_word(ty: Ty) -> u32

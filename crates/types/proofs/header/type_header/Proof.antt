@@ -1,62 +1,29 @@
--- `types::type_header` meets its contract: the two bytes of the code, or of the mark and the handle.
-use native.Mathlib.Omega.{arith}
+-- `types::type_header` meets its contract: the header of a type that is there, else 15.
 use borrow.Author.Needs.{needs}
-use mathlib.Core.Path.{_≡_, ap, _∙_}
-use mathlib.Core.List.{List, _∷_}
-use Prim.Native.Nat.{ℕ, _<_}
-use Rattle.types.specs.Tables.{typeAt}
-use Rattle.words.proofs.WordLaws.{two-bytes}
+use mathlib.Core.Path.{sym, _∙_}
+use Rattle.types.specs.Header.{headedOf}
+use Rattle.types.proofs.ShapeLaws.{there-fits}
 use Rattle.types.proofs.header.type_header.Statement.{statement}
 use Rattle.types.proofs.header.type_header.Tie as tie
 
--- a handle has 16 bits
-small : (c : tie.After-type-at)
-    → typeAt (c .before .before .before .before .args .types .now) (c .before .before .ty2 .given .0 .0) .handle < 65536
-unfolding typeAt
-small c = omega arith
+is-there-requires : tie.Need-is-there-requires
+is-there-requires c κs = search needs
 
-enum-known-ty : tie.Need-enum-known-ty
-enum-known-ty c = search needs
-
-code-requires : tie.Need-code-requires
-code-requires c κs = search needs
-
-enum-known-ty-2 : tie.Need-enum-known-ty-2
-enum-known-ty-2 c = search needs
-
-type-at-requires : tie.Need-type-at-requires
-type-at-requires c κs = rw (c .before .ty2 .given .1) at (c .before .before .before .pre)
-
-low8-requires : tie.Need-low8-requires
-low8-requires c κs = search needs
-
-high8-requires : tie.Need-high8-requires
-high8-requires c κs = search needs
+header-in-requires : tie.Need-header-in-requires
+header-in-requires c κs =
+    let there = c .before in
+    let a = there .before .args in
+    there-fits (a .types .now) (a .ty) (sym (there .is-there .ensures) ∙ c .if1 .taken)
 
 returns : tie.Need-returns
-returns c = record {
-  is = rw (c .before .before .ty .given .1, c .code .ensures);
-  room = omega arith;
-}
+unfolding headedOf
+returns c =
+    rw (sym (c .before .before .is-there .ensures) ∙ c .before .if1 .taken, c .header-in .ensures)
 
 returns-2 : tie.Need-returns-2
-returns-2 c =
-    let d = c .before .before in
-    record {
-      is = rw (d .before .before .ty2 .given .1, c .high8 .ensures, c .before .low8 .ensures, d .type-at .ensures)
-          (ap (λ (l : List ℕ). 0xA0 ∷ 0x02 ∷ l) (two-bytes _ (small d)));
-      room = omega arith;
-    }
+unfolding headedOf
+returns-2 c = rw (sym (c .before .is-there .ensures) ∙ c .if1 .left)
 
 pub type-header-spec : {M : Type 1} → statement M
 type-header-spec =
-    tie.close
-    (tie.spec
-    enum-known-ty
-    code-requires
-    enum-known-ty-2
-    type-at-requires
-    low8-requires
-    high8-requires
-    returns
-    returns-2)
+    tie.close (tie.spec is-there-requires header-in-requires returns returns-2)

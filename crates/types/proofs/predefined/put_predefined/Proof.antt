@@ -1,6 +1,7 @@
 -- `types::put_predefined` meets its contract: after each call the tables stand for one type more.
 use native.Mathlib.Omega.{arith}
-use Rattle.types.specs.Predefined.{withTimer, withCounter, withControl, Stands}
+use Rattle.types.specs.Predefined.{withTimer, withCounter, withControl}
+use Rattle.types.specs.Registry.{Stands}
 use Rattle.types.proofs.PredefinedLaws.{Ids, ids-good, ready-for, none-built, timer-built, counter-built}
 use Rattle.types.proofs.PredefinedLaws.{control-built, none-stands, timer-stands, counter-stands}
 use Rattle.types.proofs.PredefinedLaws.{control-stands, string-stands}

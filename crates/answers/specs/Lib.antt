@@ -1,2 +1,0 @@
--- The few definitions that the program's contracts cite.
-pub mod Fits

@@ -1,0 +1,12 @@
+-- `types::no_names` meets its contract.
+use mathlib.Core.Path.{refl}
+use Rattle.types.specs.Registry.{noNames}
+use Rattle.types.proofs.tables.no_names.Statement.{statement}
+use Rattle.types.proofs.tables.no_names.Tie as tie
+
+returns : tie.Need-returns
+unfolding noNames
+returns c = refl
+
+pub no-names-spec : {M : Type 1} → statement M
+no-names-spec = tie.close (tie.spec returns)

@@ -1,0 +1,12 @@
+-- `types::no_types` meets its contract.
+use mathlib.Core.Path.{refl}
+use Rattle.types.specs.Registry.{noTypes}
+use Rattle.types.proofs.tables.no_types.Statement.{statement}
+use Rattle.types.proofs.tables.no_types.Tie as tie
+
+returns : tie.Need-returns
+unfolding noTypes
+returns c = refl
+
+pub no-types-spec : {M : Type 1} → statement M
+no-types-spec = tie.close (tie.spec returns)
