@@ -37,6 +37,8 @@ pub enum Places {
     Shared,
     /// Apart, with bytes between them that no entry speaks of.
     Gaps,
+    /// Shared, and a name begins with the last bytes of the bodies where it can.
+    Overlapping,
 }
 
 struct Bodies {
@@ -50,14 +52,22 @@ impl Bodies {
         if self.places == Places::Gaps {
             self.bytes.extend([0xFF, 0, b';']);
         }
-        if self.places == Places::Shared && !name.is_empty() {
+        let shared = matches!(self.places, Places::Shared | Places::Overlapping);
+        if shared && !name.is_empty() {
             let found = self.bytes.windows(name.len()).position(|w| w == name.as_bytes());
             if let Some(at) = found {
                 return self.start + at;
             }
         }
-        self.bytes.extend(name.as_bytes());
+        let stands = if self.places == Places::Overlapping { self.overlap(name) } else { 0 };
+        self.bytes.extend(&name.as_bytes()[stands..]);
         self.start + self.bytes.len() - name.len()
+    }
+
+    /// How many of the name's first bytes the bodies end with.
+    fn overlap(&self, name: &str) -> usize {
+        let most = name.len().min(self.bytes.len());
+        (0..=most).rev().find(|n| self.bytes.ends_with(&name.as_bytes()[..*n])).unwrap_or(0)
     }
 }
 

@@ -1,7 +1,7 @@
 //! A case: a question and what is expected of its answer; how cases are written and read, and which are asked.
 //! The last paragraph of "Refusal numbers" in document 01: refusals compare only as such.
 
-use crate::frames;
+use crate::frames::{self, Fields};
 use crate::judge::Expect;
 use std::fmt;
 use std::io::{self, ErrorKind, Read, Write};
@@ -19,13 +19,27 @@ impl Case {
         self.question.first().copied().unwrap_or(0)
     }
 
+    /// True where a refusal is expected.
+    pub fn refused(&self) -> bool {
+        !matches!(self.expect, Expect::Bytes(_))
+    }
+
     pub fn write(&self, out: &mut impl Write) -> io::Result<()> {
         frames::write(out, &self.question)?;
-        let (first, bytes) = match &self.expect {
-            Expect::Bytes(bytes) => (0, bytes),
-            Expect::Refused(bytes) => (1, bytes),
-        };
-        frames::write(out, &[&[first], &bytes[..]].concat())
+        frames::write(out, &self.expectation())
+    }
+
+    fn expectation(&self) -> Vec<u8> {
+        match &self.expect {
+            Expect::Bytes(bytes) => [&[0], &bytes[..]].concat(),
+            Expect::Refused(image) => [&[1], &image[..]].concat(),
+            Expect::Exactly { number, place, image } => [&[2, *number], &place.to_le_bytes()[..], &image[..]].concat(),
+        }
+    }
+
+    /// How many bytes it is written with.
+    pub fn length(&self) -> usize {
+        4 + self.question.len() + 4 + self.expectation().len()
     }
 
     /// The next recorded case; nothing at the end.
@@ -34,15 +48,20 @@ impl Case {
             return Ok(None);
         };
         let expectation = frames::read(input)?.ok_or(ErrorKind::UnexpectedEof)?;
-        let expect = match expectation.split_first() {
-            Some((0, bytes)) => Expect::Bytes(bytes.to_vec()),
-            Some((1, bytes)) => Expect::Refused(bytes.to_vec()),
-            _ => {
-                return Err(io::Error::new(ErrorKind::InvalidData, "an expectation begins with 0 or 1"));
-            }
-        };
+        let expect = expected(&mut Fields(&expectation));
+        let expect =
+            expect.ok_or_else(|| io::Error::new(ErrorKind::InvalidData, "an expectation has no known form"))?;
         Ok(Some(Case { question, expect, aim: None }))
     }
+}
+
+fn expected(fields: &mut Fields) -> Option<Expect> {
+    Some(match fields.u8()? {
+        0 => Expect::Bytes(fields.rest().to_vec()),
+        1 => Expect::Refused(fields.rest().to_vec()),
+        2 => Expect::Exactly { number: fields.u8()?, place: fields.u32()?, image: fields.rest().to_vec() },
+        _ => return None,
+    })
 }
 
 /// The kinds of questions that are asked; a build is always among them.
@@ -69,6 +88,11 @@ impl Kinds {
 
     fn has(self, kind: u8) -> bool {
         self.0 & (1 << kind) != 0
+    }
+
+    /// True for a case of these kinds, and for one of no kind at all.
+    pub(crate) fn asks(self, case: &Case) -> bool {
+        !(1..=10).contains(&case.kind()) || self.has(case.kind())
     }
 
     /// Those that are asked about a built book.

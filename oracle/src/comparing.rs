@@ -11,8 +11,6 @@ use std::process::{Child, ChildStdin, Command, Stdio};
 use std::sync::mpsc::{Receiver, Sender, channel};
 use std::thread;
 
-/// The number and place of an answer without a refusal.
-const NONE_REFUSED: [u8; 5] = [0; 5];
 /// How many bytes of an image or an answer a report shows.
 const SHOWN: usize = 4_096;
 
@@ -27,7 +25,7 @@ impl Tally {
     fn add(&mut self, case: &Case) {
         let kind = usize::from(case.kind()).min(10);
         self.compared[kind] += 1;
-        self.refused[kind] += u64::from(matches!(case.expect, Expect::Refused(_)));
+        self.refused[kind] += u64::from(case.refused());
     }
 
     /// A line for each kind that was asked.
@@ -65,8 +63,8 @@ pub fn agrees(case: &Case, answer: &[u8]) -> bool {
         return false;
     };
     match &case.expect {
-        Expect::Bytes(bytes) => head == NONE_REFUSED && body == bytes,
         Expect::Refused(image) => (1..=254).contains(&head[0]) && (case.kind() != 6 || body == image),
+        one => one.answer().as_deref() == Some(answer),
     }
 }
 
@@ -144,19 +142,16 @@ impl Difference {
 
     fn expected(&self) -> String {
         match &self.case.expect {
-            Expect::Bytes(bytes) => text::hex(&[&NONE_REFUSED, &bytes[..]].concat(), SHOWN),
             Expect::Refused(image) if self.case.kind() == 6 => {
                 format!("a refusal, then the image as it was: {}", text::hex(image, SHOWN))
             }
             Expect::Refused(_) => "a refusal".to_owned(),
+            one => text::hex(&one.answer().unwrap_or_default(), SHOWN),
         }
     }
 
     fn first_byte(&self) -> Option<usize> {
-        let Expect::Bytes(bytes) = &self.case.expect else {
-            return None;
-        };
-        let expected = [&NONE_REFUSED, &bytes[..]].concat();
+        let expected = self.case.expect.answer()?;
         let answer = self.answer.as_ref()?;
         let same = expected.iter().zip(answer).take_while(|(a, b)| a == b).count();
         Some(same)

@@ -26,12 +26,27 @@ pub enum Expect {
     Bytes(Vec<u8>),
     /// Any refusal; for a write these bytes, the image as it was, stand after it.
     Refused(Vec<u8>),
+    /// Exactly this refusal, where the document alone decides; for a write the image, as it was, stands after it.
+    Exactly { number: u8, place: u32, image: Vec<u8> },
 }
 
 impl Expect {
     fn of(found: Option<Vec<u8>>) -> Expect {
         found.map_or(Expect::Refused(Vec::new()), Expect::Bytes)
     }
+
+    /// The one answer that is as expected; nothing where any refusal is.
+    pub fn answer(&self) -> Option<Vec<u8>> {
+        match self {
+            Expect::Bytes(bytes) => Some(answer(0, 0, bytes)),
+            Expect::Refused(_) => None,
+            Expect::Exactly { number, place, image } => Some(answer(*number, *place, image)),
+        }
+    }
+}
+
+fn answer(number: u8, place: u32, body: &[u8]) -> Vec<u8> {
+    [&[number], &place.to_le_bytes()[..], body].concat()
 }
 
 /// The tables of the last build; none after one that was refused.

@@ -3,10 +3,13 @@
 
 use crate::cases::{Case, Kinds};
 use crate::generate::Generator;
+use crate::recorded;
 use std::time::{Duration, Instant};
 
 /// The cases that are asked where no limit is given.
 const USUAL_COUNT: u64 = 10_000;
+/// The books from which the recorded list is picked where no limit is given.
+const RECORDED_BOOKS: u64 = 2_000;
 
 /// What the command line says.
 pub struct Options {
@@ -17,6 +20,8 @@ pub struct Options {
     pub seconds: Option<u64>,
     pub text: bool,
     pub edges: bool,
+    /// The recorded list instead of all generated cases.
+    pub recorded: bool,
     /// A file of recorded cases.
     pub cases: Option<String>,
     /// What stands after the options.
@@ -34,6 +39,7 @@ impl Options {
             seconds: None,
             text: false,
             edges: false,
+            recorded: false,
             cases: None,
             rest: Vec::new(),
         };
@@ -42,6 +48,7 @@ impl Options {
             match option.as_str() {
                 "--text" => options.text = true,
                 "--edges" => options.edges = true,
+                "--recorded" => options.recorded = true,
                 _ => options.with_value(&option, arguments.next())?,
             }
         }
@@ -66,11 +73,21 @@ impl Options {
         Ok(())
     }
 
+    /// The cases that are named: the generated ones, or the list that is picked from them.
+    pub fn chosen(&self) -> Box<dyn Iterator<Item = Case>> {
+        match self.recorded {
+            true => Box::new(recorded::cases(self.generated(), self.kinds).into_iter()),
+            false => Box::new(self.generated()),
+        }
+    }
+
     /// The generated cases up to the first limit that is reached.
     pub fn generated(&self) -> impl Iterator<Item = Case> + Send + use<> {
-        let limited = self.count.or(self.books).or(self.seconds).is_some();
-        let mut count = if limited { self.count.unwrap_or(u64::MAX) } else { USUAL_COUNT };
-        let mut books = self.books.unwrap_or(u64::MAX);
+        let (mut count, mut books) = match self.count.or(self.books).or(self.seconds) {
+            Some(_) => (self.count.unwrap_or(u64::MAX), self.books.unwrap_or(u64::MAX)),
+            None if self.recorded => (u64::MAX, RECORDED_BOOKS),
+            None => (USUAL_COUNT, u64::MAX),
+        };
         let end = self.seconds.map(|s| Instant::now() + Duration::from_secs(s));
         Generator::new(self.seed, self.kinds).take_while(move |case| {
             if case.kind() == 1 {

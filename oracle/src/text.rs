@@ -75,6 +75,7 @@ pub fn case(case: &Case, most: usize) -> String {
             Some(number) => format!("refused, aimed at {number}"),
             None => "refused".to_owned(),
         },
+        Expect::Exactly { number, place, .. } => format!("refused {number} at {place}"),
     };
     format!("{} -> {expect}", question(&case.question, most))
 }

@@ -78,6 +78,25 @@ fn refusals_compare_only_as_such() {
     assert!(!agrees(&bytes, &[0, 0, 0, 0, 0, 0xC1, 0, 0]));
 }
 
+/// A refusal by its number and place, and for a write the image after it.
+#[test]
+fn an_exact_refusal_is_that_one() {
+    let exactly = |number, place, image: &[u8]| Expect::Exactly { number, place, image: image.to_vec() };
+    let build = Case { question: vec![1], expect: exactly(10, 2, &[]), aim: None };
+    assert!(agrees(&build, &[10, 2, 0, 0, 0]));
+    assert!(!agrees(&build, &[9, 2, 0, 0, 0]));
+    assert!(!agrees(&build, &[10, 1, 0, 0, 0]));
+    assert!(!agrees(&build, &[10, 2, 0, 0, 0, 0]));
+    let write = Case { question: vec![6], expect: exactly(18, 0, &[7]), aim: None };
+    assert!(agrees(&write, &[18, 0, 0, 0, 0, 7]));
+    assert!(!agrees(&write, &[18, 0, 0, 0, 0]));
+    let mut file = Vec::new();
+    write.write(&mut file).expect("memory takes it");
+    assert_eq!(file.len(), write.length());
+    let again = Case::read(&mut Cursor::new(file)).expect("it is whole").expect("it is there");
+    assert_eq!((again.question, again.expect), (write.question, write.expect));
+}
+
 #[test]
 fn recorded_cases_are_the_same() {
     let mut file = Vec::new();

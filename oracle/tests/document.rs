@@ -9,7 +9,7 @@ use oracle::stream;
 fn ask(judge: &mut Judge, question: &[u8]) -> Option<Vec<u8>> {
     match judge.answer(question).expect("the question is whole") {
         Expect::Bytes(bytes) => Some(bytes),
-        Expect::Refused(_) => None,
+        _ => None,
     }
 }
 

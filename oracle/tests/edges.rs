@@ -40,7 +40,7 @@ fn every_fault_is_refused() {
 fn books_decode_back() {
     for case in cases(3, 20_000).filter(|case| case.kind() == 1) {
         let types = book::decode(&case.question[9..]).expect("a drawn book is well formed");
-        for places in [Places::Apart, Places::Shared, Places::Gaps] {
+        for places in [Places::Apart, Places::Shared, Places::Gaps, Places::Overlapping] {
             let again = book::encode(&types, places).expect("it was a book");
             assert_eq!(book::decode(&again).as_ref(), Some(&types));
         }
@@ -98,7 +98,7 @@ fn reading_then_writing_is_the_normal_image() {
 fn every_frame_fits() {
     let mut longest = 0;
     for case in cases(6, 60_000) {
-        let (Expect::Bytes(bytes) | Expect::Refused(bytes)) = &case.expect;
+        let (Expect::Bytes(bytes) | Expect::Refused(bytes) | Expect::Exactly { image: bytes, .. }) = &case.expect;
         assert!(case.question.len() <= MOST && bytes.len() <= MOST_ROOM);
         longest = longest.max(case.question.len());
     }

@@ -1,28 +1,37 @@
-// The program `answers`: the public calls behind questions and answers on standard input and output,
-// each a little-endian u32 length and that many bytes. The first byte of a question is its kind; an
-// answer begins with a refusal's number and place, and what was asked for follows where the number is 0.
-// The tables live for the run. Here: kinds 1 to 4, 8 and 10.
-ghost use mathlib.Core.Path.{_≡_};
-ghost use lib.ListN.{length};
+// The program `answers`: the public calls behind questions and answers in frames on standard input and output. The
+// library `replies` says what each question is answered with. The tables live for the run.
 ghost use Rattle.types.specs.Kept.{Kept};
-
-mod describe;
-mod frames;
-mod kinds;
-mod puts;
-mod shapes;
-mod type_words;
-
-use crate::frames::Asked;
-use crate::frames::read_question;
-use crate::frames::send;
-use crate::kinds::answer;
+use frames::Frame;
+use frames::START;
+use frames::answer_room;
+use frames::read_frame;
+use frames::room;
+use frames::send_frame;
+use replies::answer;
 use types::MemberTable;
 use types::NameTable;
 use types::TypeTable;
 use types::no_members;
 use types::no_names;
 use types::no_types;
+
+// Answers the question; says whether the answer could be written.
+fn reply(
+    question: &[u8],
+    out: &mut [u8],
+    types: &mut TypeTable,
+    members: &mut MemberTable,
+    names: &mut NameTable,
+) -> bool
+    requires { ⌜ Kept (now types) (now members) (now names) ⌝ }
+    ensures { λ _. ⌜ Kept (now (types .exit)) (now (members .exit)) (now (names .exit)) ⌝ }
+{
+    if out.len() < START {
+        return false;
+    }
+    let long = answer(question, types, members, names, &mut out[START..]);
+    send_frame(out, long)
+}
 
 // Answers one question; says whether to go on.
 fn serve_one(
@@ -35,17 +44,19 @@ fn serve_one(
     requires { ⌜ Kept (now types) (now members) (now names) ⌝ }
     ensures { λ _. ⌜ Kept (now (types .exit)) (now (members .exit)) (now (names .exit)) ⌝ }
 {
-    let asked = read_question(question);
+    let asked = read_frame(question);
     match asked {
-        Asked::End => {
+        Frame::End => {
             return false;
         }
-        Asked::Bytes(n) => {
+        Frame::Broken => {
+            return false;
+        }
+        Frame::Bytes(n) => {
             if question.len() < n {
                 return false;
             }
-            let end = answer(&question[0..n], types, members, names, out);
-            return send(out, end);
+            return reply(&question[0..n], out, types, members, names);
         }
     }
 }
@@ -68,20 +79,6 @@ fn serve(
         }
         turns -= 1;
     }
-}
-
-// The room of the longest question. Its length is all that is said of it.
-fn room() -> [u8; 1048576]
-    ensures { λ r. ⌜ 1048576 ≡ length r ⌝ }
-{
-    [0; 1048576]
-}
-
-// And of the longest answer, with its length, number and place.
-fn answer_room() -> [u8; 1048585]
-    ensures { λ r. ⌜ 1048585 ≡ length r ⌝ }
-{
-    [0; 1048585]
 }
 
 fn main() {

@@ -6,7 +6,8 @@ use oracle::text;
 use std::io::{self, BufWriter, Write};
 use std::process::ExitCode;
 
-const USAGE: &str = "usage: cases [--seed N] [--count N] [--books N] [--seconds N] [--kinds 1,2,..] [--text | --edges]";
+const USAGE: &str = "usage: cases [--seed N] [--count N] [--books N] [--seconds N] [--kinds 1,2,..] [--recorded]
+             [--text | --edges]";
 
 fn main() -> ExitCode {
     let options = match Options::parse(std::env::args().skip(1)) {
@@ -28,12 +29,12 @@ fn fail(message: &str) -> ExitCode {
 fn print(options: &Options) -> io::Result<()> {
     let mut out = BufWriter::with_capacity(1 << 16, io::stdout().lock());
     if options.edges {
-        for (edge, times) in oracle::edges::count(options.generated()) {
+        for (edge, times) in oracle::edges::count(options.chosen()) {
             writeln!(out, "{times:8} {edge}")?;
         }
         return out.flush();
     }
-    for (number, case) in options.generated().enumerate() {
+    for (number, case) in options.chosen().enumerate() {
         match options.text {
             true => writeln!(out, "{number} {}", text::case(&case, 64))?,
             false => case.write(&mut out)?,

@@ -13,12 +13,11 @@ fn damaged() -> Option<u64> {
 }
 
 fn answer(judge: &mut Judge, question: &[u8]) -> Vec<u8> {
-    let (number, body) = match judge.answer(question) {
-        Some(Expect::Bytes(bytes)) => (0, bytes),
-        Some(Expect::Refused(bytes)) => (254, bytes),
-        None => (255, Vec::new()),
-    };
-    [&[number, 0, 0, 0, 0], &body[..]].concat()
+    match judge.answer(question) {
+        Some(Expect::Refused(image)) => [&[254, 0, 0, 0, 0], &image[..]].concat(),
+        Some(one) => one.answer().unwrap_or_default(),
+        None => vec![255, 0, 0, 0, 0],
+    }
 }
 
 fn main() -> io::Result<()> {

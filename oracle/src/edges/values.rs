@@ -50,11 +50,13 @@ fn ends(a: Atomic) -> Vec<i128> {
 /// How often each byte stood in a text that was written.
 pub(super) struct TextBytes([u64; 256]);
 
-impl TextBytes {
-    pub(super) fn new() -> TextBytes {
+impl Default for TextBytes {
+    fn default() -> TextBytes {
         TextBytes([0; 256])
     }
+}
 
+impl TextBytes {
     pub(super) fn least(&self) -> u64 {
         self.0.iter().copied().min().unwrap_or(0)
     }

@@ -1,2 +1,0 @@
--- The laws that the program's proofs cite.
-pub mod TableLaws

@@ -1,0 +1,2 @@
+-- The laws that the proofs of program `cases` cite.
+pub mod ExpectedLaws

@@ -1,0 +1,2 @@
+-- What the contracts of program `cases` cite.
+pub mod Expected

@@ -1,0 +1,2 @@
+-- The laws that the proofs of crate `replies` cite.
+pub mod TableLaws
