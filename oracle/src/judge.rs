@@ -160,7 +160,8 @@ impl Judge {
 
     fn read(&self, q: &mut Fields) -> Option<Expect> {
         let (word, count, room, image) = (q.u16()?, q.u64()?, q.u32()? as usize, q.rest());
-        let ty = self.value_type(word, count, image);
+        // An element takes an entry at least, so more elements than room have no stream; the original would try.
+        let ty = self.value_type(word, count, image).filter(|_| count <= MOST_ROOM as u64);
         let found = ty.and_then(|ty| self.stream(ty, count, image));
         Some(Expect::of(found.filter(|s| s.len() <= room.min(MOST_ROOM))))
     }

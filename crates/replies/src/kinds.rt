@@ -4,12 +4,15 @@ ghost use lib.ListN.{length};
 ghost use Rattle.types.specs.Kept.{Kept};
 use crate::describe::describe;
 use crate::puts::accept;
+use crate::puts::least;
 use crate::puts::malformed;
 use crate::puts::put_count;
 use crate::puts::put8;
 use crate::puts::put16;
 use crate::puts::refuse;
 use crate::shapes::tell_shape;
+use crate::streams::tell_read;
+use crate::streams::tell_text;
 use crate::type_words::ty_of_word;
 use crate::type_words::word_of_ty;
 use types::Built;
@@ -79,13 +82,6 @@ fn tell_build(
             return refuse(out, r);
         }
     }
-}
-
-fn least(a: usize, b: usize) -> usize {
-    if a < b {
-        return a;
-    }
-    b
 }
 
 // The template of a type, written to its place in the answer.
@@ -228,6 +224,12 @@ fn tell(
     }
     if kind == 4 {
         return tell_shape(rest, types, members, names, out);
+    }
+    if kind == 5 {
+        return tell_read(rest, types, members, names, out);
+    }
+    if kind == 7 {
+        return tell_text(rest, types, members, names, out);
     }
     if kind == 8 {
         return tell_header(rest, types, out);

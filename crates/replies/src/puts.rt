@@ -60,7 +60,7 @@ pub fn put_count(out: &mut [u8], at: usize, n: u32) -> usize {
     put16(out, at, (n % 0x10000) as u16)
 }
 
-fn put_bytes(out: &mut [u8], at: usize, s: &[u8]) -> usize {
+pub fn put_bytes(out: &mut [u8], at: usize, s: &[u8]) -> usize {
     let long = s.len();
     if out.len() < long {
         return at;
@@ -101,6 +101,18 @@ pub fn refuse(out: &mut [u8], r: Refusal) -> usize {
     put_head(out, r.number(), r.place())
 }
 
+// A refusal by its number; its place is 0.
+pub fn refuse_with(out: &mut [u8], number: u8) -> usize {
+    put_head(out, number, 0)
+}
+
 pub fn malformed(out: &mut [u8]) -> usize {
     put_head(out, NOT_A_QUESTION, 0)
+}
+
+pub fn least(a: usize, b: usize) -> usize {
+    if a < b {
+        return a;
+    }
+    b
 }

@@ -1,7 +1,8 @@
--- What every caller may count on in the tables of a registry that our own calls made: each type can be read, counted
--- and
--- listed, and is laid out well.
+-- What every caller may count on in the tables of a registry that our own calls made (document 01, "What promises shut
+-- out"): each type can be read, counted and listed, is laid out well, and is a string where its kind says so. The rows
+-- after them are zero.
 use Prim.Native.Nat.{ℕ, zero, suc, _+_, _*_, _^_, _<_, _≤_}
+use native.Mathlib.Nat.{add-zero}
 use native.Mathlib.Omega.{arith}
 use mathlib.Core.Path.{_≡_, refl, sym, ap, _∙_}
 use mathlib.Core.List.{List, [], _∷_, map}
@@ -11,6 +12,7 @@ use Rattle.types.specs.declared.member.Bit.{Bit}
 use Rattle.types.specs.declared.member.Bit.the-variants.{None, At}
 use Rattle.types.specs.declared.member.Member.{Member}
 use Rattle.types.specs.declared.member.StructDef.{StructDef}
+use Rattle.types.specs.declared.member.StructKind.the-variants.{Udt, Str}
 use Rattle.types.specs.declared.member.Ty.{Ty}
 use Rattle.types.specs.declared.member.Ty.the-variants.{Atomic, Struct}
 use Rattle.types.specs.Defs.{Part, Def, nameIn, partAt, partsAt, defOf}
@@ -21,15 +23,17 @@ use Rattle.types.specs.Listing.{Short, StructNamed, TypeNamed, Listable}
 use Rattle.types.specs.Lookup.{NamesInside}
 use Rattle.types.specs.Registry.{ownNames, membersOf, bytesOf, headOf, typesTable, membersTable, namesTable}
 use Rattle.types.specs.Registry.{typeCount}
-use Rattle.types.specs.Structs.{namesOf}
-use Rattle.types.specs.Tables.{memberAt, nameAt, typeAt}
+use Rattle.types.specs.Structs.{namesOf, stringParts}
+use Rattle.types.specs.Tables.{kindOf, memberAt, nameAt, typeAt}
 use Rattle.types.specs.Waste.{sizeIn, sizesIn, bitsOf, Countable}
 use Rattle.types.proofs.CountLaws.{count-of}
 use Rattle.types.proofs.LaidLaws.{part-lies}
-use Rattle.types.proofs.RegistryLaws.{names-long}
+use Rattle.types.proofs.RegistryLaws.{names-long, word-after}
 use Rattle.types.proofs.RoundsKeep.{Good}
 use Rattle.types.proofs.ShownLaws.{noDef, Row, Shown, sizes-same, names-inside, all-readable}
 use Rattle.types.proofs.ShortLaws.{ShortPart}
+use Rattle.types.proofs.StringLaws.{StringRow, string-bytes}
+use Rattle.types.proofs.TemplateLaws.{parts-long}
 use Rattle.types.proofs.WellLaws.{WellMade, sizesOf, laid-same}
 
 -- ---- parts by their numbers
@@ -45,11 +49,32 @@ parts-nth m n row (suc count) (suc k) l =
     let e : row + suc k ≡ row + 1 + k = omega arith in
     rw e (parts-nth m n (row + 1) count k (omega arith))
 
+-- each row of a structure that is laid out well lies in it
+pub row-lies : (sizes : ℕ → ℕ) (i size : ℕ) (m n : List ℕ) (row count k : ℕ) → Laid sizes i size (partsAt m n row count)
+    → k < count → Lies sizes i size (memberAt m (row + k)) (drop (suc k) (partsAt m n row count))
+unfolding partAt
+row-lies sizes i size m n row count k laid l =
+    let e = ap (λ (p : Part). p .member) (parts-nth m n row count k l) in
+    rw e at (part-lies sizes i size noPart (partsAt m n row count) k laid (omega (arith, parts-long m n row count)))
+
 every-nth : (P : Part → Type 0) (ps : List Part) (k : ℕ) → Every P ps → k < length ps → P (getD ps k noPart)
 unfolding Every
 every-nth P [] k a l = absurd (let z : ⊥ = omega arith in z)
 every-nth P (p ∷ ps) zero (a, rest) l = a
 every-nth P (p ∷ ps) (suc k) (a, rest) l = every-nth P ps k rest (omega arith)
+
+-- the row of no type
+abbrev pub noType : StructDef
+noType =
+    record {
+      name = record { at = 0; long = 0 };
+      id = 0;
+      handle = 0;
+      size = 0;
+      kind = Udt;
+      first = 0;
+      count = 0;
+    }
 
 -- ---- one type of the registry
 
@@ -73,6 +98,14 @@ module _ (ds : List Def) (g : Good ds) where
 
   pub good-inside : NamesInside types names (typeCount types)
   good-inside = rw good-count (names-inside ds (g .shown))
+
+  -- the rows after them are zero
+  pub good-unused : (i : ℕ) → length ds ≤ i → typeAt types i ≡ noType
+  unfolding typeAt kindOf
+  good-unused i l =
+      let word : (k : ℕ) → getD types (8 * i + k) 0 ≡ 0 = λ k. word-after ds (8 * i + k) (omega arith) in
+      let first : getD types (8 * i) 0 ≡ 0 = rw add-zero at (word 0) in
+      rw (first, word 1, word 2, word 3, word 4, word 5, word 6, word 7)
 
   module _ (i : ℕ) (l : i < length ds) where
     abbrev d : Def
@@ -112,6 +145,23 @@ module _ (ds : List Def) (g : Good ds) where
     member-is : (k : ℕ) → k < length (d .parts) → memberAt members (r .row + k) ≡ getD (d .parts) k noPart .member
     unfolding partAt
     member-is k h = ap (λ (p : Part). p .member) (part-is k h)
+
+    -- LEN and DATA, where its kind says so
+    pub good-string : typeAt types i .kind ≡ Str → StringRow members (typeAt types i)
+    unfolding stringParts
+    good-string e =
+        let s = g .well i l .string (sym (ap (λ (h : StructDef). h .kind) (r .head)) ∙ e) in
+        let two : length (d .parts) ≡ 2 = ap (λ (ps : List Part). length ps) (s .rows) in
+        let part : (k : ℕ) → k < 2 → memberAt members (r .row + k) ≡ getD (stringParts (s .capacity)) k noPart .member =
+        λ k h. member-is k (omega arith) ∙ ap (λ (ps : List Part). getD ps k noPart .member) (s .rows) in
+        rw (r .head)
+        (record {
+          capacity = s .capacity;
+          count = two;
+          len = rw add-zero at (part 0 (omega arith));
+          chars = part 1 (omega arith);
+          size = s .bytes ∙ string-bytes (s .capacity);
+        })
 
     small : (m : Member) (rest : List Part) → Lies (sizesIn types) i (d .size) m rest → m .bit ≡ None
         → sizeIn (sizesIn types) (m .ty) * times (m .count) ≤ 2 ^ 28

@@ -8,6 +8,7 @@ use mathlib.Core.List.{List, []}
 use lib.ListN.{length}
 use Rattle.words.specs.Words.{Bytes}
 use Rattle.types.specs.declared.building.Built.{Built}
+use Rattle.types.specs.declared.member.StructKind.the-variants.{Str}
 use Rattle.types.specs.declared.refusal.Refusal.{Refusal}
 use Rattle.types.specs.declared.refusal.Refusal.the-variants.{BookMalformed, PredefinedIds}
 use Rattle.types.specs.Book.{bookOk}
@@ -23,11 +24,13 @@ use Rattle.types.specs.Rounds.{Answer, refused, accepted}
 use Rattle.types.specs.Tables.{typeAt}
 use Rattle.types.specs.Turns.{roundsFrom}
 use Rattle.types.specs.Waste.{sizesIn}
-use Rattle.types.proofs.GoodLaws.{good-count, good-inside, good-laid, good-most, good-listable}
+use Rattle.types.proofs.GoodLaws.{noType, good-count, good-inside, good-laid, good-most, good-listable}
+use Rattle.types.proofs.GoodLaws.{good-string, good-unused}
 use Rattle.types.proofs.PredefinedLaws.{predefined-shown}
 use Rattle.types.proofs.PredefinedWell.{predefined-well}
 use Rattle.types.proofs.RoundsKeep.{Good, rounds-good}
 use Rattle.types.proofs.ShownLaws.{shown-none, all-readable, ids-fit}
+use Rattle.types.proofs.StringLaws.{StringRow}
 use Rattle.types.proofs.WellLaws.{well-none}
 
 -- ---- what a build makes is good
@@ -91,6 +94,15 @@ module _ {types members names : List ℕ} (k : Kept types members names) where
 
   pub kept-most : (i : ℕ) → i < typeCount types → typeAt types i .size ≤ 2 ^ 26 + 224
   kept-most = rw (k .rows) (λ i l. good-most (k .defs) good i (rw (good-count (k .defs) good) at l))
+
+  -- a type of kind Str is a string
+  pub kept-string : (i : ℕ) → i < typeCount types → typeAt types i .kind ≡ Str → StringRow members (typeAt types i)
+  kept-string =
+      rw (k .rows, k .parts) (λ i l. good-string (k .defs) good i (rw (good-count (k .defs) good) at l))
+
+  -- the rows after the types are zero
+  pub kept-unused : (i : ℕ) → typeCount types ≤ i → typeAt types i ≡ noType
+  kept-unused = rw (k .rows) (λ i l. good-unused (k .defs) good i (rw (good-count (k .defs) good) at l))
 
 -- ---- and what keeps it
 

@@ -50,6 +50,7 @@ pub mod VerdictLaws
 pub mod WellLaws
 pub mod PredefinedWell
 pub mod ShortLaws
+pub mod StringLaws
 pub mod OrderBook
 pub mod RoundsKeep
 pub mod GoodLaws

@@ -4,6 +4,7 @@ use native.Mathlib.Omega.{arith}
 use mathlib.Core.Path.{refl}
 use mathlib.Core.List.{List, [], _∷_}
 use lib.ListN.{length}
+use Rattle.types.specs.declared.member.StructKind.the-variants.{Predefined}
 use Rattle.types.specs.Defs.{Def}
 use Rattle.types.specs.Add.{newDef}
 use Rattle.types.specs.Book.{every}
@@ -12,6 +13,7 @@ use Rattle.types.specs.Predefined.{withTimer, withCounter, withControl, 
 use Rattle.types.specs.Structs.{timerParts, counterParts, controlTypeParts, stringSize}
 use Rattle.types.proofs.LaidLaws.{control-laid, string-laid}
 use Rattle.types.proofs.ShortLaws.{all-short, control-short, string-short}
+use Rattle.types.proofs.StringLaws.{string-is, other-kind}
 use Rattle.types.proofs.WellLaws.{Well, WellMade, sizesOf, well-none, well-more}
 
 module _ (timer counter control string : ℕ) where
@@ -24,6 +26,7 @@ module _ (timer counter control string : ℕ) where
         most = omega arith;
         long = omega arith;
         short = control-short _ _ _ (omega arith) (omega arith) (all-short _ refl);
+        string = other-kind Predefined refl;
       })
 
   counter-well : Well (withCounter timer counter)
@@ -35,6 +38,7 @@ module _ (timer counter control string : ℕ) where
         most = omega arith;
         long = omega arith;
         short = control-short _ _ _ (omega arith) (omega arith) (all-short _ refl);
+        string = other-kind Predefined refl;
       })
 
   control-well : Well (withControl timer counter control)
@@ -46,6 +50,7 @@ module _ (timer counter control string : ℕ) where
         most = omega arith;
         long = omega arith;
         short = control-short _ _ _ (omega arith) (omega arith) (all-short _ refl);
+        string = other-kind Predefined refl;
       })
 
   pub predefined-well : Well (predefined timer counter control string)
@@ -57,4 +62,5 @@ module _ (timer counter control string : ℕ) where
         most = omega arith;
         long = omega arith;
         short = string-short 82;
+        string = λ k. string-is 82;
       })

@@ -1,14 +1,15 @@
 -- Laws of the registry's tables (document 01, "Declaration book": the tables; "Order of building"): one type more is
 -- its row after the rows, its members' rows after the members' rows, and its names after the names; and how long the
 -- tables are.
-use Prim.Native.Nat.{ℕ, _+_, _*_}
+use Prim.Native.Nat.{ℕ, zero, suc, _+_, _*_, _≤_}
 use native.Mathlib.Nat.{add-zero, zero-add}
 use native.Mathlib.Omega.{arith}
 use mathlib.Core.Path.{_≡_, refl, sym, ap, _∙_}
 use mathlib.Core.List.{List, [], _∷_, _++_, append-assoc, append-nil}
-use lib.ListN.{length, length-append, length-replicate}
+use mathlib.Core.Logic.{inr}
+use lib.ListN.{length, getD, replicate, length-append, length-replicate}
 use lib.Seq.{sets, length-sets}
-use Rattle.words.proofs.Lists.{sets-append}
+use Rattle.words.proofs.Lists.{sets-append, getD-beside}
 use Rattle.types.specs.declared.used.Turn.the-variants.{Added}
 use Rattle.types.specs.declared.used.Used.{Used}
 use Rattle.types.specs.Add.{yes, Took}
@@ -135,6 +136,22 @@ members-long ds = length-sets noMembers 0 (memberRows 0 ds) ∙ no-members-long
 pub names-long : (ds : List Def) → length (namesTable ds) ≡ 32768
 unfolding namesTable
 names-long ds = length-sets noNames 0 (bytesOf ds) ∙ no-names-long
+
+-- ---- the words after the types' rows are zero
+
+zeros : (n k : ℕ) → _≡_ {A = ℕ} (getD (replicate n 0) k 0) 0
+zeros zero k = refl
+zeros (suc n) zero = refl
+zeros (suc n) (suc k) = zeros n k
+
+no-word : (k : ℕ) → getD noTypes k 0 ≡ 0
+unfolding noTypes
+no-word k = zeros 1600 k
+
+pub word-after : (ds : List Def) (k : ℕ) → 8 * length ds ≤ k → getD (typesTable ds) k 0 ≡ 0
+unfolding typesTable
+word-after ds k l =
+    getD-beside noTypes 0 (typeRows 0 0 ds) k 0 (inr (omega (arith, type-rows-long 0 0 ds))) ∙ no-word k
 
 -- ---- tables that stand for a registry, with one type more
 

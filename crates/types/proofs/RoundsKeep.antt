@@ -15,6 +15,7 @@ use Rattle.types.specs.Turns.{readyIn, verdictOn, stepOf, addIn, upFrom,
 use Rattle.types.proofs.RoundLaws.{rounds-keep}
 use Rattle.types.proofs.ShownLaws.{noDef, Shown, shown-more}
 use Rattle.types.proofs.VerdictLaws.{verdict-fits, verdict-laid, verdict-most, verdict-long, verdict-short}
+use Rattle.types.proofs.VerdictLaws.{verdict-string}
 use Rattle.types.proofs.WellLaws.{Well, well-more}
 
 -- a registry that our own calls make
@@ -48,6 +49,7 @@ module _ (book : List ℕ) (b : Bytes book) where
               most = verdict-most book ds i (a .def) (a .is);
               long = verdict-long book ds i (a .def) (a .is);
               short = verdict-short book ds i (a .def) (a .is);
+              string = verdict-string book ds i (a .def) (a .is);
             });
       })
 

@@ -1,13 +1,13 @@
 -- Laws of what the tables of a registry show (document 01, "Declaration book": the tables; "Order of building"): every
 -- type that was added is read back from its row, the rows after them are unused, and one type more leaves the others.
-use Prim.Native.Nat.{ℕ, zero, suc, _+_, _*_, _≤_, _<_}
+use Prim.Native.Nat.{ℕ, suc, _+_, _*_, _≤_, _<_}
 use native.Mathlib.Decide.{decLt}
 use native.Mathlib.Nat.{add-zero, zero-add}
 use native.Mathlib.Omega.{arith}
 use mathlib.Core.Path.{_≡_, refl, ap, _∙_}
 use mathlib.Core.List.{List, [], _∷_, _++_, map}
-use mathlib.Core.Logic.{inl, inr}
-use lib.ListN.{length, getD, replicate, length-append, List·getD-append}
+use mathlib.Core.Logic.{inl}
+use lib.ListN.{length, getD, length-append, List·getD-append}
 use lib.Seq.{sets, getD-append-seam}
 use Rattle.words.specs.Words.{part}
 use Rattle.words.proofs.Lists.{getD-sets, getD-beside, part-beside}
@@ -18,7 +18,7 @@ use Rattle.types.specs.Defs.{Def, defOf, Readable, AllReadable}
 use Rattle.types.specs.Ids.{idWord}
 use Rattle.types.specs.Laid.{Every}
 use Rattle.types.specs.Lookup.{rowName, NamesInside}
-use Rattle.types.specs.Registry.{ownNames, membersOf, bytesOf, headOf, typeRows, noTypes}
+use Rattle.types.specs.Registry.{ownNames, membersOf, bytesOf, headOf}
 use Rattle.types.specs.Registry.{typesTable, membersTable, namesTable, usedBy, viewIn, viewOf}
 use Rattle.types.specs.Structs.{namesOf, rowsOf}
 use Rattle.types.specs.Tables.{typeAt, typeRow}
@@ -26,7 +26,7 @@ use Rattle.types.specs.Waste.{sizesIn}
 use Rattle.types.proofs.DefLaws.{PartFits, Within, type-stays, member-stays, name-stays}
 use Rattle.types.proofs.DefLaws.{parts-beside, def-back, rows-within, within-fits}
 use Rattle.types.proofs.RegistryLaws.{length-snoc, members-of-snoc, long-snoc, types-more, members-more}
-use Rattle.types.proofs.RegistryLaws.{names-more, types-long, members-long, names-long}
+use Rattle.types.proofs.RegistryLaws.{names-more, types-long, members-long, names-long, word-after}
 use Rattle.types.proofs.TableLaws.{type-back}
 
 -- ---- what a type that is added has, and what the tables show
@@ -68,27 +68,26 @@ pub record Shown (ds : List Def) : Type 0 where
   pub unused : (i : ℕ) → length ds ≤ i → typeAt (typesTable ds) i .id ≡ 0
   pub blank : (i : ℕ) → length ds ≤ i → idWord (typesTable ds) i ≡ 0
 
+-- the rows after the types have id 0
+word-none : (ds : List Def) (i : ℕ) → length ds ≤ i → idWord (typesTable ds) i ≡ 0
+word-none ds i l = word-after ds (8 * i + 2) (omega arith)
+
+id-after : (ds : List Def) (i : ℕ) → length ds ≤ i → typeAt (typesTable ds) i .id ≡ 0
+unfolding typeAt
+id-after ds i l = rw (word-after ds (8 * i + 2) (omega arith))
+
 -- ---- no type
 
-zeros : (n k : ℕ) → _≡_ {A = ℕ} (getD (replicate n 0) k 0) 0
-zeros zero k = refl
-zeros (suc n) zero = refl
-zeros (suc n) (suc k) = zeros n k
-
-no-word : (k : ℕ) → getD noTypes k 0 ≡ 0
-unfolding noTypes
-no-word k = zeros 1600 k
-
 pub shown-none : Shown []
-unfolding membersOf bytesOf typesTable typeRows typeAt
+unfolding membersOf bytesOf
 shown-none =
     record {
       few = omega arith;
       members = omega arith;
       bytes = omega arith;
       rows = λ i l. absurd (omega arith);
-      unused = λ i l. rw (no-word (8 * i + 2));
-      blank = λ i l. no-word (8 * i + 2);
+      unused = id-after [];
+      blank = word-none [];
     }
 
 -- ---- one type more
@@ -197,22 +196,6 @@ module _ (ds : List Def) (d : Def) (f : Fits ds d) where
         used = f .used;
       }
 
--- the rows after it are unused still
-unused-more : (ds : List Def) (d : Def) → Shown ds → (i : ℕ) → length ds + 1 ≤ i
-    → typeAt (typesTable (ds ++ d ∷ [])) i .id ≡ 0
-unfolding typeRow
-unused-more ds d s i l =
-    rw (types-more ds d, type-stays (typesTable ds) (8 * length ds) (typeRun ds d) i (inr (omega arith)))
-    (s .unused i (omega arith))
-
-blank-more : (ds : List Def) (d : Def) → Shown ds → (i : ℕ) → length ds + 1 ≤ i
-    → idWord (typesTable (ds ++ d ∷ [])) i ≡ 0
-unfolding typeRow
-blank-more ds d s i l =
-    rw (types-more ds d)
-    (getD-beside (typesTable ds) (8 * length ds) (typeRun ds d) (8 * i + 2) 0 (inr (omega arith))
-    ∙ s .blank i (omega arith))
-
 -- one type more is shown beside the others
 pub shown-more : (ds : List Def) (d : Def) → Shown ds → Fits ds d → Shown (ds ++ d ∷ [])
 shown-more ds d s f =
@@ -222,8 +205,8 @@ shown-more ds d s f =
       members = omega (arith, members-of-snoc ds d);
       bytes = omega (arith, long-snoc ds d);
       rows = λ i l. row i (omega (arith, l)) (decLt i (length ds));
-      unused = λ i l. unused-more ds d s i (omega (arith, l));
-      blank = λ i l. blank-more ds d s i (omega (arith, l));
+      unused = id-after (ds ++ d ∷ []);
+      blank = word-none (ds ++ d ∷ []);
     }
   where
     row : (i : ℕ) → i < length ds + 1 → Dec (i < length ds) → Row (ds ++ d ∷ []) i (getD (ds ++ d ∷ []) i noDef)

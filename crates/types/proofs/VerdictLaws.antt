@@ -58,6 +58,7 @@ use Rattle.types.proofs.RoundLaws.{either}
 use Rattle.types.proofs.ShortLaws.{ShortPart, ShortDecls, ShortEntries, udt-short, aoi-short, string-short}
 use Rattle.types.proofs.ShortLaws.{checked-short}
 use Rattle.types.proofs.ShownLaws.{Shown, Fits}
+use Rattle.types.proofs.StringLaws.{IsString, string-is, other-kind}
 
 -- ---- the ways out of adding
 
@@ -73,6 +74,7 @@ pub record Made (v : View) (s : List ℕ) (ds : List Decl) (d : Def) : Type 0 wh
   pub most : d .size ≤ 2 ^ 26 + 224
   pub long : length s ≤ 40
   pub short : Every ShortPart (d .parts)
+  pub string : d .kind ≡ Str → IsString (d .size) (d .parts)
 
 -- a refusal is not 10, or the type is made so
 abbrev pub Judged : View → List ℕ → List Decl → Verdict → Type 0
@@ -90,9 +92,10 @@ module _ (v : View) (book : List ℕ) (i at : ℕ) (e : TypeEntry) (name : List 
         → ((n : ℕ) → Every (Resolved (sizeAt v) n) ds → Lies (sizeAt v) n size parts)
         → (length parts ≤ 2000 → size ≤ 2 ^ 26 + 224)
         → Every ShortPart parts
+        → (kind ≡ Str → IsString size parts)
         → Ends (fitted v i (newDef v name id size kind parts))
     unfolding fitted newDef
-    fitted-ends size kind parts f g h k =
+    fitted-ends size kind parts f g h k s =
         either Ends (hasRoom (usedIn v) (length parts) (length (ownNames (newDef v name id size kind parts)))) _ _
         (λ q. record {
           name = refl;
@@ -104,6 +107,7 @@ module _ (v : View) (book : List ℕ) (i at : ℕ) (e : TypeEntry) (name : List 
           most = h (omega (arith, roomy (usedIn v) _ _ (sym q) .members));
           long = good;
           short = k;
+          string = s;
         })
         (λ q z. omega arith)
 
@@ -121,7 +125,7 @@ module _ (v : View) (book : List ℕ) (i at : ℕ) (e : TypeEntry) (name : List 
         (λ c n q. fitted-ends (sizeOf c) Udt _ (λ k a. udt-fits k (namedIn book) name ds a)
         (λ k r. udt-laid (sizeAt v) k (namedIn book) name ds 0 c n r q)
         (λ l. udt-most (hostName name) 0 ds c n q (omega (arith, udt-count (namedIn book) name ds 0 c n q)))
-        (udt-short book name ds a))
+        (udt-short book name ds a) (other-kind Udt refl))
 
     aoi-ends : ShortDecls book ds → Ends (addAoi v book i name id ds)
     unfolding addAoi measuredAoi
@@ -131,7 +135,7 @@ module _ (v : View) (book : List ℕ) (i at : ℕ) (e : TypeEntry) (name : List 
         (λ k r. aoi-laid (sizeAt v) k (namedIn book) name ds _ c n r q)
         (λ l. aoi-most (hostName name) _ ds c n (aoiHosts ds) q
         (omega (arith, aoi-count (namedIn book) name ds _ c n q)))
-        (aoi-short book name ds a))
+        (aoi-short book name ds a) (other-kind Aoi refl))
 
     -- per member 2, 8, 9
     checked-ends : (c : Checked) (k : Verdict) → (c ≡ Good → Ends k) → Ends (onChecked c i k)
@@ -154,7 +158,8 @@ module _ (v : View) (book : List ℕ) (i at : ℕ) (e : TypeEntry) (name : List 
         either Ends (stringOk e) _ _
         (λ q. fitted-ends _ Str _ (λ n a. string-fits n (e .string)) (λ n r. string-laid (sizeAt v) n (e .string)
         (string-least e q))
-        (λ l. omega (arith, string-most (e .string) (string-room e q))) (string-short (e .string)))
+        (λ l. omega (arith, string-most (e .string) (string-room e q))) (string-short (e .string))
+        (λ k. string-is (e .string)))
         (λ q z. omega arith)
 
     named-ends : Ends (addNamed v book i at e name id ds)
@@ -313,3 +318,7 @@ module _ (book : List ℕ) (ds : List Def) (i : ℕ) (d : Def) (e : verdictOn bo
 
   pub verdict-short : Every ShortPart (d .parts)
   verdict-short = verdict-made book ds i d e .short
+
+  -- and a string where its kind says so
+  pub verdict-string : d .kind ≡ Str → IsString (d .size) (d .parts)
+  verdict-string = verdict-made book ds i d e .string

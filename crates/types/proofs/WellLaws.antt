@@ -12,6 +12,7 @@ use lib.Seq.{getD-append-seam}
 use Rattle.types.specs.declared.member.Bit.{Bit}
 use Rattle.types.specs.declared.member.Bit.the-variants.{None, At}
 use Rattle.types.specs.declared.member.Member.{Member}
+use Rattle.types.specs.declared.member.StructKind.the-variants.{Str}
 use Rattle.types.specs.Defs.{Part, Def}
 use Rattle.types.specs.Laid.{Earlier, firstBit, Apart, Clear, Lies, Laid, Every}
 use Rattle.types.specs.Layout.{times}
@@ -21,6 +22,7 @@ use Rattle.types.proofs.AgreeLaws.{size-same}
 use Rattle.types.proofs.RegistryLaws.{length-snoc}
 use Rattle.types.proofs.ShortLaws.{ShortPart}
 use Rattle.types.proofs.ShownLaws.{noDef}
+use Rattle.types.proofs.StringLaws.{IsString}
 
 -- ---- a layout depends on the sizes of earlier types only
 
@@ -61,12 +63,13 @@ module _ (f g : ℕ → ℕ) (i : ℕ) (same : (k : ℕ) → k < i → f k ≡ g
 
 -- ---- a registry
 
--- type i is laid out well, is not too large, and has names of at most 40 bytes
+-- type i is laid out well, is not too large, has names of at most 40 bytes, and is a string where its kind says so
 pub record WellMade (sizes : ℕ → ℕ) (i : ℕ) (d : Def) : Type 0 where
   pub laid : Laid sizes i (d .size) (d .parts)
   pub most : d .size ≤ 2 ^ 26 + 224
   pub long : length (d .name) ≤ 40
   pub short : Every ShortPart (d .parts)
+  pub string : d .kind ≡ Str → IsString (d .size) (d .parts)
 
 abbrev pub sizesOf : List Def → ℕ → ℕ
 sizesOf ds n = getD (map (λ (x : Def). x .size) ds) n 0
@@ -95,6 +98,7 @@ well-more ds d w n i l = go (decLt i (length ds))
           most = w i o .most;
           long = w i o .long;
           short = w i o .short;
+          string = w i o .string;
         })
     go (no o) =
         let q : i ≡ length ds = omega (arith, o, length-snoc ds d) in
@@ -104,4 +108,5 @@ well-more ds d w n i l = go (decLt i (length ds))
           most = n .most;
           long = n .long;
           short = n .short;
+          string = n .string;
         })

@@ -65,6 +65,7 @@ pub use refusal::Refusal;
 pub use shape::Fit;
 pub use shape::Shape;
 pub use shape::Shaped;
+pub use shape::is_there;
 pub use shape::symbol_type;
 pub use shape::tag_shape;
 pub use tables::MemberTable;

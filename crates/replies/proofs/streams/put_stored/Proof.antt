@@ -1,0 +1,48 @@
+-- `replies::put_stored` is safe and ends.
+use Rattle.values.proofs.KeptWalkable.{kept-walkable}
+use borrow.Author.Needs.{needs}
+use Rattle.replies.proofs.streams.put_stored.Statement.{statement}
+use Rattle.replies.proofs.streams.put_stored.Tie as tie
+use Rattle.replies.proofs.streams.put_stored.Reads as reads
+use Rattle.replies.proofs.streams.put_stored.Lts as lts
+use Rattle.replies.proofs.puts.accept.Reads as accept-reads
+use Rattle.replies.proofs.puts.put_bytes.Reads as put-bytes-reads
+use Rattle.replies.proofs.puts.refuse_with.Reads as refuse-with-reads
+use Rattle.values.proofs.text.Reads as text-reads
+
+text-requires : tie.Need-text-requires
+text-requires c κs = kept-walkable (c .before .before .before .pre)
+
+refuse-with-requires : tie.Need-refuse-with-requires
+refuse-with-requires c κs = search needs
+
+same-length : tie.Need-same-length
+same-length c = search needs
+
+returns : tie.Need-returns
+returns c = search needs
+
+accept-requires : tie.Need-accept-requires
+accept-requires c κs = search needs
+
+put-bytes-requires : tie.Need-put-bytes-requires
+put-bytes-requires c κs = search needs
+
+same-length-2 : tie.Need-same-length-2
+same-length-2 c = search needs
+
+returns-2 : tie.Need-returns-2
+returns-2 c = search needs
+
+pub put-stored-spec : {M : Type 1} → statement M
+put-stored-spec =
+    tie.close
+    (tie.spec
+    text-requires
+    refuse-with-requires
+    same-length
+    returns
+    accept-requires
+    put-bytes-requires
+    same-length-2
+    returns-2)

@@ -1,0 +1,106 @@
+-- `replies::put_stream` is safe and ends.
+use native.Mathlib.Omega.{arith}
+use Rattle.values.proofs.KeptWalkable.{kept-walkable}
+use Rattle.values.proofs.ReadingLaws.{read-short}
+use borrow.Author.Needs.{needs}
+use Rattle.replies.proofs.streams.put_stream.Statement.{statement}
+use Rattle.replies.proofs.streams.put_stream.Tie as tie
+use Rattle.replies.proofs.streams.put_stream.Reads as reads
+use Rattle.replies.proofs.streams.put_stream.Lts as lts
+use Rattle.replies.proofs.puts.accept.Reads as accept-reads
+use Rattle.replies.proofs.puts.malformed.Reads as malformed-reads
+use Rattle.replies.proofs.puts.refuse.Reads as refuse-reads
+use Rattle.values.proofs.read.Reads as read-reads
+
+malformed-requires : tie.Need-malformed-requires
+malformed-requires c κs = search needs
+
+same-length : tie.Need-same-length
+same-length c = search needs
+
+returns : tie.Need-returns
+returns c = search needs
+
+sub-if2 : tie.Need-sub-if2
+sub-if2 c = search needs
+
+malformed-requires-2 : tie.Need-malformed-requires-2
+malformed-requires-2 c κs = search needs
+
+same-length-2 : tie.Need-same-length-2
+same-length-2 c = search needs
+
+returns-2 : tie.Need-returns-2
+returns-2 c = search needs
+
+add-end : tie.Need-add-end
+add-end c = search needs
+
+sub-read : tie.Need-sub-read
+sub-read c = search needs
+
+part-read-start : tie.Need-part-read-start
+part-read-start c = search needs
+
+part-read-end : tie.Need-part-read-end
+part-read-end c = search needs
+
+read-requires : tie.Need-read-requires
+read-requires c κs = kept-walkable (c .before .before .before .before .before .pre)
+
+enum-known-r : tie.Need-enum-known-r
+enum-known-r c = search needs
+
+accept-requires : tie.Need-accept-requires
+accept-requires c κs = search needs
+
+add-result : tie.Need-add-result
+add-result c =
+    let at-length = c .before .before .before .before .before in
+    let at-read = at-length .before .before .before .before in
+    let answered = rw (at-length .r .given .1) at (at-read .read .ensures) in
+    omega (arith, read-short answered)
+
+same-length-3 : tie.Need-same-length-3
+same-length-3 c = search needs
+
+returns-3 : tie.Need-returns-3
+returns-3 c = search needs
+
+enum-known-r-2 : tie.Need-enum-known-r-2
+enum-known-r-2 c = search needs
+
+refuse-requires : tie.Need-refuse-requires
+refuse-requires c κs = search needs
+
+same-length-4 : tie.Need-same-length-4
+same-length-4 c = search needs
+
+returns-4 : tie.Need-returns-4
+returns-4 c = search needs
+
+pub put-stream-spec : {M : Type 1} → statement M
+put-stream-spec =
+    tie.close
+    (tie.spec
+    malformed-requires
+    same-length
+    returns
+    sub-if2
+    malformed-requires-2
+    same-length-2
+    returns-2
+    add-end
+    sub-read
+    part-read-start
+    part-read-end
+    read-requires
+    enum-known-r
+    accept-requires
+    add-result
+    same-length-3
+    returns-3
+    enum-known-r-2
+    refuse-requires
+    same-length-4
+    returns-4)

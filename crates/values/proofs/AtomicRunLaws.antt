@@ -1,0 +1,85 @@
+-- Atomics and arrays of them (document 01, "Reading"): bit strings give their bits, one other atomic its own entry, an
+-- array an entry for each between its brackets.
+use Prim.Native.Nat.{ℕ, _+_, _*_}
+use native.Mathlib.Omega.{arith}
+use mathlib.Core.Path.{_≡_, refl, sym, ap, _∙_}
+use mathlib.Core.Bool.{Bool, true, false}
+use mathlib.Core.List.{List, [], _++_}
+use borrow.Author.Tests.{eq-eqb, ne-eqb}
+use lib.ListN.{length, take, drop}
+use lib.Seq.{sets, take-all}
+use Rattle.words.specs.Bits.{Bits, flat}
+use Rattle.words.specs.Words.{part}
+use Rattle.types.specs.Atomic.{bitString, sizeOf}
+use Rattle.types.specs.Layout.{times}
+use Rattle.types.specs.declared.atomic.Atomic.{Atomic}
+use Rattle.types.specs.declared.atomic.Atomic.the-variants as atomic
+use Rattle.types.proofs.LayoutLaws.{times-one, times-same}
+use Rattle.values.specs.Leaf.{emit, leafOf}
+use Rattle.values.specs.Stream.{bodyOf, bodies, entryBytes}
+use Rattle.values.specs.Laying.{Put}
+use Rattle.values.specs.Walk.{upTo, bitsOut, numberOut, elementOut, numbersOut, atomicsOut}
+use Rattle.values.proofs.HeadLaws.{put-wrap, length-wrap, up-length, up-plain}
+
+-- an atomic is no text
+leaf-plain : (a : Atomic) (b : Bits) → bodyOf (emit (leafOf a) b) ≡ []
+leaf-plain atomic.Bool b = refl
+leaf-plain atomic.SInt b = refl
+leaf-plain atomic.Int b = refl
+leaf-plain atomic.DInt b = refl
+leaf-plain atomic.LInt b = refl
+leaf-plain atomic.USInt b = refl
+leaf-plain atomic.UInt b = refl
+leaf-plain atomic.UDInt b = refl
+leaf-plain atomic.ULInt b = refl
+leaf-plain atomic.Real b = refl
+leaf-plain atomic.LReal b = refl
+leaf-plain atomic.Byte b = refl
+leaf-plain atomic.Word b = refl
+leaf-plain atomic.DWord b = refl
+leaf-plain atomic.LWord b = refl
+
+module _ (a : Atomic) (n : ℕ) (s : List ℕ) where
+  elements-plain : bodies (upTo (elementOut a s) n) ≡ []
+  elements-plain =
+      up-plain (elementOut a s) n
+      (λ k. unfold bodies in ap (λ (l : List ℕ). l ++ []) (leaf-plain a (flat (part s (sizeOf a * k) (sizeOf a)))))
+
+  pub elements-long : length (upTo (elementOut a s) n) ≡ n
+  elements-long = up-length (elementOut a s) n (λ k. refl)
+
+  pub numbers-long : length (numbersOut a n s) ≡ n + 2
+  unfolding numbersOut
+  numbers-long = length-wrap 10 11 (upTo (elementOut a s) n) ∙ ap (λ (k : ℕ). k + 2) elements-long
+
+  pub numbers-put : {out first new last : List ℕ} {at p : ℕ} → first ≡ sets out at (entryBytes 10 0)
+      → Put first (at + 12) (upTo (elementOut a s) n) new p → last ≡ sets new p (entryBytes 11 0)
+      → Put out at (numbersOut a n s) last (p + 12)
+  unfolding numbersOut
+  numbers-put d v e = put-wrap 10 11 elements-plain d v e
+
+  -- the three cases of a value of atomics
+  pub atomics-bits : bitString a ≡ true → length s ≡ sizeOf a * times n → bitsOut s (8 * length s) ≡ atomicsOut a n s
+  unfolding atomicsOut
+  atomics-bits b e = rw (b, e)
+
+  pub one-long : n ≡ 0 → length s ≡ sizeOf a * times n → length s ≡ sizeOf a
+  one-long h e =
+      let f : sizeOf a * times n ≡ sizeOf a * 1 = ap (λ (k : ℕ). sizeOf a * k) (sym (times-one n h)) in
+      omega arith
+
+  pub atomics-one : bitString a ≡ false → n ≡ 0 → length s ≡ sizeOf a * times n
+      → upTo (elementOut a s) 1 ≡ atomicsOut a n s
+  unfolding atomicsOut upTo part
+  atomics-one b h e =
+      let z : sizeOf a * 0 ≡ 0 = omega arith in
+      let w : take (sizeOf a) (drop (sizeOf a * 0) s) ≡ s =
+      ap (λ (k : ℕ). take (sizeOf a) (drop k s)) z ∙ take-all (sizeOf a) s (omega (arith, one-long h e)) in
+      rw (b, eq-eqb n 0 h) (ap (numberOut a) w)
+
+  pub atomics-array : bitString a ≡ false → (n ≡ 0 → ⊥) → numbersOut a n s ≡ atomicsOut a n s
+  unfolding atomicsOut
+  atomics-array b h = rw (b, ne-eqb n 0 h)
+
+  pub array-long : (n ≡ 0 → ⊥) → length s ≡ sizeOf a * times n → length s ≡ sizeOf a * n
+  array-long h e = e ∙ ap (λ (k : ℕ). sizeOf a * k) (sym (times-same n h))

@@ -1,0 +1,366 @@
+-- Laws of entries (document 01, "Value stream"): the twelve bytes of one, as they are stored; the bytes of entries one
+-- after the other, and their texts; entries by value: what was stored is loaded again, and only its bytes say an entry.
+use Prim.Native.Nat.{ℕ, zero, suc, _+_, _*_, _/_, _%_, _^_, _≤_, _<_}
+use native.Mathlib.Nat.{add-zero, zero-add, add-assoc, mod-eq-of-lt}
+use native.Mathlib.Decide.{ℕ-discrete, decLt}
+use native.Mathlib.Omega.{arith}
+use mathlib.Core.Path.{_≡_, refl, sym, ap, ap₂, _∙_, subst}
+use mathlib.Core.Bool.{Bool, true, false, cond, _&&_}
+use mathlib.Core.List.{List, [], _∷_, _++_, append-assoc, append-nil}
+use lib.Arith.{lt-of-le-ne}
+use lib.Dec.{eqb, ltb}
+use lib.ListN.{length, getD, length-append, List·getD-eq-default}
+use lib.Seq.{sets, length-sets}
+use Rattle.words.specs.Words.{bytesOf, part, wordAt, Bytes}
+use Rattle.words.proofs.Lists.{sets-append, getD-sets, part-cons}
+use Rattle.words.proofs.WordLaws.{length-bytes, word-back, bytes-back}
+use borrow.Author.Tests.{eq-eqb, ne-eqb, eqb-true, lt-ltb, le-ltb}
+use Rattle.types.proofs.TestLaws.{and-left, and-right}
+use Rattle.values.specs.Stream.{Token, null, bool, number, member, mark, kindOf, payloadOf, bodyOf, entryBytes}
+use Rattle.values.specs.Stream.{heads, bodies}
+use Rattle.values.specs.Entry.{entryKind, entryPayload, EntryFits, bytesOfEntry, bareIn, truthIn, lowIn, textIn}
+use Rattle.values.specs.Entry.{payloadsIn, loadedOf, threeZeros, entryIn}
+use Rattle.values.specs.declared.entries.Entry.{Entry}
+use Rattle.values.specs.declared.entries.Entry.the-variants as entry
+use Rattle.values.specs.declared.entries.Loaded.{Loaded}
+use Rattle.values.specs.declared.entries.Loaded.the-variants.{Is, Malformed}
+use Rattle.values.specs.Walk.{upTo}
+
+-- ---- one entry
+
+-- a kind and three zeros are a word of four bytes
+pub entry-words : (kind payload : ℕ) → kind < 256 → entryBytes kind payload ≡ bytesOf 4 kind ++ bytesOf 8 payload
+unfolding entryBytes bytesOf
+entry-words kind payload h =
+    let a : kind % 256 ≡ kind = omega arith in
+    let b : kind / 256 ≡ 0 = omega arith in
+    rw (a, b)
+
+pub length-entry : (kind payload : ℕ) → length (entryBytes kind payload) ≡ 12
+unfolding entryBytes
+length-entry kind payload = let e = length-bytes 8 payload in omega arith
+
+-- the two words stored one after the other
+pub entry-stored : (out : List ℕ) (at kind payload : ℕ) → kind < 256
+    → sets (sets out at (bytesOf 4 kind)) (at + 4) (bytesOf 8 payload) ≡ sets out at (entryBytes kind payload)
+entry-stored out at kind payload h =
+    sym (ap (sets out at) (entry-words kind payload h)
+    ∙ sets-append out at (bytesOf 4 kind) (bytesOf 8 payload) ∙ rw (length-bytes 4 kind))
+
+-- ---- entries one after the other
+
+pub bodies-append : (ts us : List Token) → bodies (ts ++ us) ≡ bodies ts ++ bodies us
+unfolding bodies
+bodies-append [] us = refl
+bodies-append (t ∷ ts) us =
+    ap (λ (l : List ℕ). bodyOf t ++ l) (bodies-append ts us) ∙ sym (append-assoc (bodyOf t) (bodies ts) (bodies us))
+
+pub texts-append : (ts us : List Token) → length (bodies (ts ++ us)) ≡ length (bodies ts) + length (bodies us)
+texts-append ts us = rw (bodies-append, length-append)
+
+-- entries without a text, and others without one
+pub plain-append : (ts us : List Token) → bodies ts ≡ [] → bodies us ≡ [] → bodies (ts ++ us) ≡ []
+plain-append ts us a b = bodies-append ts us ∙ ap₂ _++_ a b
+
+-- the texts of the later ones stand after those of the earlier ones
+pub heads-append : (place : ℕ) (ts us : List Token)
+    → heads place (ts ++ us) ≡ heads place ts ++ heads (place + length (bodies ts)) us
+unfolding heads bodies
+heads-append place [] us = rw add-zero
+heads-append place (t ∷ ts) us =
+    let next : ℕ = place + length (bodyOf t) in
+    let e : next + length (bodies ts) ≡ place + length (bodyOf t ++ bodies ts) =
+    rw length-append (add-assoc place (length (bodyOf t)) (length (bodies ts))) in
+    rw (heads-append next ts us, e)
+    (sym (append-assoc (entryBytes (kindOf t) (payloadOf place t)) (heads next ts) (heads _ us)))
+
+-- twelve bytes each
+pub length-heads : (place : ℕ) (ts : List Token) → length (heads place ts) ≡ 12 * length ts
+unfolding heads
+length-heads place [] = refl
+length-heads place (t ∷ ts) =
+    let e = length-entry (kindOf t) (payloadOf place t) in
+    rw length-append (omega (arith, length-heads (place + length (bodyOf t)) ts))
+
+pub heads-one : (place : ℕ) (t : Token) → heads place (t ∷ []) ≡ entryBytes (kindOf t) (payloadOf place t)
+unfolding heads
+heads-one place t = append-nil (entryBytes (kindOf t) (payloadOf place t))
+
+pub bodies-one : (t : Token) → bodies (t ∷ []) ≡ bodyOf t
+unfolding bodies
+bodies-one t = append-nil (bodyOf t)
+
+-- ---- entries without a text
+
+-- they have no bodies, and the same bytes wherever the next text goes: an empty text has no body either, but its place
+pub record Textless (ts : List Token) : Type 0 where
+  pub none : bodies ts ≡ []
+  pub anywhere : (place : ℕ) → heads place ts ≡ heads 0 ts
+
+pub textless-none : Textless []
+textless-none = record { none = unfold bodies in refl; anywhere = λ place. unfold heads in refl }
+
+-- one entry
+pub textless-one : (t : Token) → bodyOf t ≡ [] → ((place : ℕ) → payloadOf place t ≡ payloadOf 0 t) → Textless (t ∷ [])
+textless-one t a b =
+    record {
+      none = bodies-one t ∙ a;
+      anywhere = λ place. heads-one place t ∙ ap (entryBytes (kindOf t)) (b place) ∙ sym (heads-one 0 t);
+    }
+
+pub textless-null : Textless (null ∷ [])
+textless-null = textless-one null refl (λ place. refl)
+
+pub textless-bool : (b : Bool) → Textless (bool b ∷ [])
+textless-bool b = textless-one (bool b) refl (λ place. refl)
+
+pub textless-number : (kind x : ℕ) → Textless (number kind x ∷ [])
+textless-number kind x = textless-one (number kind x) refl (λ place. refl)
+
+pub textless-member : (j : ℕ) → Textless (member j ∷ [])
+textless-member j = textless-one (member j) refl (λ place. refl)
+
+pub textless-mark : (kind : ℕ) → Textless (mark kind ∷ [])
+textless-mark kind = textless-one (mark kind) refl (λ place. refl)
+
+-- some, and others after them
+pub textless-append : {ts us : List Token} → Textless ts → Textless us → Textless (ts ++ us)
+textless-append {ts} {us} a b =
+    record {
+      none = plain-append ts us (a .none) (b .none);
+      anywhere = λ place.
+          heads-append place ts us
+          ∙ ap₂ _++_ (a .anywhere place) (b .anywhere (place + length (bodies ts))
+          ∙ sym (b .anywhere (0 + length (bodies ts))))
+          ∙ sym (heads-append 0 ts us);
+    }
+
+pub textless-up : (g : ℕ → List Token) (n : ℕ) → ((k : ℕ) → Textless (g k)) → Textless (upTo g n)
+unfolding upTo
+textless-up g zero h = textless-none
+textless-up g (suc n) h = textless-append (textless-up g n h) (h n)
+
+-- ---- an entry by value
+
+-- a kind that was matched
+pub kind-told : {kind k : ℕ} {r : Loaded} (x : ℕ) → kind ≡ k → r ≡ loadedOf k x → r ≡ loadedOf kind x
+kind-told x e h = h ∙ sym (ap (λ (k : ℕ). loadedOf k x) e)
+
+-- none of the first n numbers, as the arms of a match leave it
+abbrev NoneBelow : ℕ → ℕ → Type 0
+NoneBelow i zero = Unit {0}
+NoneBelow i (suc n) = NoneBelow i n × (i ≡ n → ⊥)
+
+past : (i n : ℕ) → NoneBelow i n → n ≤ i
+past i zero h = omega arith
+past i (suc n) h = lt-of-le-ne (past i n (h .0)) (λ e. h .1 (sym e))
+
+pub kind-above : (kind x : ℕ) → NoneBelow kind 12 → Malformed ≡ loadedOf kind x
+unfolding loadedOf
+kind-above kind x h = sym (List·getD-eq-default (payloadsIn x) Malformed (past kind 12 h))
+
+-- three zeros after the kind
+pub zeros-read : (s : List ℕ) (at : ℕ) → getD s (at + 1) 0 ≡ 0 → getD s (at + 2) 0 ≡ 0 → getD s (at + 3) 0 ≡ 0
+    → entryIn s at ≡ loadedOf (getD s at 0) (wordAt 8 s (at + 4))
+unfolding entryIn threeZeros
+zeros-read s at a b c = simp (eq-eqb _ 0 a, eq-eqb _ 0 b, eq-eqb _ 0 c)
+
+payload-below : (e : Entry) → EntryFits e → entryPayload e < 2 ^ 64
+payload-below entry.Null h = omega arith
+payload-below (entry.Bool true) h = omega arith
+payload-below (entry.Bool false) h = omega arith
+payload-below (entry.Signed x) h = h
+payload-below (entry.Unsigned x) h = h
+payload-below (entry.Real x) h = omega arith
+payload-below (entry.LReal x) h = h
+payload-below (entry.Text place long) h = omega arith
+payload-below (entry.Member j) h = omega arith
+payload-below entry.Open h = omega arith
+payload-below entry.Close h = omega arith
+payload-below entry.ArrayOpen h = omega arith
+payload-below entry.ArrayClose h = omega arith
+
+text-back : (place long : ℕ) → place < 2 ^ 32 → textIn (place + 2 ^ 32 * long) ≡ Is (entry.Text place long)
+text-back place long h =
+    let e : (place + 2 ^ 32 * long) % 2 ^ 32 ≡ place = omega arith in
+    let f : (place + 2 ^ 32 * long) / 2 ^ 32 ≡ long = omega arith in
+    rw (e, f)
+
+low-back : (f : ℕ → Entry) (x : ℕ) → x < 2 ^ 32 → lowIn f x ≡ Is (f x)
+unfolding lowIn
+low-back f x h = rw (lt-ltb x (2 ^ 32) h)
+
+-- the same, from the low half that the code takes
+pub low-is : (f : ℕ → Entry) {x y : ℕ} → x < 2 ^ 32 → y ≡ x % 2 ^ 32 → Is (f y) ≡ lowIn f x
+low-is f {x} {y} h e = ap (λ (z : ℕ). Is (f z)) (e ∙ mod-eq-of-lt h) ∙ sym (low-back f x h)
+
+pub low-none : (f : ℕ → Entry) {x : ℕ} → 2 ^ 32 ≤ x → Malformed ≡ lowIn f x
+unfolding lowIn
+low-none f {x} h = rw (le-ltb x (2 ^ 32) h)
+
+-- its kind and its payload say the entry
+loaded-back : (e : Entry) → EntryFits e → loadedOf (entryKind e) (entryPayload e) ≡ Is e
+unfolding loadedOf bareIn truthIn
+loaded-back entry.Null h = refl
+loaded-back (entry.Bool true) h = refl
+loaded-back (entry.Bool false) h = refl
+loaded-back (entry.Signed x) h = refl
+loaded-back (entry.Unsigned x) h = refl
+loaded-back (entry.Real x) h = low-back entry.Real x h
+loaded-back (entry.LReal x) h = refl
+loaded-back (entry.Text place long) h = text-back place long (h .0)
+loaded-back (entry.Member j) h = low-back entry.Member j h
+loaded-back entry.Open h = refl
+loaded-back entry.Close h = refl
+loaded-back entry.ArrayOpen h = refl
+loaded-back entry.ArrayClose h = refl
+
+kind-small : (e : Entry) → entryKind e < 256
+kind-small entry.Null = omega arith
+kind-small (entry.Bool b) = omega arith
+kind-small (entry.Signed x) = omega arith
+kind-small (entry.Unsigned x) = omega arith
+kind-small (entry.Real x) = omega arith
+kind-small (entry.LReal x) = omega arith
+kind-small (entry.Text place long) = omega arith
+kind-small (entry.Member j) = omega arith
+kind-small entry.Open = omega arith
+kind-small entry.Close = omega arith
+kind-small entry.ArrayOpen = omega arith
+kind-small entry.ArrayClose = omega arith
+
+-- what stands in an entry's bytes
+module _ (s : List ℕ) (at kind x : ℕ) (h : at + 12 ≤ length s) where
+  byte-back : (j : ℕ) → j < 12 → getD (sets s at (entryBytes kind x)) (at + j) 0 ≡ getD (entryBytes kind x) j 0
+  byte-back j l =
+      getD-sets s at (entryBytes kind x) j 0 (omega (arith, length-entry kind x)) (omega (arith, length-entry kind x))
+
+  payload-back : kind < 256 → x < 2 ^ 64 → wordAt 8 (sets s at (entryBytes kind x)) (at + 4) ≡ x
+  payload-back k l =
+      rw (← entry-stored s at kind x k)
+      (word-back 8 (sets s at (bytesOf 4 kind)) (at + 4) x (omega (arith, length-sets s at (bytesOf 4 kind)))
+      ∙ mod-eq-of-lt l)
+
+-- what was stored is loaded again
+pub entry-back : (s : List ℕ) (at : ℕ) (e : Entry) → EntryFits e → at + 12 ≤ length s
+    → entryIn (sets s at (bytesOfEntry e)) at ≡ Is e
+unfolding entryBytes
+entry-back s at e f h =
+    let k = entryKind e in
+    let x = entryPayload e in
+    let t : List ℕ = sets s at (entryBytes k x) in
+    let b : (j : ℕ) → j < 12 → getD t (at + j) 0 ≡ getD (entryBytes k x) j 0 = byte-back s at k x h in
+    let z : getD t at 0 ≡ k = simp add-zero at (b 0 (omega arith)) in
+    let p : wordAt 8 t (at + 4) ≡ x = payload-back s at k x h (kind-small e) (payload-below e f) in
+    zeros-read t at (b 1 (omega arith)) (b 2 (omega arith)) (b 3 (omega arith))
+    ∙ rw (z, p) (loaded-back e f)
+
+-- ---- bytes that say an entry are its bytes
+
+abbrev Says : ℕ → ℕ → Loaded → Type 0
+Says kind x (Is e) = (entryKind e ≡ kind) × (entryPayload e ≡ x)
+Says kind x Malformed = Unit {0}
+
+is-says : (e : Entry) (x : ℕ) → entryPayload e ≡ x → Says (entryKind e) x (Is e)
+is-says e x p = (refl, p)
+
+bare-says : (e : Entry) (x : ℕ) → entryPayload e ≡ 0 → Says (entryKind e) x (bareIn e x)
+unfolding bareIn
+bare-says e x p = go (ℕ-discrete x 0)
+  where
+    go : Dec (x ≡ 0) → Says (entryKind e) x (cond (eqb x 0) (Is e) Malformed)
+    go (yes h) = rw (eq-eqb x 0 h) (refl, p ∙ sym h)
+    go (no h) = rw (ne-eqb x 0 h) tt
+
+truth-says : (x : ℕ) → Says 1 x (truthIn x)
+unfolding truthIn
+truth-says x = go (ℕ-discrete x 0) (ℕ-discrete x 1)
+  where
+    go : Dec (x ≡ 0) → Dec (x ≡ 1)
+        → Says 1 x (cond (eqb x 0) (Is (entry.Bool false)) (cond (eqb x 1) (Is (entry.Bool true)) Malformed))
+    go (yes h) l = rw (eq-eqb x 0 h) (refl, sym h)
+    go (no h) (yes l) = rw (ne-eqb x 0 h, eq-eqb x 1 l) (refl, sym l)
+    go (no h) (no l) = rw (ne-eqb x 0 h, ne-eqb x 1 l) tt
+
+low-says : (f : ℕ → Entry) (kind x : ℕ) → entryKind (f x) ≡ kind → entryPayload (f x) ≡ x → Says kind x (lowIn f x)
+unfolding lowIn
+low-says f kind x a b = go (decLt x (2 ^ 32))
+  where
+    go : Dec (x < 2 ^ 32) → Says kind x (cond (ltb x (2 ^ 32)) (Is (f x)) Malformed)
+    go (yes h) = rw (lt-ltb x (2 ^ 32) h) (a, b)
+    go (no h) = let l : 2 ^ 32 ≤ x = omega (arith, h) in rw (le-ltb x (2 ^ 32) l) tt
+
+-- each of some answers, the first of them to a kind
+infixr 30 _then_
+data EachSays (x : ℕ) : ℕ → List Loaded → Type 0 where
+  none : {kind : ℕ} → EachSays x kind []
+  _then_ : {kind : ℕ} {r : Loaded} {rs : List Loaded} → Says kind x r → EachSays x (suc kind) rs
+      → EachSays x kind (r ∷ rs)
+
+each-at : {kind x : ℕ} {rs : List Loaded} → EachSays x kind rs → (j : ℕ) → Says (kind + j) x (getD rs j Malformed)
+each-at none j = tt
+each-at (a then b) zero = rw add-zero a
+each-at {kind} (a then b) (suc j) =
+    let e : kind + suc j ≡ suc kind + j = omega arith in
+    rw e (each-at b j)
+
+each-says : (x : ℕ) → EachSays x 0 (payloadsIn x)
+each-says x =
+    bare-says entry.Null x refl
+    then truth-says x
+    then is-says (entry.Signed x) x refl
+    then is-says (entry.Unsigned x) x refl
+    then low-says entry.Real 4 x refl refl
+    then is-says (entry.LReal x) x refl
+    then is-says (entry.Text (x % 2 ^ 32) (x / 2 ^ 32)) x (omega arith)
+    then low-says entry.Member 7 x refl refl
+    then bare-says entry.Open x refl
+    then bare-says entry.Close x refl
+    then bare-says entry.ArrayOpen x refl
+    then bare-says entry.ArrayClose x refl
+    then none
+
+loaded-says : (kind x : ℕ) → Says kind x (loadedOf kind x)
+unfolding loadedOf
+loaded-says kind x =
+    subst (λ (k : ℕ). Says k x (getD (payloadsIn x) kind Malformed)) (zero-add kind) (each-at (each-says x) kind)
+
+-- the twelve bytes, one after the other
+twelve : (s : List ℕ) (at : ℕ) → Bytes s → at + 12 ≤ length s
+    → part s at 12
+    ≡ getD s at 0 ∷ getD s (at + 1) 0 ∷ getD s (at + 2) 0 ∷ getD s (at + 3) 0 ∷ bytesOf 8 (wordAt 8 s (at + 4))
+twelve s at b h =
+    let a : at + 0 ≡ at = add-zero at in
+    let p : part s at 12 ≡ getD s at 0 ∷ part s (at + 1) 11 = rw a at (part-cons s at 12 0 0 (omega arith) h) in
+    p
+    ∙ rw (
+      part-cons s at 12 1 0 (omega arith) h,
+      part-cons s at 12 2 0 (omega arith) h,
+      part-cons s at 12 3 0 (omega arith) h,
+      bytes-back 8 s (at + 4) b (omega arith),
+    )
+
+-- a kind and a payload that say an entry are its kind and its payload
+loaded-is : (kind x : ℕ) (e : Entry) → loadedOf kind x ≡ Is e → (entryKind e ≡ kind) × (entryPayload e ≡ x)
+loaded-is kind x e h = subst (Says kind x) h (loaded-says kind x)
+
+passed : (b : Bool) (r : Loaded) (e : Entry) → cond b r Malformed ≡ Is e → b ≡ true
+passed true r e h = refl
+passed false r e h = absurd (let z : _≡_ {A = ℕ} 0 1 = cc in let y : ⊥ = omega arith in y)
+
+-- bytes that say an entry are that entry's bytes
+pub entry-only : (s : List ℕ) (at : ℕ) (e : Entry) → Bytes s → at + 12 ≤ length s → entryIn s at ≡ Is e
+    → part s at 12 ≡ bytesOfEntry e
+unfolding entryBytes entryIn threeZeros
+entry-only s at e b h r =
+    let x : ℕ = wordAt 8 s (at + 4) in
+    let one : Bool = eqb (getD s (at + 1) 0) 0 in
+    let two : Bool = eqb (getD s (at + 2) 0) 0 in
+    let three : Bool = eqb (getD s (at + 3) 0) 0 in
+    let t : (one && two && three) ≡ true = passed (one && two && three) (loadedOf (getD s at 0) x) e r in
+    let u : (one && two) ≡ true = and-left (one && two) three t in
+    let p : getD s (at + 1) 0 ≡ 0 = eqb-true _ 0 (and-left one two u) in
+    let q : getD s (at + 2) 0 ≡ 0 = eqb-true _ 0 (and-right one two u) in
+    let z : getD s (at + 3) 0 ≡ 0 = eqb-true _ 0 (and-right (one && two) three t) in
+    let l = loaded-is (getD s at 0) x e (sym (zeros-read s at p q z) ∙ r) in
+    twelve s at b h ∙ rw (p, q, z, l .0, l .1)

@@ -1,0 +1,27 @@
+-- Laws of values that belong to no one function.
+pub mod AtomicRunLaws
+pub mod BitRunLaws
+pub mod CountLaws
+pub mod CountLeaves
+pub mod CountRows
+pub mod EntryLaws
+pub mod HeadLaws
+pub mod KeptWalkable
+pub mod LayingLaws
+pub mod LeafLaws
+pub mod Meaning
+pub mod MemberLaws
+pub mod NestedLaws
+pub mod NumberLaws
+pub mod PartLaws
+pub mod PutLaws
+pub mod ReadLaws
+pub mod ReadingLaws
+pub mod RunLaws
+pub mod SpanLaws
+pub mod StoredLaws
+pub mod StreamLaws
+pub mod TextCountLaws
+pub mod TextLaws
+pub mod TreeLaws
+pub mod WalkLaws

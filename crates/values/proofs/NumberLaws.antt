@@ -1,0 +1,122 @@
+-- Laws of numbers (document 01, "Reading"): a number as the code widens it is what its leaf gives, by one law over the
+-- width for signed numbers and one for the others; that each atomic but BOOL is an instance of it.
+use Prim.Native.Nat.{ℕ, _+_, _-_, _*_, _/_, _%_, _^_, _≤_, _<_}
+use native.Mathlib.Nat.{add-zero}
+use native.Mathlib.Omega.{arith}
+use mathlib.Core.Path.{_≡_, refl, sym, ap, _∙_}
+use mathlib.Core.Bool.{Bool, true, false, cond}
+use mathlib.Core.List.{List}
+use lib.Dec.{ltb}
+use lib.ListN.{getD}
+use lib.Seq.{getD-take, getD-drop}
+use Rattle.words.specs.Bits.{from, flat, val}
+use Rattle.words.specs.Words.{part, wordAt, Bytes}
+use Rattle.words.proofs.BitLaws.{val-ext, word-val}
+use Rattle.words.proofs.WordLaws.{word-below}
+use Rattle.types.specs.Atomic.{sizeOf}
+use Rattle.types.specs.declared.atomic.Atomic.{Atomic}
+use Rattle.types.specs.declared.atomic.Atomic.the-variants as atomic
+use Rattle.values.specs.Leaf.{int, word, byte, emit, isTrue, leafOf, signed}
+use Rattle.values.specs.Numbers.{extended, formOf, plainForm, signedForm}
+use Rattle.values.specs.Stream.{bool, number}
+use Rattle.values.specs.declared.numbers.Form.{Form}
+
+-- ---- the bits of a part
+
+-- bit k of a part is that bit of the whole
+pub flat-part : (s : List ℕ) (at n k : ℕ) → k < 8 * n → flat (part s at n) k ≡ flat s (8 * at + k)
+unfolding flat part
+flat-part s at n k h =
+    let e : (8 * at + k) / 8 ≡ at + k / 8 = omega arith in
+    let f : (8 * at + k) % 8 ≡ k % 8 = omega arith in
+    let l : k / 8 < n = omega arith in
+    rw (e, f, getD-take, getD-drop)
+
+-- a word is the number of the bits of its part
+pub part-val : (n : ℕ) (s : List ℕ) (at : ℕ) → Bytes s → wordAt n s at ≡ val (8 * n) (flat (part s at n))
+part-val n s at b =
+    word-val n s at b
+    ∙ val-ext (8 * n) (from (8 * at) (flat s)) (flat (part s at n)) (λ k l. sym (flat-part s at n k l))
+
+-- ---- one number
+
+same-plus : (b : Bool) (x : ℕ) → cond b x (x + 0) ≡ x
+same-plus true x = refl
+same-plus false x = add-zero x
+
+-- nothing is put above it
+no-fill : (f : Form) (x : ℕ) → f .fill ≡ 0 → extended f x ≡ x
+unfolding extended
+no-fill f x h = rw h (same-plus (ltb x (f .half)) x)
+
+-- THE LAW over the width: a signed number of n bytes
+pub int-form : (n : ℕ) (s : List ℕ) (at : ℕ) → Bytes s
+    → emit (int (8 * n)) (flat (part s at n))
+    ≡ number 2 (extended (signedForm (2 ^ (8 * n - 1)) (2 ^ 64 - 2 ^ (8 * n))) (wordAt n s at))
+unfolding signed extended
+int-form n s at b = rw (part-val n s at b)
+
+-- and any other
+pub word-form : (kind n : ℕ) (s : List ℕ) (at : ℕ) → Bytes s
+    → emit (word kind (8 * n)) (flat (part s at n)) ≡ number kind (extended (plainForm kind) (wordAt n s at))
+word-form kind n s at b = rw (no-fill (plainForm kind) (wordAt n s at) refl, part-val n s at b)
+
+-- nothing stands above a signed number of eight bytes
+long-form : (s : List ℕ) (at : ℕ) → Bytes s
+    → emit (int 64) (flat (part s at 8)) ≡ number 2 (extended (plainForm 2) (wordAt 8 s at))
+long-form s at b =
+    int-form 8 s at b
+    ∙ ap (number 2) (no-fill (signedForm (2 ^ 63) 0) (wordAt 8 s at) refl
+    ∙ sym (no-fill (plainForm 2) (wordAt 8 s at) refl))
+
+-- each atomic but BOOL
+pub number-form : (a : Atomic) (s : List ℕ) (at : ℕ) → Bytes s → (a ≡ atomic.Bool → ⊥)
+    → emit (leafOf a) (flat (part s at (sizeOf a)))
+    ≡ number (formOf a .kind) (extended (formOf a) (wordAt (sizeOf a) s at))
+unfolding sizeOf
+number-form atomic.Bool s at b h = absurd (h refl)
+number-form atomic.SInt s at b h = int-form 1 s at b
+number-form atomic.Int s at b h = int-form 2 s at b
+number-form atomic.DInt s at b h = int-form 4 s at b
+number-form atomic.LInt s at b h = long-form s at b
+number-form atomic.USInt s at b h = word-form 3 1 s at b
+number-form atomic.UInt s at b h = word-form 3 2 s at b
+number-form atomic.UDInt s at b h = word-form 3 4 s at b
+number-form atomic.ULInt s at b h = word-form 3 8 s at b
+number-form atomic.Real s at b h = word-form 4 4 s at b
+number-form atomic.LReal s at b h = word-form 5 8 s at b
+number-form atomic.Byte s at b h = word-form 3 1 s at b
+number-form atomic.Word s at b h = word-form 3 2 s at b
+number-form atomic.DWord s at b h = word-form 3 4 s at b
+number-form atomic.LWord s at b h = word-form 3 8 s at b
+
+word-one : (s : List ℕ) (at : ℕ) → wordAt 1 s at ≡ getD s at 0
+unfolding wordAt
+word-one s at = add-zero (getD s at 0)
+
+-- BOOL's byte
+pub truth-form : (s : List ℕ) (at : ℕ) → Bytes s → emit byte (flat (part s at 1)) ≡ bool (isTrue (getD s at 0))
+truth-form s at b = rw (← part-val 1 s at b, word-one)
+
+-- ---- what stands above a number fits beside it
+
+pub fill-room : (a : Atomic) → 256 ^ sizeOf a + formOf a .fill ≤ 2 ^ 64
+unfolding sizeOf
+fill-room atomic.Bool = omega arith
+fill-room atomic.SInt = omega arith
+fill-room atomic.Int = omega arith
+fill-room atomic.DInt = omega arith
+fill-room atomic.LInt = omega arith
+fill-room atomic.USInt = omega arith
+fill-room atomic.UInt = omega arith
+fill-room atomic.UDInt = omega arith
+fill-room atomic.ULInt = omega arith
+fill-room atomic.Real = omega arith
+fill-room atomic.LReal = omega arith
+fill-room atomic.Byte = omega arith
+fill-room atomic.Word = omega arith
+fill-room atomic.DWord = omega arith
+fill-room atomic.LWord = omega arith
+
+pub fill-fits : (a : Atomic) (s : List ℕ) (at : ℕ) → Bytes s → wordAt (sizeOf a) s at + formOf a .fill < 2 ^ 64
+fill-fits a s at b = omega (arith, fill-room a, word-below (sizeOf a) s at b)

@@ -1,0 +1,273 @@
+-- Steps of the walk (document 01, "Reading"): a structure is a string or its members; these are its rows in brackets,
+-- each a leaf or a nested structure in its turn; an array of structures is its elements in brackets.
+use Prim.Native.Nat.{ℕ, _+_, _*_, _<_, _≤_}
+use native.Mathlib.Omega.{arith}
+use mathlib.Core.Path.{_≡_, sym, ap, _∙_}
+use mathlib.Core.Bool.{Bool, true, false, cond}
+use mathlib.Core.List.{List, _∷_}
+use lib.ListN.{length}
+use lib.Seq.{sets}
+use Rattle.types.specs.Tables.{memberAt, typeAt}
+use Rattle.types.specs.Waste.{sizesIn}
+use Rattle.types.specs.declared.atomic.Atomic.{Atomic}
+use Rattle.types.specs.declared.member.Member.{Member}
+use Rattle.types.specs.declared.member.StructDef.{StructDef}
+use Rattle.types.specs.declared.member.Ty.the-variants as ty
+use Rattle.values.specs.Laying.{Put, Room, Wrote}
+use Rattle.values.specs.Stream.{Token, member, entryBytes}
+use Rattle.values.specs.Trees.{isString}
+use Rattle.values.specs.Walk.{upTo, wrap, textOut, capacityAt, isNested, leafOut, elementBy, elementsBy}
+use Rattle.values.specs.Walk.{memberBy, rowBy, membersBy, structBy, structOut}
+use Rattle.values.specs.Walkable.{IsString, Walkable, RowOf, NestedRow, ImageOf, ImagesOf}
+use Rattle.values.specs.declared.place.Place.{Place}
+use Rattle.values.proofs.LayingLaws.{room-one, room-all, room-as, wrote-as, value-room, value-wrote}
+use Rattle.values.proofs.LayingLaws.{Running, run-start, run-room, run-turn, run-end}
+use Rattle.values.proofs.LeafLaws.{textless-leaf}
+use Rattle.values.proofs.MemberLaws.{nested-shown, never-atomic, nested-earlier, member-leaf, row-of}
+use Rattle.values.proofs.PartLaws.{lent, element-fits, element-image, element-is, Held, one-image, one-is}
+use Rattle.values.proofs.PartLaws.{some-images, some-is}
+use Rattle.values.proofs.PutLaws.{put-wrote}
+use Rattle.values.proofs.WalkLaws.{struct-out}
+
+-- ---- a structure, where d was read from its row
+
+module _ {types members : List ℕ} (w : Walkable types members) {i : ℕ} {image : List ℕ} (whole : ImageOf types i image)
+    {d : StructDef} (is : d ≡ typeAt types i) {b : Bool} (test : b ≡ isString (d .kind)) where
+  struct-is : structOut types members i image
+      ≡ cond b (textOut (capacityAt members (d .first)) image)
+      (membersBy types members (structOut types members) i image)
+  unfolding structBy
+  struct-is = struct-out types members w i image (whole .low) ∙ rw (test, is)
+
+  pub members-are : b ≡ false
+      → structOut types members i image ≡ membersBy types members (structOut types members) i image
+  members-are e = struct-is ∙ rw e
+
+  module _ (string : b ≡ true) {first : ℕ} (p : first ≡ d .first) where
+    type-string : IsString members (typeAt types i)
+    type-string =
+        w .each i (whole .low) .string (ap (λ (x : StructDef). isString (x .kind)) (sym is) ∙ sym test ∙ string)
+
+    first-is : first ≡ typeAt types i .first
+    first-is = p ∙ ap (λ (x : StructDef). x .first) is
+
+    -- its second row is in the table
+    pub string-rows : first < 1999
+    string-rows = omega (arith, first-is, w .each i (whole .low) .rows, type-string .rows)
+
+    module _ {capacity : ℕ} (q : capacity ≡ capacityAt members first) where
+      pub string-fits : 4 + capacity ≤ length image
+      string-fits =
+          let e : capacity ≡ capacityAt members (typeAt types i .first) = q ∙ ap (capacityAt members) first-is in
+          omega (arith, whole .long, type-string .size)
+
+      pub string-is : structOut types members i image ≡ textOut capacity image
+      string-is = struct-is ∙ rw (string, q, p)
+
+-- ---- its members
+
+-- the open bracket has room
+pub members-room : (types members : List ℕ) (rec : ℕ → List ℕ → List Token) (i : ℕ) (image : List ℕ)
+    {long base at text : ℕ} → Room long base at text (membersBy types members rec i image) → at + 12 ≤ long
+unfolding membersBy
+members-room types members rec i image r = room-one r .0
+
+rows-are : (types members : List ℕ) (rec : ℕ → List ℕ → List Token) (i : ℕ) (image : List ℕ) {first n : ℕ}
+    {d : StructDef} → d ≡ typeAt types i → first ≡ d .first → n ≡ d .count
+    → membersBy types members rec i image ≡ wrap 8 9 (upTo (rowBy types members rec first image) n)
+unfolding membersBy
+rows-are types members rec i image is f c = rw (c, f, is)
+
+-- the rows before row j are written
+pub record Rows (types members : List ℕ) (i : ℕ) (image : List ℕ) (first n : ℕ) (out : List ℕ) (base at text j : ℕ)
+    (new : List ℕ) (p t : ℕ) : Type 0 where
+  pub run : Running (rowBy types members (structOut types members) first image) n 9 out base at text j new p t
+  pub walk : Walkable types members
+  pub whole : ImageOf types i image
+  pub rows : (k : ℕ) → k < n → RowOf types members i (first + k)
+
+module _ {types members image : List ℕ} {i first n : ℕ} {d : StructDef} (is : d ≡ typeAt types i) (f : first ≡ d .first)
+    (c : n ≡ d .count) (out : List ℕ) {mid : List ℕ} {base at text : ℕ}
+    (room : Room (length out) base at text (membersBy types members (structOut types members) i image))
+    (put : mid ≡ sets out at (entryBytes 8 0)) where
+  pub rows-start : Walkable types members → ImageOf types i image
+      → Rows types members i image first n mid base (at + 12) text 0 mid (at + 12) text
+  rows-start w whole =
+      let e = rows-are types members (structOut types members) i image is f c in
+      record {
+        run = run-start out (room-as e room) put;
+        walk = w;
+        whole = whole;
+        rows = λ k h.
+            row-of w (whole .low) (f ∙ ap (λ (x : StructDef). x .first) is) (c ∙ ap (λ (x : StructDef). x .count) is) h;
+      }
+
+  pub rows-end : {j p t : ℕ} {new last : List ℕ}
+      → Rows types members i image first n mid base (at + 12) text j new p t → n ≤ j
+      → last ≡ sets new p (entryBytes 9 0)
+      → Wrote out base at text (membersBy types members (structOut types members) i image) last
+      (record { at = p + 12; text = t })
+  rows-end w h v =
+      let e = rows-are types members (structOut types members) i image is f c in
+      wrote-as e (run-end (room-as e room) put (w .run) h v)
+
+module _ {types members image out new : List ℕ} {i first n base at text j p t : ℕ}
+    (w : Rows types members i image first n out base at text j new p t) (h : j < n) {b : Bool}
+    (test : b ≡ isNested (memberAt members (first + j))) where
+  on : {last : List ℕ} {r : Place}
+      → Wrote new base p t (memberBy types members (structOut types members) j (memberAt members (first + j)) image)
+      last r
+      → Rows types members i image first n out base at text (j + 1) last (r .at) (r .text)
+  on v = record { run = run-turn (w .run) h v; walk = w .walk; whole = w .whole; rows = w .rows }
+
+  -- row j is a structure, or an array of structures
+  module _ (nested : b ≡ true) where
+    pub nested-asks : (Walkable types members × (NestedRow types members i (first + j) × ImageOf types i image))
+        × Room (length new) base p t
+        (memberBy types members (structOut types members) j (memberAt members (first + j)) image)
+    nested-asks =
+        ((w .walk, (record { row-of = w .rows j h; nested = sym test ∙ nested }, w .whole)), run-room (w .run) h)
+
+    pub nested-on : {last : List ℕ} {r : Place}
+        → Wrote new base p t (memberBy types members (structOut types members) j (memberAt members (first + j)) image)
+        last r
+        → Rows types members i image first n out base at text (j + 1) last (r .at) (r .text)
+    nested-on v = on v
+
+  -- it is neither
+  module _ (leaf : b ≡ false) where
+    row-leaf : memberBy types members (structOut types members) j (memberAt members (first + j)) image
+        ≡ leafOut j (memberAt members (first + j)) image
+    row-leaf =
+        member-leaf types members (structOut types members) j (memberAt members (first + j)) image (sym test ∙ leaf)
+
+    pub leaf-asks : (RowOf types members i (first + j) × ImageOf types i image)
+        × (p + 12 * length (leafOut j (memberAt members (first + j)) image) ≤ length new)
+    leaf-asks = ((w .rows j h, w .whole), room-all (room-as row-leaf (run-room (w .run) h)))
+
+    pub leaf-on : {last : List ℕ} {r : ℕ} → Put new p (leafOut j (memberAt members (first + j)) image) last r
+        → Rows types members i image first n out base at text (j + 1) last r t
+    leaf-on v = on (wrote-as row-leaf (put-wrote base t (textless-leaf j image _) v))
+
+-- ---- a structure, or an array of structures, in a row, where m was read from it
+
+module _ {types members : List ℕ} {i row : ℕ} {m : Member} (nested : NestedRow types members i row)
+    (is : m ≡ memberAt members row) where
+  pub nested-not : {a : Atomic} → m .ty ≡ ty.Atomic a → ⊥
+  nested-not {a} e =
+      never-atomic (memberAt members row) (nested .nested) a (ap (λ (x : Member). x .ty) (sym is) ∙ e)
+
+  pub nested-low : {s : ℕ} → m .ty ≡ ty.Struct s → s < 200
+  nested-low e =
+      omega (arith, nested-earlier nested (ap (λ (x : Member). x .ty) (sym is) ∙ e), nested .row-of .low)
+
+  pub held-row : {image : List ℕ} {s start n size : ℕ} → ImageOf types i image → m .ty ≡ ty.Struct s
+      → start ≡ m .offset → n ≡ m .count → size ≡ sizesIn types s → Held types members i row image s start n size
+  held-row whole e s c z =
+      record {
+        nested = nested;
+        whole = whole;
+        struct = ap (λ (x : Member). x .ty) (sym is) ∙ e;
+        at = s ∙ ap (λ (x : Member). x .offset) is;
+        count = c ∙ ap (λ (x : Member). x .count) is;
+        long = z;
+      }
+
+-- its number has room
+pub nested-room : (types members : List ℕ) (rec : ℕ → List ℕ → List Token) (j : ℕ) (x : Member) (image : List ℕ)
+    {long base at text : ℕ} → isNested x ≡ true → Room long base at text (memberBy types members rec j x image)
+    → at + 12 ≤ long
+unfolding memberBy
+nested-room types members rec j x image e r = room-one (rw (nested-shown x e) at r) .0
+
+-- its number is put
+pub record Nesting (types members : List ℕ) (i row j : ℕ) (image out : List ℕ) (base at text : ℕ) (mid : List ℕ)
+    (s start n size : ℕ) : Type 0 where
+  pub held : Held types members i row image s start n size
+  pub walk : Walkable types members
+  pub room : Room (length out) base at text
+      (memberBy types members (structOut types members) j (memberAt members row) image)
+  pub put : mid ≡ sets out at (entryBytes 7 j)
+
+module _ {types members : List ℕ} {i row j : ℕ} {image out : List ℕ} {base at text : ℕ} {mid : List ℕ}
+    {s start n size : ℕ} (w : Nesting types members i row j image out base at text mid s start n size) where
+  module _ (none : n ≡ 0) where
+    one : memberBy types members (structOut types members) j (memberAt members row) image
+        ≡ member j ∷ structOut types members s (lent image start (start + size))
+    one = sym (one-is (w .held) none (structOut types members) j)
+
+    pub one-asks : (Walkable types members × ImageOf types s (lent image start (start + size)))
+        × Room (length mid) base (at + 12) text (structOut types members s (lent image start (start + size)))
+    one-asks = ((w .walk, one-image (w .held) none), value-room out (room-as one (w .room)) (w .put))
+
+    pub one-wrote : {new : List ℕ} {r : Place}
+        → Wrote mid base (at + 12) text (structOut types members s (lent image start (start + size))) new r
+        → Wrote out base at text (memberBy types members (structOut types members) j (memberAt members row) image) new r
+    one-wrote v = wrote-as one (value-wrote out (room-as one (w .room)) (w .put) v)
+
+  module _ (many : n ≡ 0 → ⊥) where
+    some : memberBy types members (structOut types members) j (memberAt members row) image
+        ≡ member j ∷ elementsBy types members (structOut types members) s n (lent image start (start + size * n))
+    some = sym (some-is (w .held) many (structOut types members) j)
+
+    pub some-asks : (Walkable types members × ImagesOf types s n (lent image start (start + size * n)))
+        × Room (length mid) base (at + 12) text
+        (elementsBy types members (structOut types members) s n (lent image start (start + size * n)))
+    some-asks = ((w .walk, some-images (w .held) many), value-room out (room-as some (w .room)) (w .put))
+
+    pub some-wrote : {new : List ℕ} {r : Place}
+        → Wrote mid base (at + 12) text
+        (elementsBy types members (structOut types members) s n (lent image start (start + size * n))) new r
+        → Wrote out base at text (memberBy types members (structOut types members) j (memberAt members row) image) new r
+    some-wrote v = wrote-as some (value-wrote out (room-as some (w .room)) (w .put) v)
+
+-- ---- an array of structures
+
+-- the elements before element k are written
+pub record Elements (types members : List ℕ) (i n : ℕ) (image : List ℕ) (size : ℕ) (out : List ℕ) (base at text k : ℕ)
+    (new : List ℕ) (p t : ℕ) : Type 0 where
+  pub run : Running (elementBy types members (structOut types members) i image) n 11 out base at text k new p t
+  pub walk : Walkable types members
+  pub whole : ImagesOf types i n image
+  pub long : size ≡ sizesIn types i
+
+-- the open bracket has room
+pub elements-room : (types members : List ℕ) (rec : ℕ → List ℕ → List Token) (i n : ℕ) (image : List ℕ)
+    {long base at text : ℕ} → Room long base at text (elementsBy types members rec i n image) → at + 12 ≤ long
+unfolding elementsBy
+elements-room types members rec i n image r = room-one r .0
+
+module _ {types members image : List ℕ} {i n : ℕ} (out : List ℕ) {mid : List ℕ} {base at text : ℕ}
+    (room : Room (length out) base at text (elementsBy types members (structOut types members) i n image))
+    (put : mid ≡ sets out at (entryBytes 10 0)) where
+  pub elements-start : {size : ℕ} → Walkable types members → ImagesOf types i n image → size ≡ sizesIn types i
+      → Elements types members i n image size mid base (at + 12) text 0 mid (at + 12) text
+  unfolding elementsBy
+  elements-start w whole z = record { run = run-start out room put; walk = w; whole = whole; long = z }
+
+  pub elements-end : {size k p t : ℕ} {new last : List ℕ}
+      → Elements types members i n image size mid base (at + 12) text k new p t → n ≤ k
+      → last ≡ sets new p (entryBytes 11 0)
+      → Wrote out base at text (elementsBy types members (structOut types members) i n image) last
+      (record { at = p + 12; text = t })
+  unfolding elementsBy
+  elements-end w h e = run-end room put (w .run) h e
+
+module _ {types members image out new : List ℕ} {i n size base at text k p t : ℕ}
+    (w : Elements types members i n image size out base at text k new p t) (h : k < n) where
+  pub element-inside : size * k + size ≤ length image
+  element-inside = element-fits (w .whole) (w .long) k h
+
+  element : elementBy types members (structOut types members) i image k
+      ≡ structOut types members i (lent image (size * k) (size * k + size))
+  element = sym (element-is (w .whole) (w .long) members (structOut types members) k)
+
+  pub element-asks : (Walkable types members × ImageOf types i (lent image (size * k) (size * k + size)))
+      × Room (length new) base p t (structOut types members i (lent image (size * k) (size * k + size)))
+  element-asks = ((w .walk, element-image (w .whole) (w .long) k h), room-as element (run-room (w .run) h))
+
+  pub element-on : {last : List ℕ} {r : Place}
+      → Wrote new base p t (structOut types members i (lent image (size * k) (size * k + size))) last r
+      → Elements types members i n image size out base at text (k + 1) last (r .at) (r .text)
+  element-on v =
+      record { run = run-turn (w .run) h (wrote-as element v); walk = w .walk; whole = w .whole; long = w .long }

@@ -1,0 +1,235 @@
+-- What a reading answers and leaves (document 01, "Reading", "Refusal numbers"): a law for each way out of the call.
+use Prim.Native.Nat.{ℕ, _+_, _*_, _/_, _%_, _<_, _≤_, min}
+use native.Mathlib.Nat.{add-zero, div-add-mod, mul-comm, mul-one, zero-mul}
+use native.Mathlib.Omega.{arith}
+use mathlib.Core.Path.{_≡_, refl, sym, ap, _∙_}
+use mathlib.Core.Bool.{Bool, true, false, cond}
+use mathlib.Core.List.{List, []}
+use lib.Dec.{eqb, leb}
+use lib.ListN.{length}
+use lib.Seq.{sets}
+use lib.Arith.{digits-div, digits-mod}
+use borrow.Author.Tests.{eq-eqb, ne-eqb, eqb-true, eqb-false, le-leb, lt-leb, leb-true}
+use Rattle.words.specs.Bits.{flat}
+use Rattle.words.specs.Words.{Bytes, bytesOf}
+use Rattle.types.specs.Layout.{times}
+use Rattle.types.specs.Shape.{isThere}
+use Rattle.types.specs.Tables.{TyFits}
+use Rattle.types.specs.Waste.{sizesIn}
+use Rattle.types.specs.declared.atomic.Atomic.{Atomic}
+use Rattle.types.specs.declared.member.Ty.{Ty}
+use Rattle.types.specs.declared.member.Ty.the-variants as ty
+use Rattle.types.specs.declared.refusal.Refusal.the-variants.{ImageLength, NoSuchType, NoRoom}
+use Rattle.values.specs.declared.count.Tally.{Tally}
+use Rattle.values.specs.declared.place.Place.{Place}
+use Rattle.values.specs.declared.reading.Streamed.{Streamed}
+use Rattle.values.specs.declared.reading.Streamed.the-variants.{Length, Refused}
+use Rattle.values.specs.Counting.{Counted, Texts}
+use Rattle.values.specs.Laying.{laid, Room, Wrote}
+use Rattle.values.specs.Stream.{Token, bodies, mostBytes, streamBytes}
+use Rattle.values.specs.Tree.{items, read}
+use Rattle.values.specs.Trees.{knownIn, treeOfValue}
+use Rattle.values.specs.Walk.{atomicsOut, elementsBy, structOut, structsBy, valueOut}
+use Rattle.values.specs.Walkable.{ImageOf, ImagesOf, ValueImage, Walkable}
+use Rattle.values.proofs.Meaning.{meaning}
+use Rattle.values.proofs.StreamLaws.{stream-long, stream-laid}
+use Rattle.values.specs.Reading.{streamOf, valueStream, imageFits, hasRoom, streamAnswer, readAnswer, leftBy, Answered, Written}
+
+-- ---- one way out each
+
+module _ (types members : List ℕ) (t : Ty) (n : ℕ) (image out : List ℕ) where
+  pub no-type : isThere types t ≡ false → Answered types members t n image out (Refused NoSuchType) out
+  unfolding readAnswer
+  no-type e = record { answer = rw e refl; leaves = rw e refl }
+
+  pub no-image : isThere types t ≡ true → imageFits types t n image ≡ false
+      → Answered types members t n image out (Refused ImageLength) out
+  unfolding readAnswer
+  no-image e f = record { answer = rw (e, f) refl; leaves = rw (e, f) refl }
+
+  pub answered : {r : Streamed} {new : List ℕ} → isThere types t ≡ true → imageFits types t n image ≡ true
+      → Written types members t n image out r new → Answered types members t n image out r new
+  unfolding readAnswer
+  answered e f w = record { answer = rw (e, f) (w .answer); leaves = rw (e, f) (w .leaves) }
+
+  pub no-room : hasRoom (valueStream types members t n image) (length out) ≡ false
+      → Written types members t n image out (Refused NoRoom) out
+  unfolding streamAnswer
+  no-room e = record { answer = rw e refl; leaves = rw e refl }
+
+  pub all-room : {k : ℕ} {new : List ℕ} → hasRoom (valueStream types members t n image) (length out) ≡ true
+      → k ≡ length (valueStream types members t n image) → new ≡ sets out 0 (valueStream types members t n image)
+      → Written types members t n image out (Length k) new
+  unfolding streamAnswer
+  all-room e f g = record { answer = rw e (ap Length f); leaves = rw e g }
+
+-- ---- a product that is compared without being made
+
+pub product-none : (long size n : ℕ) → size ≡ 0 → eqb long 0 ≡ eqb long (size * n)
+product-none long size n e = ap (eqb long) (sym (ap (λ (s : ℕ). s * n) e ∙ zero-mul n))
+
+module _ (long size n : ℕ) (some : size ≡ 0 → ⊥) where
+  exact : long ≡ size * n → (long % size ≡ 0) × (long / size ≡ n)
+  exact e =
+      let p : long ≡ n * size + 0 = e ∙ mul-comm size n ∙ sym (add-zero (n * size)) in (
+        ap (λ (k : ℕ). k % size) p ∙ digits-mod n (omega (arith, some)),
+        ap (λ (k : ℕ). k / size) p ∙ digits-div n (omega (arith, some)),
+      )
+
+  pub product-not : (long % size ≡ 0 → ⊥) → false ≡ eqb long (size * n)
+  product-not r = sym (ne-eqb long (size * n) (λ e. r (exact e .0)))
+
+  pub product-is : long % size ≡ 0 → eqb (long / size) n ≡ eqb long (size * n)
+  product-is r = go (eqb (long / size) n) refl
+    where
+      go : (b : Bool) → eqb (long / size) n ≡ b → b ≡ eqb long (size * n)
+      go true e =
+          let p : size * n ≡ long
+          = ap (λ (k : ℕ). size * k) (sym (eqb-true (long / size) n e)) ∙ omega (arith, div-add-mod long size, r) in
+          sym (eq-eqb long (size * n) (sym p))
+      go false e = sym (ne-eqb long (size * n) (λ p. eqb-false (long / size) n e (exact p .1)))
+
+-- ---- a value is an atomic or a structure, one or an array
+
+pub times-one : (n : ℕ) → n ≡ 0 → times n ≡ 1
+unfolding times
+times-one n e = rw e refl
+
+pub times-some : (n : ℕ) → (n ≡ 0 → ⊥) → times n ≡ n
+unfolding times
+times-some n e = rw (ne-eqb n 0 e)
+
+module _ (types : List ℕ) (i n : ℕ) (image : List ℕ) (v : ImagesOf types i (times n) image) where
+  pub image-one : n ≡ 0 → ImageOf types i image
+  image-one e =
+      record { low = v .low; long = v .long ∙ ap (λ (k : ℕ). sizesIn types i * k) (times-one n e) ∙ mul-one _ }
+
+  pub image-some : (n ≡ 0 → ⊥) → ImagesOf types i n image
+  image-some e = record { low = v .low; long = v .long ∙ ap (λ (k : ℕ). sizesIn types i * k) (times-some n e) }
+
+-- the image of a value of a structure
+pub images : (types : List ℕ) (t : Ty) (i n : ℕ) (image : List ℕ) → t ≡ ty.Struct i → ValueImage types t n image
+    → ImagesOf types i (times n) image
+images types t i n image e v = let w = rw e at v in record { low = w .fits; long = w .long }
+
+module _ (types members : List ℕ) (n : ℕ) (image : List ℕ) where
+  pub value-atomic : (t : Ty) (a : Atomic) → t ≡ ty.Atomic a → valueOut types members t n image ≡ atomicsOut a n image
+  unfolding valueOut
+  value-atomic t a e = rw e refl
+
+  pub value-struct : (t : Ty) (i : ℕ) → t ≡ ty.Struct i
+      → valueOut types members t n image ≡ structsBy types members (structOut types members) i n image
+  unfolding valueOut
+  value-struct t i e = rw e refl
+
+  pub value-one : (i : ℕ) → n ≡ 0
+      → valueOut types members (ty.Struct i) n image ≡ structOut types members i image
+  unfolding valueOut structsBy
+  value-one i e = rw e refl
+
+  pub value-some : (i : ℕ) → (n ≡ 0 → ⊥)
+      → valueOut types members (ty.Struct i) n image
+      ≡ elementsBy types members (structOut types members) i n image
+  unfolding valueOut structsBy
+  value-some i e = rw (ne-eqb n 0 e) refl
+
+-- ---- promises carried over to entries that are the same
+
+pub counted-as : {room : ℕ} {f g : List ℕ → List Token} {r : Tally} → ((image : List ℕ) → g image ≡ f image)
+    → Counted room f r → Counted room g r
+counted-as same c =
+    record {
+      exact = λ l image. ap length (same image) ∙ c .exact l image;
+      over = λ l image. rw (same image) (c .over l image);
+      plain = λ p image. ap bodies (same image) ∙ c .plain p image;
+      small = c .small;
+    }
+
+pub texts-as : {room : ℕ} {ts us : List Token} {r : ℕ} → us ≡ ts → Texts room ts r → Texts room us r
+texts-as e t = rw e t
+
+pub room-as : {long base at text : ℕ} {ts us : List Token} → ts ≡ us → Room long base at text ts
+    → Room long base at text us
+room-as e t = rw (← e) t
+
+pub wrote-as : {out : List ℕ} {base at text : ℕ} {ts us : List Token} {new : List ℕ} {p : Place} → us ≡ ts
+    → Wrote out base at text ts new p → Wrote out base at text us new p
+wrote-as e t = rw e t
+
+-- entries of which none is a text have no bytes of text
+pub no-texts : {room : ℕ} {ts : List Token} → bodies ts ≡ [] → Texts room ts 0
+no-texts e =
+    record {
+      exact = λ l. ap length e;
+      over = λ l. absurd (let z : ⊥ = omega arith in z);
+      small = omega arith;
+    }
+
+-- ---- the stream of a value is that of the walk's entries
+
+pub stream-is : (types members : List ℕ) → Walkable types members → (t : Ty) (n : ℕ) (image : List ℕ)
+    → ValueImage types t n image → Bytes image
+    → valueStream types members t n image ≡ streamBytes (valueOut types members t n image)
+unfolding streamOf
+stream-is types members w t n image v b =
+    ap streamBytes (sym (meaning types members w t n image (v .fits) (v .long) b))
+
+-- ---- room for it
+
+module _ (types members : List ℕ) (t : Ty) (n : ℕ) (image out : List ℕ) (room : ℕ)
+    (same : valueStream types members t n image ≡ streamBytes (valueOut types members t n image))
+    (space : room + 4 ≡ min (length out) 2147483648) where
+  abbrev ts : List Token
+  ts = valueOut types members t n image
+
+  long : length (valueStream types members t n image) ≡ 4 + 12 * length ts + length (bodies ts)
+  long = ap length same ∙ stream-long ts
+
+  pub over-room : room < 12 * length ts + length (bodies ts)
+      → hasRoom (valueStream types members t n image) (length out) ≡ false
+  over-room l =
+      lt-leb (length (valueStream types members t n image)) (min (length out) mostBytes) (omega (arith, long, space))
+
+  pub in-room : 12 * length ts + length (bodies ts) ≤ room
+      → hasRoom (valueStream types members t n image) (length out) ≡ true
+  in-room l =
+      le-leb (length (valueStream types members t n image)) (min (length out) mostBytes) (omega (arith, long, space))
+
+  -- the count of the entries, then entries and texts
+  pub read-all : {entries text : ℕ} {mid new : List ℕ} {p : Place} → entries ≡ length ts → text ≡ length (bodies ts)
+      → 12 * length ts + length (bodies ts) ≤ room → mid ≡ sets out 0 (bytesOf 4 entries)
+      → Wrote mid (4 + 12 * entries) 4 0 ts new p
+      → Written types members t n image out (Length (4 + 12 * entries + text)) new
+  read-all {entries} {text} {mid} e f l m w =
+      all-room types members t n image out (in-room l) (omega (arith, long, e, f))
+      (w .bytes ∙ ap (λ (o : List ℕ). laid o (4 + 12 * entries) 4 0 ts) m
+      ∙ ap (λ (k : ℕ). laid (sets out 0 (bytesOf 4 k)) (4 + 12 * k) 4 0 ts) e
+      ∙ stream-laid out ts ∙ ap (sets out 0) (sym same))
+
+-- an empty buffer has no room for any stream
+pub no-start : (types members : List ℕ) (t : Ty) (n : ℕ) (image out : List ℕ) → min (length out) 2147483648 < 4
+    → hasRoom (valueStream types members t n image) (length out) ≡ false
+unfolding streamOf
+no-start types members t n image out l =
+    let ts = read (items (treeOfValue (knownIn types members) t n) 0) (flat image) in
+    lt-leb (length (valueStream types members t n image)) (min (length out) mostBytes)
+    (omega (arith, l, stream-long ts))
+
+-- ---- what a caller may count on: no stream is longer than its buffer, or than 2^31 bytes
+
+given : (p q r : Bool) (k m : ℕ)
+    → Length k ≡ cond p (cond q (cond r (Length m) (Refused NoRoom)) (Refused ImageLength)) (Refused NoSuchType)
+    → (k ≡ m) × (r ≡ true)
+given true true true k m e = (cc, refl)
+given true true false k m e = (cc, cc)
+given true false r k m e = (cc, cc)
+given false q r k m e = (cc, cc)
+
+pub read-short : {types members : List ℕ} {t : Ty} {n k : ℕ} {image out new : List ℕ}
+    → Answered types members t n image out (Length k) new → k ≤ min (length out) mostBytes
+unfolding readAnswer streamAnswer
+read-short {types} {members} {t} {n} {k} {image} {out} w =
+    let stream = valueStream types members t n image in
+    let g = given (isThere types t) (imageFits types t n image) (hasRoom stream (length out)) k (length stream)
+    (w .answer) in
+    omega (arith, g .0, leb-true (length stream) (min (length out) mostBytes) (g .1))

@@ -1,0 +1,161 @@
+-- A run of numbers (document 01, "Reading"): what a loop keeps that puts an entry for each of n elements, and what its
+-- end gives. One invariant for every width, and for BOOLs.
+use Prim.Native.Nat.{ℕ, zero, suc, _+_, _*_, _^_, _≤_, _<_}
+use native.Mathlib.Numerals.{add-one}
+use native.Mathlib.Omega.{arith}
+use mathlib.Core.Path.{_≡_, refl, sym, ap, _∙_}
+use mathlib.Core.Bool.{Bool, false, true≢false}
+use mathlib.Core.List.{List, [], _∷_, _++_}
+use lib.Dec.{eqb}
+use lib.ListN.{length, getD, length-append}
+use lib.Seq.{sets}
+use Rattle.words.specs.Bits.{Bits, flat, val}
+use Rattle.words.specs.Words.{part, wordAt, Bytes}
+use Rattle.types.specs.Atomic.{numOf, sizeOf}
+use Rattle.types.specs.declared.atomic.Atomic.{Atomic}
+use Rattle.types.specs.declared.atomic.Atomic.the-variants as atomic
+use Rattle.values.specs.Laying.{Put}
+use Rattle.values.specs.Leaf.{emit, isTrue, leafOf, signed}
+use Rattle.values.specs.Numbers.{extended, formOf, Run}
+use Rattle.values.specs.Stream.{Token, bool, number, kindOf, payloadOf, bodyOf, entryBytes, bodies}
+use Rattle.values.specs.Walk.{elementOut, upTo}
+use Rattle.values.specs.declared.numbers.Form.{Form}
+use Rattle.values.proofs.EntryLaws.{bodies-one, plain-append, Textless, textless-bool, textless-number}
+use Rattle.values.proofs.EntryLaws.{textless-up}
+use Rattle.values.proofs.NumberLaws.{number-form, truth-form, fill-fits}
+use Rattle.values.proofs.PutLaws.{put-length, put-none, put-next}
+use Rattle.values.proofs.WalkLaws.{up-ext}
+
+-- one entry for each of the first i elements
+abbrev pub ones : (ℕ → Token) → ℕ → List Token
+ones g i = upTo (λ k. g k ∷ []) i
+
+pub length-ones : (g : ℕ → Token) (i : ℕ) → length (ones g i) ≡ i
+unfolding upTo
+length-ones g zero = refl
+length-ones g (suc i) = length-append (ones g i) (g i ∷ []) ∙ rw (length-ones g i) (add-one i)
+
+ones-more : (g : ℕ → Token) (i : ℕ) → ones g (i + 1) ≡ ones g i ++ g i ∷ []
+unfolding upTo
+ones-more g i = rw add-one
+
+-- so far: the entries of the first i of n elements are put, from a place on
+pub record Running (g : ℕ → Token) (n : ℕ) (first : List ℕ) (at : ℕ) (out : List ℕ) (p i : ℕ) : Type 0 where
+  pub inside : i ≤ n
+  pub room : at + 12 * n ≤ length first
+  pub plain : bodies (ones g i) ≡ []
+  pub put : Put first at (ones g i) out p
+
+pub run-start : {g : ℕ → Token} {n at : ℕ} {first : List ℕ} → at + 12 * n ≤ length first
+    → Running g n first at first at 0
+unfolding upTo
+run-start {at = at} {first = first} h =
+    record { inside = omega arith; room = h; plain = unfold bodies in refl; put = put-none first at }
+
+module _ {g : ℕ → Token} {n at p i : ℕ} {first out : List ℕ} (w : Running g n first at out p i) where
+  -- the next entry has room
+  pub run-room : i < n → p + 12 ≤ length out
+  run-room h =
+      let a = w .put .next in
+      let b = w .room in
+      omega (arith, length-ones g i, put-length (w .put))
+
+  -- it is put
+  pub run-on : {new : List ℕ} {kind payload : ℕ} → i < n → bodyOf (g i) ≡ [] → kindOf (g i) ≡ kind
+      → payloadOf 0 (g i) ≡ payload → new ≡ sets out p (entryBytes kind payload)
+      → Running g n first at new (p + 12) (i + 1)
+  run-on {new} h b k x e =
+      record {
+        inside = omega arith;
+        room = w .room;
+        plain = rw (ones-more g i) (plain-append (ones g i) (g i ∷ []) (w .plain) (bodies-one (g i) ∙ b));
+        put = rw (ones-more g i) (put-next (g i) (w .plain) (w .put) k x e);
+      }
+
+  -- all are put
+  pub run-done : (h : ℕ → List Token) → n ≤ i → ((k : ℕ) → k < n → h k ≡ g k ∷ []) → Put first at (upTo h n) out p
+  run-done h l e =
+      let m : i ≡ n = let a = w .inside in omega arith in
+      rw (up-ext h (λ k. g k ∷ []) n e, ← m) (w .put)
+
+  pub run-length : length out ≡ length first
+  run-length = put-length (w .put)
+
+-- ---- numbers of w bytes
+
+-- number k
+abbrev pub formed : Form → ℕ → List ℕ → ℕ → Token
+formed f w s k = number (f .kind) (extended f (wordAt w s (w * k)))
+
+pub numbers-on : (f : Form) (w : ℕ) (s : List ℕ) {n at p i x y : ℕ} {first out new : List ℕ}
+    → Running (formed f w s) n first at out p i → i < n → x ≡ wordAt w s (w * i) → y ≡ extended f x
+    → new ≡ sets out p (entryBytes (f .kind) y) → Running (formed f w s) n first at new (p + 12) (i + 1)
+numbers-on f w s r h a b e = run-on r h refl refl (sym (b ∙ ap (extended f) a)) e
+
+module _ {a : Atomic} {f : Form} {w n : ℕ} {s : List ℕ} (e : f ≡ formOf a) (r : Run a w n s) (b : Bytes s) where
+  -- what stands above a number fits beside it
+  pub number-fits : (at : ℕ) {x : ℕ} → x ≡ wordAt w s at → x + f .fill < 2 ^ 64
+  number-fits at h = rw (h, e, ← r .size) (fill-fits a s at b)
+
+  pub numbers-done : {at p i : ℕ} {first out : List ℕ} → Running (formed f w s) n first at out p i → n ≤ i
+      → Put first at (upTo (elementOut a s) n) out p
+  numbers-done v l =
+      run-done v (elementOut a s) l
+      (λ k m. ap (λ (t : Token). t ∷ []) (number-form a s (sizeOf a * k) b (r .number)) ∙ rw (e, r .size))
+
+-- ---- BOOLs, a byte each
+
+abbrev pub truths : List ℕ → ℕ → Token
+truths s k = bool (isTrue (getD s k 0))
+
+pub truths-done : (s : List ℕ) {n at p i : ℕ} {first out : List ℕ} → Bytes s → Running (truths s) n first at out p i
+    → n ≤ i → Put first at (upTo (elementOut atomic.Bool s) n) out p
+unfolding sizeOf
+truths-done s b v l =
+    run-done v (elementOut atomic.Bool s) l
+    (λ k m.
+    let e : 1 * k ≡ k = omega arith in
+    ap (λ (t : Token). t ∷ []) (truth-form s (1 * k) b) ∙ rw e)
+
+-- ---- an atomic that is told
+
+-- no BOOL, of so many bytes; what else is asked is left
+pub run-given : {a b : Atomic} {n w : ℕ} {s : List ℕ} {P : Type 0} → a ≡ b → eqb (numOf b) 0 ≡ false → sizeOf b ≡ w
+    → (sizeOf a * n ≤ length s) × P → Run a w n s × P
+run-given {a} {b} {n} {w} {s} e f g h =
+    let run : Run a w n s = record {
+      number = λ z. true≢false (ap (λ (x : Atomic). eqb (numOf x) 0) (sym z ∙ e) ∙ f);
+      size = ap sizeOf e ∙ g;
+      long = rw (← g, ← e) (h .0);
+    } in
+    (run, h .1)
+
+pub truths-given : {a : Atomic} (n : ℕ) (s : List ℕ) → a ≡ atomic.Bool → sizeOf a * n ≤ length s → n ≤ length s
+unfolding sizeOf
+truths-given n s e h = let l : 1 * n ≤ length s = rw e at h in omega arith
+
+pub truths-put : {a : Atomic} (n : ℕ) (s : List ℕ) {at r : ℕ} {out new : List ℕ} → a ≡ atomic.Bool
+    → Put out at (upTo (elementOut atomic.Bool s) n) new r → Put out at (upTo (elementOut a s) n) new r
+truths-put n s e w = rw e w
+
+-- ---- none of them is a text
+
+pub textless-leaf : (a : Atomic) (b : Bits) → Textless (emit (leafOf a) b ∷ [])
+textless-leaf atomic.Bool b = textless-bool (isTrue (val 8 b))
+textless-leaf atomic.SInt b = textless-number 2 (signed 8 (val 8 b))
+textless-leaf atomic.Int b = textless-number 2 (signed 16 (val 16 b))
+textless-leaf atomic.DInt b = textless-number 2 (signed 32 (val 32 b))
+textless-leaf atomic.LInt b = textless-number 2 (signed 64 (val 64 b))
+textless-leaf atomic.USInt b = textless-number 3 (val 8 b)
+textless-leaf atomic.UInt b = textless-number 3 (val 16 b)
+textless-leaf atomic.UDInt b = textless-number 3 (val 32 b)
+textless-leaf atomic.ULInt b = textless-number 3 (val 64 b)
+textless-leaf atomic.Real b = textless-number 4 (val 32 b)
+textless-leaf atomic.LReal b = textless-number 5 (val 64 b)
+textless-leaf atomic.Byte b = textless-number 3 (val 8 b)
+textless-leaf atomic.Word b = textless-number 3 (val 16 b)
+textless-leaf atomic.DWord b = textless-number 3 (val 32 b)
+textless-leaf atomic.LWord b = textless-number 3 (val 64 b)
+
+pub textless-run : (a : Atomic) (s : List ℕ) (n : ℕ) → Textless (upTo (elementOut a s) n)
+textless-run a s n = textless-up (elementOut a s) n (λ k. textless-leaf a (flat (part s (sizeOf a * k) (sizeOf a))))

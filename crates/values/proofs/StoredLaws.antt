@@ -1,0 +1,132 @@
+-- The stored text of a string (document 01, "Reading", "Refusal numbers"): the number for each way out, and that the
+-- text of an image that is not refused lies in it.
+use Prim.Native.Nat.{ℕ, _+_, _-_, _<_, _≤_}
+use native.Mathlib.Omega.{arith}
+use mathlib.Core.Path.{_≡_, refl, sym, ap, ap₂, _∙_}
+use mathlib.Core.Bool.{Bool, true, false, cond}
+use mathlib.Core.List.{List, []}
+use borrow.Author.Tests.{eq-eqb, ne-eqb, eqb-true}
+use lib.Dec.{eqb}
+use lib.ListN.{length, take, drop}
+use Rattle.words.specs.Words.{part}
+use Rattle.types.specs.Shape.{isThere}
+use Rattle.types.specs.Tables.{typeAt}
+use Rattle.types.specs.Waste.{sizesIn}
+use Rattle.types.specs.declared.atomic.Atomic.{Atomic}
+use Rattle.types.specs.declared.member.StructDef.{StructDef}
+use Rattle.types.specs.declared.member.Ty.{Ty}
+use Rattle.types.specs.declared.member.Ty.the-variants as ty
+use Rattle.types.proofs.ShapeLaws.{there-fits}
+use Rattle.values.specs.Trees.{isString}
+use Rattle.values.specs.Walk.{capacityAt, textLength}
+use Rattle.values.specs.Walkable.{IsString, Walkable}
+use Rattle.values.specs.Texts.{stringNumber, textNumber, capacityOf, textPart, Stored, Held}
+
+-- ---- the numbers
+
+-- by the answers: a string, and of that size
+abbrev stringBy : Bool → Bool → ℕ
+stringBy b c = cond b (cond c 0 14) 15
+
+module _ (types : List ℕ) (i long : ℕ) {d : StructDef} (e : d ≡ typeAt types i) where
+  string-by : {b c : Bool} → isString (d .kind) ≡ b → eqb long (d .size) ≡ c → stringBy b c ≡ stringNumber types i long
+  unfolding stringNumber
+  string-by p q =
+      sym (ap₂ stringBy p q) ∙ ap (λ (f : StructDef). stringBy (isString (f .kind)) (eqb long (f .size))) e
+
+  pub string-fits : isString (d .kind) ≡ true → long ≡ d .size → 0 ≡ stringNumber types i long
+  string-fits p l = string-by p (eq-eqb long (d .size) l)
+
+  pub string-misfits : isString (d .kind) ≡ true → (long ≡ d .size → ⊥) → 14 ≡ stringNumber types i long
+  string-misfits p l = string-by p (ne-eqb long (d .size) l)
+
+  pub no-string : isString (d .kind) ≡ false → 15 ≡ stringNumber types i long
+  no-string p = string-by p refl
+
+module _ (types : List ℕ) (t : Ty) (image : List ℕ) where
+  pub number-none : isThere types t ≡ false → 15 ≡ textNumber types t image
+  unfolding textNumber
+  number-none h = rw h
+
+  pub number-atomic : {a : Atomic} → isThere types t ≡ true → t ≡ ty.Atomic a → 15 ≡ textNumber types t image
+  unfolding textNumber
+  number-atomic h e = rw (h, e)
+
+  pub number-struct : {i : ℕ} → isThere types t ≡ true → t ≡ ty.Struct i
+      → stringNumber types i (length image) ≡ textNumber types t image
+  unfolding textNumber
+  number-struct h e = rw (h, e)
+
+pub there-low : (types : List ℕ) (t : Ty) {i : ℕ} → isThere types t ≡ true → t ≡ ty.Struct i → i < 200
+there-low types t h e = rw e at (there-fits types t h)
+
+-- ---- an image that is not refused
+
+-- what no refusal says of a structure and an image
+record Accepted (types : List ℕ) (i : ℕ) (image : List ℕ) : Type 0 where
+  pub low : i < 200
+  pub string : isString (typeAt types i .kind) ≡ true
+  pub long : length image ≡ sizesIn types i
+
+record Passed (a b c : Bool) : Type 0 where
+  pub there : a ≡ true
+  pub string : b ≡ true
+  pub long : c ≡ true
+
+passed : (a b c : Bool) → cond a (stringBy b c) 15 ≡ 0 → Passed a b c
+passed true true true e = record { there = refl; string = refl; long = refl }
+passed true true false e = absurd (let z : ⊥ = omega arith in z)
+passed true false c e = absurd (let z : ⊥ = omega arith in z)
+passed false b c e = absurd (let z : ⊥ = omega arith in z)
+
+accepted : (types : List ℕ) (i : ℕ) (image : List ℕ) → textNumber types (ty.Struct i) image ≡ 0 → Accepted types i image
+unfolding textNumber stringNumber
+accepted types i image e =
+    let long : Bool = eqb (length image) (sizesIn types i) in
+    let p = passed (isThere types (ty.Struct i)) (isString (typeAt types i .kind)) long e in
+    record {
+      low = there-fits types (ty.Struct i) (p .there);
+      string = p .string;
+      long = eqb-true (length image) (sizesIn types i) (p .long);
+    }
+
+-- its rows are in the table, and its capacity in the image
+pub record Readable (types members : List ℕ) (i : ℕ) (image : List ℕ) : Type 0 where
+  pub low : i < 200
+  pub rows : typeAt types i .first < 1999
+  pub inside : 4 + capacityAt members (typeAt types i .first) ≤ length image
+
+pub readable : {types members : List ℕ} (t : Ty) {i : ℕ} (image : List ℕ) → Walkable types members → t ≡ ty.Struct i
+    → textNumber types t image ≡ 0 → Readable types members i image
+readable {types} {members} t {i} image w e n =
+    let a : Accepted types i image = accepted types i image (rw e at n) in
+    let s : IsString members (typeAt types i) = w .each i (a .low) .string (a .string) in
+    record {
+      low = a .low;
+      rows = omega (arith, w .each i (a .low) .rows, s .rows);
+      inside = omega (arith, a .long, s .size);
+    }
+
+pub held-struct : {types members : List ℕ} {t : Ty} {i : ℕ} {image : List ℕ} {n : ℕ} → t ≡ ty.Struct i
+    → Readable types members i image → n ≡ textLength (capacityAt members (typeAt types i .first)) image
+    → Held types members t image n
+held-struct {types} {members} {t} {i} {image} e r h = record { long = rw e h; inside = omega (arith, r .inside) }
+
+pub held-atomic : {types members : List ℕ} {t : Ty} {a : Atomic} {image : List ℕ} {n : ℕ} → t ≡ ty.Atomic a
+    → textNumber types t image ≡ 0 → Held types members t image n
+unfolding textNumber
+held-atomic e n = let z : _≡_ {A = ℕ} 15 0 = rw e at n in absurd (let y : ⊥ = omega arith in y)
+
+-- ---- what is handed back
+
+module _ {types members : List ℕ} {t : Ty} {image : List ℕ} {number : ℕ} (e : number ≡ textNumber types t image) where
+  pub stored-text : {n : ℕ} → number ≡ 0 → Held types members t image n
+      → Stored types members t image number (take (4 + n - 4) (drop 4 image))
+  unfolding textPart part
+  stored-text {n} z h =
+      let f : 4 + n - 4 ≡ textLength (capacityOf types members t) image = omega (arith, h .long) in
+      record { why = e; text = rw (← e, eq-eqb number 0 z, f) }
+
+  pub stored-none : (number ≡ 0 → ⊥) → Stored types members t image number []
+  unfolding textPart
+  stored-none z = record { why = e; text = rw (← e, ne-eqb number 0 z) }

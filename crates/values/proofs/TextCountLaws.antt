@@ -1,0 +1,284 @@
+-- The bytes of text of some entries (document 01, "Value stream"): those of runs and brackets, the promise of one part
+-- more within the room, and the sum that a loop has so far. Entries of atomics have no text.
+use Prim.Native.Nat.{ℕ, zero, suc, _+_, _-_, _*_, _^_, _<_, _≤_}
+use native.Mathlib.Nat.{add-zero}
+use native.Mathlib.Numerals.{add-one}
+use native.Mathlib.Omega.{arith}
+use mathlib.Core.Path.{_≡_, refl, sym, ap, ap₂, _∙_, subst}
+use mathlib.Core.Bool.{Bool, true, false, cond}
+use mathlib.Core.List.{List, [], _∷_, _++_, append-assoc, append-nil}
+use lib.Dec.{eqb}
+use lib.ListN.{length, length-append}
+use Rattle.words.specs.Bits.{Bits, flat}
+use Rattle.words.specs.Words.{part}
+use Rattle.words.proofs.Lists.{length-part}
+use Rattle.types.specs.Atomic.{bitString, sizeOf}
+use Rattle.types.specs.Layout.{times}
+use Rattle.types.specs.Tables.{memberAt, typeAt}
+use Rattle.types.specs.declared.atomic.Atomic.{Atomic}
+use Rattle.types.specs.declared.atomic.Atomic.the-variants as atomic
+use Rattle.types.specs.declared.member.Bit.{Bit}
+use Rattle.types.specs.declared.member.Bit.the-variants.{None, At}
+use Rattle.types.specs.declared.member.Member.{Member}
+use Rattle.types.specs.declared.member.Ty.{Ty}
+use Rattle.types.specs.declared.member.Ty.the-variants as ty
+use Rattle.values.specs.Counting.{Texts}
+use Rattle.values.specs.Leaf.{emit, leafOf}
+use Rattle.values.specs.Stream.{Token, member, mark, bodyOf, bodies}
+use Rattle.values.specs.Trees.{isString}
+use Rattle.values.specs.Walk.{upTo, wrap, bitToken, bitsOut, numberOut, elementOut, numbersOut, atomicsOut}
+use Rattle.values.specs.Walk.{textLength, textOut, capacityAt, isNested, bitOut, leafValue, leafOut}
+use Rattle.values.specs.Walk.{memberBy, rowBy, membersBy, structBy, structOut}
+use Rattle.values.specs.Walkable.{IsString, Walkable, ImageOf}
+use Rattle.values.proofs.MemberLaws.{member-leaf}
+use Rattle.values.proofs.WalkLaws.{struct-out}
+
+-- ---- the texts of runs and brackets
+
+pub bodies-append : (x y : List Token) → bodies (x ++ y) ≡ bodies x ++ bodies y
+unfolding bodies
+bodies-append [] y = refl
+bodies-append (t ∷ x) y = ap (bodyOf t ++_) (bodies-append x y) ∙ sym (append-assoc (bodyOf t) (bodies x) (bodies y))
+
+pub bodies-wrap : (start stop : ℕ) (ts : List Token) → bodies (wrap start stop ts) ≡ bodies ts
+unfolding bodies
+bodies-wrap start stop ts = bodies-append ts (mark stop ∷ []) ∙ append-nil (bodies ts)
+
+pub bodies-up : (g : ℕ → List Token) → ((k : ℕ) → bodies (g k) ≡ []) → (n : ℕ) → bodies (upTo g n) ≡ []
+unfolding upTo bodies
+bodies-up g e zero = refl
+bodies-up g e (suc n) = bodies-append (upTo g n) (g n) ∙ ap₂ _++_ (bodies-up g e n) (e n)
+
+-- ---- entries without text
+
+number-plain : (a : Atomic) (b : Bits) → bodyOf (emit (leafOf a) b) ≡ []
+number-plain atomic.Bool b = refl
+number-plain atomic.SInt b = refl
+number-plain atomic.Int b = refl
+number-plain atomic.DInt b = refl
+number-plain atomic.LInt b = refl
+number-plain atomic.USInt b = refl
+number-plain atomic.UInt b = refl
+number-plain atomic.UDInt b = refl
+number-plain atomic.ULInt b = refl
+number-plain atomic.Real b = refl
+number-plain atomic.LReal b = refl
+number-plain atomic.Byte b = refl
+number-plain atomic.Word b = refl
+number-plain atomic.DWord b = refl
+number-plain atomic.LWord b = refl
+
+one-plain : (a : Atomic) (image : List ℕ) → bodies (numberOut a image) ≡ []
+unfolding bodies
+one-plain a image = ap (_++ []) (number-plain a (flat image))
+
+bits-plain : (image : List ℕ) (n : ℕ) → bodies (bitsOut image n) ≡ []
+unfolding bitsOut
+bits-plain image n =
+    bodies-wrap 10 11 (upTo (bitToken image) n) ∙ bodies-up (bitToken image) (λ k. unfold bodies in refl) n
+
+numbers-plain : (a : Atomic) (n : ℕ) (image : List ℕ) → bodies (numbersOut a n image) ≡ []
+unfolding numbersOut
+numbers-plain a n image =
+    bodies-wrap 10 11 (upTo (elementOut a image) n)
+    ∙ bodies-up (elementOut a image) (λ k. one-plain a (part image (sizeOf a * k) (sizeOf a))) n
+
+either-plain : (b : Bool) (x y : List Token) → bodies x ≡ [] → bodies y ≡ [] → bodies (cond b x y) ≡ []
+either-plain true x y p q = p
+either-plain false x y p q = q
+
+pub atomics-plain : (a : Atomic) (n : ℕ) (image : List ℕ) → bodies (atomicsOut a n image) ≡ []
+unfolding atomicsOut
+atomics-plain a n image =
+    either-plain (bitString a) _ _ (bits-plain image (8 * (sizeOf a * times n)))
+    (either-plain (eqb n 0) _ _ (one-plain a image) (numbers-plain a n image))
+
+value-plain : (t : Ty) (n : ℕ) (bytes : ℕ → List ℕ) → bodies (leafValue t n bytes) ≡ []
+value-plain (ty.Atomic a) n bytes = atomics-plain a n (bytes (sizeOf a * times n))
+value-plain (ty.Struct i) n bytes = unfold bodies in refl
+
+bit-plain : (b : Bit) (f : ℕ → List Token) (ts : List Token) → ((k : ℕ) → bodies (f k) ≡ []) → bodies ts ≡ []
+    → bodies (bitOut b f ts) ≡ []
+bit-plain None f ts p q = q
+bit-plain (At k) f ts p q = p k
+
+-- a member that is no structure
+pub leaf-plain : (j : ℕ) (m : Member) (image : List ℕ) → bodies (leafOut j m image) ≡ []
+unfolding leafOut bodies
+leaf-plain j m image =
+    either-plain (m .hidden) [] _ refl
+    (bit-plain (m .bit) _ _ (λ k. refl) (value-plain (m .ty) (m .count) (part image (m .offset))))
+
+-- ---- the promise
+
+pub texts-as : {room r : ℕ} {x y : List Token} → x ≡ y → Texts room x r → Texts room y r
+texts-as {room} {r} e w = subst (λ (ts : List Token). Texts room ts r) e w
+
+-- the texts alone count
+texts-same : {room r : ℕ} {x y : List Token} → bodies x ≡ bodies y → Texts room x r → Texts room y r
+texts-same e w =
+    let l = ap length e in
+    record {
+      exact = λ h. omega (arith, w .exact h);
+      over = λ h. omega (arith, w .over h);
+      small = w .small;
+    }
+
+pub texts-wrap : {room r : ℕ} {ts : List Token} (start stop : ℕ) → Texts room ts r → Texts room (wrap start stop ts) r
+texts-wrap {ts = ts} start stop w = texts-same (sym (bodies-wrap start stop ts)) w
+
+pub texts-member : {room r : ℕ} {ts : List Token} (j : ℕ) → Texts room ts r → Texts room (member j ∷ ts) r
+unfolding bodies
+texts-member {ts = ts} j w = texts-same {x = ts} {y = member j ∷ ts} refl w
+
+pub texts-none : (room : ℕ) → Texts room [] 0
+unfolding bodies
+texts-none room = record { exact = λ h. refl; over = λ h. absurd (let z : ⊥ = omega arith in z); small = omega arith }
+
+-- one part more, in the room that is left
+pub texts-then : {room t r : ℕ} {x y : List Token} → t ≤ room → Texts room x t → Texts (room - t) y r
+    → Texts room (x ++ y) (t + r)
+texts-then {room} {t} {r} {x} {y} l v w =
+    let s = ap length (bodies-append x y) ∙ length-append (bodies x) (bodies y) in
+    let e = v .exact l in
+    record {
+      exact = λ h. omega (arith, w .exact (omega arith));
+      over = λ h. omega (arith, w .over (omega arith));
+      small = omega (arith, w .small);
+    }
+
+-- a part without text
+texts-plain : {room t : ℕ} {x : List Token} (y : List Token) → bodies y ≡ [] → Texts room x t → Texts room (x ++ y) t
+texts-plain {x = x} y e w =
+    texts-same (sym (bodies-append x y ∙ ap (bodies x ++_) e ∙ append-nil (bodies x))) w
+
+-- what comes after the room is passed
+texts-past : {room t : ℕ} {x : List Token} (y : List Token) → room < t → Texts room x t → Texts room (x ++ y) t
+texts-past {x = x} y l w =
+    let s = ap length (bodies-append x y) ∙ length-append (bodies x) (bodies y) in
+    record {
+      exact = λ h. absurd (let z : ⊥ = omega arith in z);
+      over = λ h. omega (arith, w .over h);
+      small = w .small;
+    }
+
+-- one string, whose capacity is a u32
+pub texts-string : (capacity : ℕ) (image : List ℕ) (room : ℕ) → 4 + capacity ≤ length image → capacity < 2 ^ 32
+    → Texts room (textOut capacity image) (textLength capacity image)
+unfolding bodies
+texts-string capacity image room h l =
+    let n = textLength capacity image in
+    let e = ap length (append-nil (part image 4 n)) ∙ length-part image 4 n (omega arith) in
+    record { exact = λ k. e; over = λ k. omega arith; small = omega arith }
+
+-- ---- what a loop has so far
+
+-- of n parts the first k are summed
+pub record Summed (room : ℕ) (g : ℕ → List Token) (n k t : ℕ) : Type 0 where
+  pub texts : Texts room (upTo g k) t
+  pub most : k ≤ n
+
+pub sum-start : {room n : ℕ} {g : ℕ → List Token} → Summed room g n 0 0
+unfolding upTo
+sum-start {room} = record { texts = texts-none room; most = omega arith }
+
+up-more : (g : ℕ → List Token) (k : ℕ) → upTo g k ++ g k ≡ upTo g (k + 1)
+unfolding upTo
+up-more g k = rw add-one
+
+module _ {room n k t : ℕ} {g : ℕ → List Token} (w : Summed room g n k t) (l : k < n) where
+  pub sum-on : {r : ℕ} → t ≤ room → Texts (room - t) (g k) r → Summed room g n (k + 1) (t + r)
+  sum-on h v = record { texts = texts-as (up-more g k) (texts-then h (w .texts) v); most = omega arith }
+
+  pub sum-plain : bodies (g k) ≡ [] → Summed room g n (k + 1) t
+  sum-plain e = record { texts = texts-as (up-more g k) (texts-plain (g k) e (w .texts)); most = omega arith }
+
+past-up : {room t : ℕ} (g : ℕ → List Token) (k d : ℕ) → room < t → Texts room (upTo g k) t
+    → Texts room (upTo g (k + d)) t
+unfolding upTo
+past-up g k zero l w = rw add-zero w
+past-up g k (suc d) l w =
+    let e : k + suc d ≡ suc (k + d) = omega arith in
+    rw e (texts-past (g (k + d)) l (past-up g k d l w))
+
+module _ {room n k t : ℕ} {g : ℕ → List Token} (start stop : ℕ) (w : Summed room g n k t) where
+  -- the room is passed before the end
+  pub sum-past : room < t → Texts room (wrap start stop (upTo g n)) t
+  sum-past l =
+      let e : k + (n - k) ≡ n = omega (arith, w .most) in
+      texts-wrap start stop (texts-as (ap (upTo g) e) (past-up g k (n - k) l (w .texts)))
+
+  -- all are summed
+  pub sum-done : n ≤ k → Texts room (wrap start stop (upTo g n)) t
+  sum-done h =
+      let e : k ≡ n = omega (arith, w .most) in
+      texts-wrap start stop (texts-as (ap (upTo g) e) (w .texts))
+
+-- ---- a structure
+
+-- the first j rows of structure i are summed
+pub record Rows (types members : List ℕ) (i room : ℕ) (image : List ℕ) (j t : ℕ) : Type 0 where
+  pub sum : Summed room (rowBy types members (structOut types members) (typeAt types i .first) image)
+      (typeAt types i .count) j t
+
+pub rows-start : {types members : List ℕ} {i room : ℕ} {image : List ℕ} → Rows types members i room image 0 0
+rows-start = record { sum = sum-start }
+
+module _ {types members : List ℕ} {i room j t : ℕ} {image : List ℕ} (w : Rows types members i room image j t) where
+  -- the room is passed before the last row
+  pub rows-past : room < t → Texts room (membersBy types members (structOut types members) i image) t
+  unfolding membersBy
+  rows-past l = sum-past 8 9 (w .sum) l
+
+  module _ {n : ℕ} (q : n ≡ typeAt types i .count) where
+    pub rows-done : n ≤ j → Texts room (membersBy types members (structOut types members) i image) t
+    unfolding membersBy
+    rows-done l = sum-done 8 9 (w .sum) (omega arith)
+
+    -- row j, where the code's first row is the table's: a structure, or no text
+    module _ {first : ℕ} (e : first ≡ typeAt types i .first) (l : j < n) where
+      pub rows-on : {r : ℕ} → t ≤ room
+          → Texts (room - t)
+          (memberBy types members (structOut types members) j (memberAt members (first + j)) image) r
+          → Rows types members i room image (j + 1) (t + r)
+      rows-on h v =
+          let rec = structOut types members in
+          let same = ap (λ (z : ℕ). memberBy types members rec j (memberAt members (z + j)) image) e in
+          record { sum = sum-on (w .sum) (omega arith) h (texts-as same v) }
+
+      pub rows-plain : isNested (memberAt members (first + j)) ≡ false → Rows types members i room image (j + 1) t
+      rows-plain h =
+          let m = memberAt members (typeAt types i .first + j) in
+          let leaf = member-leaf types members (structOut types members) j m image (rw e at h) in
+          record { sum = sum-plain (w .sum) (omega arith) (ap bodies leaf ∙ leaf-plain j m image) }
+
+pub members-texts : {types members : List ℕ} {i room r : ℕ} {image : List ℕ} → Walkable types members
+    → ImageOf types i image → isString (typeAt types i .kind) ≡ false
+    → Texts room (membersBy types members (structOut types members) i image) r
+    → Texts room (structOut types members i image) r
+unfolding structBy
+members-texts {types} {members} {i} {image = image} w v e h = rw (struct-out types members w i image (v .low), e) h
+
+-- a string, whose members begin at a row
+pub record StringAt (types members : List ℕ) (i : ℕ) (image : List ℕ) (first : ℕ) : Type 0 where
+  pub tables : Walkable types members
+  pub whole : ImageOf types i image
+  pub kind : isString (typeAt types i .kind) ≡ true
+  pub at : first ≡ typeAt types i .first
+
+module _ {types members : List ℕ} {i first : ℕ} {image : List ℕ} (w : StringAt types members i image first) where
+  is-string : IsString members (typeAt types i)
+  is-string = w .tables .each i (w .whole .low) .string (w .kind)
+
+  pub string-row : first < 1999
+  string-row = omega (arith, w .at, is-string .rows, w .tables .each i (w .whole .low) .rows)
+
+  pub string-fits : 4 + capacityAt members first ≤ length image
+  string-fits = rw (w .at) (omega (arith, is-string .size, w .whole .long))
+
+  pub string-texts : {capacity : ℕ} (room : ℕ) → capacity ≡ capacityAt members first → capacity < 2 ^ 32
+      → Texts room (structOut types members i image) (textLength capacity image)
+  unfolding structBy
+  string-texts {capacity} room e l =
+      let z = texts-string capacity image room (omega (arith, e, string-fits)) l in
+      rw (struct-out types members (w .tables) i image (w .whole .low), w .kind, ← w .at, ← e) z

@@ -1,0 +1,33 @@
+-- `values::put_entry` meets its contract: the word of the kind, and the word of the payload after it, are the entry.
+use borrow.Author.Needs.{needs}
+use Rattle.values.proofs.EntryLaws.{entry-stored}
+use Rattle.values.proofs.entry.put_entry.Statement.{statement}
+use Rattle.values.proofs.entry.put_entry.Tie as tie
+
+wide8-requires : tie.Need-wide8-requires
+wide8-requires c κs = search needs
+
+store32-requires : tie.Need-store32-requires
+store32-requires c κs = search needs
+
+add-store64 : tie.Need-add-store64
+add-store64 c = search needs
+
+store64-requires : tie.Need-store64-requires
+store64-requires c κs = search needs
+
+same-length : tie.Need-same-length
+same-length c = search needs
+
+returns : tie.Need-returns
+returns c =
+    let payload = c .before .before in
+    let kind = payload .before .before .before .before in
+    let start = kind .before .before .before .before in
+    let a = start .args in
+    rw (payload .store64 .ensures, kind .store32 .ensures, kind .before .wide8 .ensures)
+    (entry-stored (a .out .now) (a .at) (a .kind) (a .payload) (start .fits .kind .fits))
+
+pub put-entry-spec : {M : Type 1} → statement M
+put-entry-spec =
+    tie.close (tie.spec wide8-requires store32-requires add-store64 store64-requires same-length returns)

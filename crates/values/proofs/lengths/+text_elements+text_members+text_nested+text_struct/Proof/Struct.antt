@@ -1,0 +1,98 @@
+-- `values::text_struct` meets its contract (document 01, "Value stream"): a string has min(LEN, capacity) bytes of
+-- text, any other structure those of its members.
+use Prim.Native.Nat.{ℕ}
+use native.Mathlib.Omega.{arith}
+use borrow.Author.Needs.{needs}
+use borrow.Fn.Kinds.{In, Out}
+use mathlib.Core.Path.{_≡_, sym, ap, _∙_}
+use Rattle.types.specs.Tables.{typeAt}
+use Rattle.types.specs.declared.member.StructDef.{StructDef}
+use Rattle.values.specs.Trees.{isString}
+use Rattle.values.proofs.TextCountLaws.{members-texts, StringAt, string-row, string-fits, string-texts}
+use Rattle.values.proofs.lengths.text_struct.Reads as reads
+use Rattle.values.proofs.lengths.text_struct.Kinds as kinds
+use Rattle.values.proofs.lengths.+text_elements+text_members+text_nested+text_struct.Lts-text_struct as lts
+use Rattle.values.proofs.rows.capacity_at.Reads as capacity-at-reads
+use Rattle.values.proofs.rows.is_string.Reads as is-string-reads
+use Rattle.values.proofs.texts.text_length.Reads as text-length-reads
+use Rattle.types.proofs.type_at.Reads as type-at-reads
+use Rattle.words.proofs.wide.Reads as wide-reads
+use Rattle.values.proofs.lengths.text_members.Reads as members-reads
+use Rattle.values.proofs.lengths.+text_elements+text_members+text_nested+text_struct.Proof.Measures as measures
+
+abbrev claims : ℕ → lts.Claims
+claims t = (
+  type-at-reads.Asked,
+  type-at-reads.Learnt,
+  is-string-reads.Asked,
+  is-string-reads.Learnt,
+  wide-reads.Asked,
+  wide-reads.Learnt,
+  capacity-at-reads.Asked,
+  capacity-at-reads.Learnt,
+  text-length-reads.Asked,
+  text-length-reads.Learnt,
+  measures.members-below t,
+  members-reads.Post,
+)
+
+module _ (t : ℕ) where
+  abbrev so : (lts.Claims → In 3 kinds.ps → Out 3 kinds.ps kinds.r → Type 0) → Type 0
+  so need = need (claims t) (measures.struct-at t) reads.Post
+
+  abbrev start : so lts.After-is-string → so lts.Start
+  start c = c .before .before .before
+
+  type-at-requires : so lts.Need-type-at-requires
+  type-at-requires c κs = c .before .pre .1 .1 .0 .low
+
+  is-string-requires : so lts.Need-is-string-requires
+  is-string-requires c κs = search needs
+
+  wide-requires : so lts.Need-wide-requires
+  wide-requires c κs = search needs
+
+  -- what the test says of the table's row
+  kind : (c : so lts.After-is-string) → let a = start c .args in
+      isString (typeAt (a .types .now) (a .i) .kind) ≡ c .is-string .result
+  kind c = ap (λ (d : StructDef). isString (d .kind)) (sym (c .before .type-at .ensures)) ∙ sym (c .is-string .ensures)
+
+  string : (c : so lts.After-wide) → let a = start (c .before .before) .args in
+      StringAt (a .types .now) (a .members .now) (a .i) (a .image .now) (c .wide .result)
+  string c =
+      let tested = c .before .before in
+      record {
+        tables = start tested .pre .1 .0;
+        whole = start tested .pre .1 .1 .0;
+        kind = kind tested ∙ c .before .if1 .taken;
+        at = c .wide .ensures ∙ ap (λ (d : StructDef). d .first) (tested .before .type-at .ensures);
+      }
+
+  capacity-at-requires : so lts.Need-capacity-at-requires
+  capacity-at-requires c κs = string-row (string c)
+
+  text-length-requires : so lts.Need-text-length-requires
+  text-length-requires c κs = omega (arith, string-fits (string (c .before)))
+
+  returns : so lts.Need-returns
+  returns c =
+      let read = c .before in
+      rw (c .text-length .ensures)
+      (string-texts (string (read .before)) (start (read .before .before .before) .args .room)
+      (read .capacity-at .ensures) (omega (arith, read .capacity-at .ok)))
+
+  text-members-requires : so lts.Need-text-members-requires
+  text-members-requires c κs =
+      let pre = start (c .before) .pre in
+      (omega (arith, pre .0), pre .1)
+
+  returns-2 : so lts.Need-returns-2
+  returns-2 c =
+      let tested = c .before .before in
+      let pre = start tested .pre in
+      members-texts (pre .1 .0) (pre .1 .1 .0) (kind tested ∙ c .before .if1 .left) (c .text-members .ensures)
+
+  pub closed : {M : Type 1} → lts.Closed (claims t) (measures.struct-at t) reads.Post M
+  closed =
+      lts.spec (claims t) (measures.struct-at t) reads.Post type-at-requires is-string-requires wide-requires
+      capacity-at-requires text-length-requires returns text-members-requires returns-2

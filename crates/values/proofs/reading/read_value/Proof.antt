@@ -1,0 +1,79 @@
+-- `values::read_value` meets its contract.
+use native.Mathlib.Omega.{arith}
+use mathlib.Core.Path.{ap}
+use Rattle.types.specs.declared.member.Ty.{Ty}
+use Rattle.values.specs.Walk.{valueOut}
+use Rattle.values.proofs.PutLaws.{put-wrote}
+use Rattle.values.proofs.ReadingLaws.{images, room-as, value-atomic, wrote-as}
+use Rattle.values.proofs.LeafLaws.{textless-atomics}
+use borrow.Author.Needs.{needs}
+use Rattle.values.proofs.reading.read_value.Statement.{statement}
+use Rattle.values.proofs.reading.read_value.Tie as tie
+use Rattle.values.proofs.reading.read_value.Reads as reads
+use Rattle.values.proofs.reading.read_value.Lts as lts
+use Rattle.values.proofs.atomics.put_atomics.Reads as put-atomics-reads
+use Rattle.values.proofs.reading.read_structs.Reads as read-structs-reads
+
+enum-known-ty : tie.Need-enum-known-ty
+enum-known-ty c = search needs
+
+put-atomics-requires : tie.Need-put-atomics-requires
+put-atomics-requires c κs =
+    let at-ty = c .before .before in
+    let at-start = at-ty .before .before .before .before in
+    let a = at-start .args in
+    let is = at-ty .ty .given .1 in
+    let v = rw is at (at-start .pre .0 .1) in
+    let r = room-as (value-atomic (a .types .now) (a .members .now) (a .n) (a .image .now) (a .ty) _ is)
+    (at-start .pre .1) in
+    (v .long, omega (arith, r .entries, r .texts))
+
+same-length : tie.Need-same-length
+same-length c = search needs
+
+returns : tie.Need-returns
+returns c =
+    let at-put = c .before .before in
+    let at-ty = at-put .before .before .before in
+    let at-start = at-ty .before .before .before .before in
+    let a = at-start .args in
+    wrote-as (value-atomic (a .types .now) (a .members .now) (a .n) (a .image .now) (a .ty) _ (at-ty .ty .given .1))
+    (put-wrote (a .base) 0 (textless-atomics _ (a .n) (a .image .now)) (at-put .put-atomics .ensures))
+
+enum-known-ty-2 : tie.Need-enum-known-ty-2
+enum-known-ty-2 c = search needs
+
+read-structs-requires : tie.Need-read-structs-requires
+read-structs-requires c κs =
+    let at-ty = c .before .before in
+    let at-start = at-ty .before .before .before .before in
+    let a = at-start .args in
+    let is = at-ty .ty2 .given .1 in (
+      (at-start .pre .0 .0, images (a .types .now) (a .ty) _ (a .n) (a .image .now) is (at-start .pre .0 .1)),
+      room-as (ap (λ (t : Ty). valueOut (a .types .now) (a .members .now) t (a .n) (a .image .now)) is) (at-start .pre .1),
+    )
+
+same-length-2 : tie.Need-same-length-2
+same-length-2 c = search needs
+
+returns-2 : tie.Need-returns-2
+returns-2 c =
+    let at-read = c .before .before in
+    let at-ty = at-read .before .before .before in
+    let at-start = at-ty .before .before .before .before in
+    let a = at-start .args in
+    wrote-as (ap (λ (t : Ty). valueOut (a .types .now) (a .members .now) t (a .n) (a .image .now)) (at-ty .ty2 .given .1))
+    (at-read .read-structs .ensures)
+
+pub read-value-spec : {M : Type 1} → statement M
+read-value-spec =
+    tie.close
+    (tie.spec
+    enum-known-ty
+    put-atomics-requires
+    same-length
+    returns
+    enum-known-ty-2
+    read-structs-requires
+    same-length-2
+    returns-2)

@@ -1,0 +1,51 @@
+-- `values::text_value` meets its contract.
+use mathlib.Core.Path.{_∙_, ap}
+use Rattle.types.specs.declared.member.Ty.{Ty}
+use Rattle.values.specs.Stream.{bodies}
+use Rattle.values.specs.Walk.{valueOut}
+use Rattle.values.proofs.ReadingLaws.{images, no-texts, texts-as, value-atomic}
+use Rattle.values.proofs.LeafLaws.{textless-atomics}
+use borrow.Author.Needs.{needs}
+use Rattle.values.proofs.reading.text_value.Statement.{statement}
+use Rattle.values.proofs.reading.text_value.Tie as tie
+use Rattle.values.proofs.reading.text_value.Reads as reads
+use Rattle.values.proofs.reading.text_value.Lts as lts
+use Rattle.values.proofs.reading.text_structs.Reads as text-structs-reads
+
+returns : tie.Need-returns
+returns c = no-texts (c .before .before .pre .1 (c .if1 .taken))
+
+enum-told : tie.Need-enum-told
+enum-told c = search needs
+
+enum-known-ty : tie.Need-enum-known-ty
+enum-known-ty c = search needs
+
+text-structs-requires : tie.Need-text-structs-requires
+text-structs-requires c κs =
+    let at-start = c .before .before .before .before .before in
+    let a = at-start .args in (
+      at-start .pre .0 .0,
+      (
+        images (a .types .now) (a .ty) _ (a .n) (a .image .now) (c .before .ty .given .1)
+            (at-start .pre .0 .1 .1),
+        at-start .pre .0 .1 .0,
+      ),
+    )
+
+returns-2 : tie.Need-returns-2
+returns-2 c =
+    let a = c .before .before .before .before .args in
+    no-texts (ap bodies (value-atomic (a .types .now) (a .members .now) (a .n) (a .image .now) (a .ty) _
+    (c .enum-told .given .1)) ∙ textless-atomics _ (a .n) (a .image .now) .none)
+
+returns-3 : tie.Need-returns-3
+returns-3 c =
+    let at-start = c .before .before .before .before .before .before in
+    let a = at-start .args in
+    texts-as (ap (λ (t : Ty). valueOut (a .types .now) (a .members .now) t (a .n) (a .image .now))
+    (c .before .before .ty .given .1)) (c .text-structs .ensures)
+
+pub text-value-spec : {M : Type 1} → statement M
+text-value-spec =
+    tie.close (tie.spec returns enum-told enum-known-ty text-structs-requires returns-2 returns-3)

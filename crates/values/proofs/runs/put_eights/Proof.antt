@@ -1,0 +1,96 @@
+-- `values::put_eights` meets its contract. The invariant: so far one entry for each number of eight bytes.
+use native.Mathlib.Omega.{arith}
+use borrow.Author.Needs.{needs}
+use Prim.Native.Nat.{_*_, _-_}
+use Rattle.values.proofs.RunLaws.{Running, formed, run-start, run-room, run-length, numbers-on, numbers-done}
+use Rattle.values.proofs.RunLaws.{number-fits}
+use Rattle.values.proofs.runs.put_eights.Statement.{statement}
+use Rattle.values.proofs.runs.put_eights.Tie as tie
+
+abbrev Inv-loop : tie.InvT-loop
+Inv-loop n s out₀ at f p₀ i₀ out p i = Running (formed f 8 s) n out₀ at out p i
+
+abbrev μ-loop : tie.MeasureT-loop
+μ-loop n s out₀ at f p₀ i₀ out p i = n - i
+
+form-of-requires : tie.Need-form-of-requires Inv-loop μ-loop
+form-of-requires c κs = search needs
+
+loop-holds : tie.Need-loop-holds Inv-loop μ-loop
+loop-holds c = run-start (c .before .before .before .pre .1)
+
+mul-load64 : tie.Need-mul-load64 Inv-loop μ-loop
+mul-load64 c =
+    let start = c .before .before .before .before .before in
+    omega (arith, start .pre .0 .long, c .loop-test .taken)
+
+load64-requires : tie.Need-load64-requires Inv-loop μ-loop
+load64-requires c κs =
+    let start = c .before .before .before .before .before in
+    omega (arith, start .pre .0 .long, c .loop-test .taken)
+
+extend-requires : tie.Need-extend-requires Inv-loop μ-loop
+extend-requires c κs =
+    let read = c .before in
+    let at-loop = read .before .before in
+    let known = at-loop .before .before .before in
+    number-fits (at-loop .before .form-of .ensures) (known .before .pre .0)
+    (λ k. (known .shared-slice-known .given k) .fits) (8 * at-loop .loop .i)
+    (read .load64 .ensures)
+
+put-entry-requires : tie.Need-put-entry-requires Inv-loop μ-loop
+put-entry-requires c κs =
+    let in-loop = c .before .before .before in
+    run-room (in-loop .before .loop .inv) (in-loop .loop-test .taken)
+
+add-p : tie.Need-add-p Inv-loop μ-loop
+add-p c =
+    let in-loop = c .before .before .before .before .before .before in
+    let inv = in-loop .before .loop .inv in
+    omega (arith, run-room inv (in-loop .loop-test .taken), run-length inv)
+
+add-i : tie.Need-add-i Inv-loop μ-loop
+add-i c = omega arith
+
+loop-less : tie.Need-loop-less Inv-loop μ-loop
+loop-less c = omega arith
+
+loop-again : tie.Need-loop-again Inv-loop μ-loop
+loop-again c =
+    let put = c .before .before in
+    let read = put .before .before .before in
+    let in-loop = read .before in
+    let at-loop = in-loop .before in
+    let s = at-loop .before .before .before .before .args .s .now in
+    numbers-on (at-loop .before .form-of .result) 8 s (at-loop .loop .inv) (in-loop .loop-test .taken)
+    (read .load64 .ensures)
+    (put .before .extend .ensures) (put .put-entry .ensures)
+
+same-length : tie.Need-same-length Inv-loop μ-loop
+same-length c = run-length (c .before .loop .inv)
+
+returns : tie.Need-returns Inv-loop μ-loop
+returns c =
+    let at-loop = c .before in
+    let known = at-loop .before .before .before in
+    numbers-done (at-loop .before .form-of .ensures) (known .before .pre .0)
+    (λ k. (known .shared-slice-known .given k) .fits) (at-loop .loop .inv) (c .loop-test .left)
+
+pub put-eights-spec : {M : Type 1} → statement M
+put-eights-spec =
+    tie.close
+    (tie.spec
+    Inv-loop
+    μ-loop
+    form-of-requires
+    loop-holds
+    mul-load64
+    load64-requires
+    extend-requires
+    put-entry-requires
+    add-p
+    add-i
+    loop-less
+    loop-again
+    same-length
+    returns)

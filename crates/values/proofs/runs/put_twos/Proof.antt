@@ -1,0 +1,105 @@
+-- `values::put_twos` meets its contract. The invariant: so far one entry for each number of two bytes.
+use native.Mathlib.Omega.{arith}
+use borrow.Author.Needs.{needs}
+use Prim.Native.Nat.{_*_, _-_}
+use mathlib.Core.Path.{_∙_}
+use Rattle.values.proofs.RunLaws.{Running, formed, run-start, run-room, run-length, numbers-on, numbers-done}
+use Rattle.values.proofs.RunLaws.{number-fits}
+use Rattle.values.proofs.runs.put_twos.Statement.{statement}
+use Rattle.values.proofs.runs.put_twos.Tie as tie
+
+abbrev Inv-loop : tie.InvT-loop
+Inv-loop n s out₀ at f p₀ i₀ out p i = Running (formed f 2 s) n out₀ at out p i
+
+abbrev μ-loop : tie.MeasureT-loop
+μ-loop n s out₀ at f p₀ i₀ out p i = n - i
+
+form-of-requires : tie.Need-form-of-requires Inv-loop μ-loop
+form-of-requires c κs = search needs
+
+loop-holds : tie.Need-loop-holds Inv-loop μ-loop
+loop-holds c = run-start (c .before .before .before .pre .1)
+
+mul-load16 : tie.Need-mul-load16 Inv-loop μ-loop
+mul-load16 c =
+    let start = c .before .before .before .before .before in
+    omega (arith, start .pre .0 .long, c .loop-test .taken)
+
+load16-requires : tie.Need-load16-requires Inv-loop μ-loop
+load16-requires c κs =
+    let start = c .before .before .before .before .before in
+    omega (arith, start .pre .0 .long, c .loop-test .taken)
+
+wide16-requires : tie.Need-wide16-requires Inv-loop μ-loop
+wide16-requires c κs = search needs
+
+wide64-requires : tie.Need-wide64-requires Inv-loop μ-loop
+wide64-requires c κs = search needs
+
+extend-requires : tie.Need-extend-requires Inv-loop μ-loop
+extend-requires c κs =
+    let read = c .before in
+    let at-loop = read .before .before .before .before in
+    let known = at-loop .before .before .before in
+    number-fits (at-loop .before .form-of .ensures) (known .before .pre .0)
+    (λ k. (known .shared-slice-known .given k) .fits) (2 * at-loop .loop .i)
+    (read .wide64 .ensures ∙ read .before .wide16 .ensures ∙ read .before .before .load16 .ensures)
+
+put-entry-requires : tie.Need-put-entry-requires Inv-loop μ-loop
+put-entry-requires c κs =
+    let in-loop = c .before .before .before .before .before in
+    run-room (in-loop .before .loop .inv) (in-loop .loop-test .taken)
+
+add-p : tie.Need-add-p Inv-loop μ-loop
+add-p c =
+    let in-loop = c .before .before .before .before .before .before .before .before in
+    let inv = in-loop .before .loop .inv in
+    omega (arith, run-room inv (in-loop .loop-test .taken), run-length inv)
+
+add-i : tie.Need-add-i Inv-loop μ-loop
+add-i c = omega arith
+
+loop-less : tie.Need-loop-less Inv-loop μ-loop
+loop-less c = omega arith
+
+loop-again : tie.Need-loop-again Inv-loop μ-loop
+loop-again c =
+    let put = c .before .before in
+    let read = put .before .before .before in
+    let in-loop = read .before .before .before in
+    let at-loop = in-loop .before in
+    let s = at-loop .before .before .before .before .args .s .now in
+    numbers-on (at-loop .before .form-of .result) 2 s (at-loop .loop .inv) (in-loop .loop-test .taken)
+    (read .wide64 .ensures ∙ read .before .wide16 .ensures ∙ read .before .before .load16 .ensures)
+    (put .before .extend .ensures) (put .put-entry .ensures)
+
+same-length : tie.Need-same-length Inv-loop μ-loop
+same-length c = run-length (c .before .loop .inv)
+
+returns : tie.Need-returns Inv-loop μ-loop
+returns c =
+    let at-loop = c .before in
+    let known = at-loop .before .before .before in
+    numbers-done (at-loop .before .form-of .ensures) (known .before .pre .0)
+    (λ k. (known .shared-slice-known .given k) .fits) (at-loop .loop .inv) (c .loop-test .left)
+
+pub put-twos-spec : {M : Type 1} → statement M
+put-twos-spec =
+    tie.close
+    (tie.spec
+    Inv-loop
+    μ-loop
+    form-of-requires
+    loop-holds
+    mul-load16
+    load16-requires
+    wide16-requires
+    wide64-requires
+    extend-requires
+    put-entry-requires
+    add-p
+    add-i
+    loop-less
+    loop-again
+    same-length
+    returns)

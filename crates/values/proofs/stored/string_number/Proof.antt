@@ -1,0 +1,62 @@
+-- `values::string_number` meets its contract: a way out for each number.
+use borrow.Author.Needs.{needs}
+use mathlib.Core.Path.{sym, _∙_}
+use Rattle.values.proofs.StoredLaws.{string-fits, string-misfits, no-string}
+use Rattle.values.proofs.stored.string_number.Statement.{statement}
+use Rattle.values.proofs.stored.string_number.Tie as tie
+
+type-at-requires : tie.Need-type-at-requires
+type-at-requires c κs = search needs
+
+is-string-requires : tie.Need-is-string-requires
+is-string-requires c κs = search needs
+
+wide-requires : tie.Need-wide-requires
+wide-requires c κs = search needs
+
+returns : tie.Need-returns
+returns c =
+    let then1 = c .before .before in
+    let at-type = then1 .before .before in
+    let a = at-type .before .args in
+    string-fits (a .types .now) (a .i) (a .long) (at-type .type-at .ensures)
+    (sym (then1 .before .is-string .ensures) ∙ then1 .if1 .taken) (c .if2 .taken ∙ c .before .wide .ensures)
+
+number-requires : tie.Need-number-requires
+number-requires c κs = search needs
+
+returns-2 : tie.Need-returns-2
+returns-2 c =
+    let else2 = c .before in
+    let then1 = else2 .before .before in
+    let at-type = then1 .before .before in
+    let a = at-type .before .args in
+    c .number .ensures
+    ∙ string-misfits (a .types .now) (a .i) (a .long) (at-type .type-at .ensures)
+    (sym (then1 .before .is-string .ensures) ∙ then1 .if1 .taken)
+    (λ e. else2 .if2 .left (e ∙ sym (else2 .before .wide .ensures)))
+
+number-requires-2 : tie.Need-number-requires-2
+number-requires-2 c κs = search needs
+
+returns-3 : tie.Need-returns-3
+returns-3 c =
+    let else1 = c .before in
+    let at-type = else1 .before .before in
+    let a = at-type .before .args in
+    c .number2 .ensures
+    ∙ no-string (a .types .now) (a .i) (a .long) (at-type .type-at .ensures)
+    (sym (else1 .before .is-string .ensures) ∙ else1 .if1 .left)
+
+pub string-number-spec : {M : Type 1} → statement M
+string-number-spec =
+    tie.close
+    (tie.spec
+    type-at-requires
+    is-string-requires
+    wide-requires
+    returns
+    number-requires
+    returns-2
+    number-requires-2
+    returns-3)

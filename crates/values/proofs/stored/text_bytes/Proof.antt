@@ -1,0 +1,70 @@
+-- `values::text_bytes` meets its contract: an image that is not refused has room for the capacity.
+use borrow.Author.Needs.{needs}
+use native.Mathlib.Omega.{arith}
+use mathlib.Core.Path.{_≡_, ap, _∙_}
+use Prim.Native.Nat.{ℕ}
+use Rattle.types.specs.Tables.{typeAt}
+use Rattle.types.specs.declared.member.StructDef.{StructDef}
+use Rattle.values.specs.Walk.{capacityAt, textLength}
+use Rattle.values.proofs.StoredLaws.{Readable, readable, held-atomic, held-struct}
+use Rattle.values.proofs.stored.text_bytes.Statement.{statement}
+use Rattle.values.proofs.stored.text_bytes.Tie as tie
+
+-- the structure's rows and the image
+known : (c : tie.After-ty)
+    → let a = c .before .before .before .args in
+    Readable (a .types .now) (a .members .now) (c .ty .given .0 .0) (a .image .now)
+known c =
+    let at-start = c .before .before .before in
+    let a = at-start .args in
+    readable (a .ty) (a .image .now) (at-start .pre .0) (c .ty .given .1) (at-start .pre .1)
+
+-- the row where its members begin
+first : (c : tie.After-wide)
+    → let arm = c .before .before .before in
+    c .wide .result ≡ typeAt (arm .before .before .before .args .types .now) (arm .ty .given .0 .0) .first
+first c = c .wide .ensures ∙ ap (λ (d : StructDef). d .first) (c .before .type-at .ensures)
+
+enum-told : tie.Need-enum-told
+enum-told c = search needs
+
+returns : tie.Need-returns
+returns c = held-atomic (c .enum-told .given .1) (c .before .before .before .pre .1)
+
+enum-known-ty : tie.Need-enum-known-ty
+enum-known-ty c = search needs
+
+type-at-requires : tie.Need-type-at-requires
+type-at-requires c κs = known (c .before) .low
+
+wide-requires : tie.Need-wide-requires
+wide-requires c κs = search needs
+
+capacity-at-requires : tie.Need-capacity-at-requires
+capacity-at-requires c κs = omega (arith, first c, known (c .before .before .before) .rows)
+
+text-length-requires : tie.Need-text-length-requires
+text-length-requires c κs = omega (arith, known (c .before .before .before .before) .inside)
+
+returns-2 : tie.Need-returns-2
+returns-2 c =
+    let at-first = c .before .before in
+    let arm = at-first .before .before .before in
+    let a = arm .before .before .before .args in
+    held-struct (arm .ty .given .1) (known arm)
+    (c .text-length .ensures
+    ∙ ap (λ (k : ℕ). textLength k (a .image .now)) (c .before .capacity-at .ensures)
+    ∙ ap (λ (k : ℕ). textLength (capacityAt (a .members .now) k) (a .image .now)) (first at-first))
+
+pub text-bytes-spec : {M : Type 1} → statement M
+text-bytes-spec =
+    tie.close
+    (tie.spec
+    enum-told
+    returns
+    enum-known-ty
+    type-at-requires
+    wide-requires
+    capacity-at-requires
+    text-length-requires
+    returns-2)

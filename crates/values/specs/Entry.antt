@@ -1,0 +1,99 @@
+-- Entries by value (document 01, "Value stream"): the number of each kind, its payload, its twelve bytes, and what
+-- twelve bytes say.
+use Prim.Native.Nat.{ℕ, _+_, _*_, _/_, _%_, _^_, _<_}
+use mathlib.Core.Bool.{true, false, cond, Bool, _&&_}
+use mathlib.Core.List.{List, [], _∷_}
+use lib.Dec.{eqb, ltb}
+use lib.ListN.{getD}
+use Rattle.words.specs.Bits.{digit}
+use Rattle.words.specs.Words.{wordAt}
+use Rattle.values.specs.Stream.{entryBytes}
+use Rattle.values.specs.declared.entries.Entry.{Entry}
+use Rattle.values.specs.declared.entries.Entry.the-variants as entry
+use Rattle.values.specs.declared.entries.Loaded.{Loaded}
+use Rattle.values.specs.declared.entries.Loaded.the-variants.{Is, Malformed}
+
+-- 0 null, 1 bool, 2 signed, 3 unsigned, 4 REAL bits, 5 LREAL bits, 6 text, 7 member number, 8 and 9 structure open and
+-- close, 10 and 11 array open and close
+abbrev pub entryKind : Entry → ℕ
+entryKind entry.Null = 0
+entryKind (entry.Bool b) = 1
+entryKind (entry.Signed x) = 2
+entryKind (entry.Unsigned x) = 3
+entryKind (entry.Real x) = 4
+entryKind (entry.LReal x) = 5
+entryKind (entry.Text place long) = 6
+entryKind (entry.Member j) = 7
+entryKind entry.Open = 8
+entryKind entry.Close = 9
+entryKind entry.ArrayOpen = 10
+entryKind entry.ArrayClose = 11
+
+-- the payload as a number of 64 bits: a bool is 0 or 1, a text its place and its length; unused payload is zero
+abbrev pub entryPayload : Entry → ℕ
+entryPayload entry.Null = 0
+entryPayload (entry.Bool b) = digit b
+entryPayload (entry.Signed x) = x
+entryPayload (entry.Unsigned x) = x
+entryPayload (entry.Real x) = x
+entryPayload (entry.LReal x) = x
+entryPayload (entry.Text place long) = place + 2 ^ 32 * long
+entryPayload (entry.Member j) = j
+entryPayload entry.Open = 0
+entryPayload entry.Close = 0
+entryPayload entry.ArrayOpen = 0
+entryPayload entry.ArrayClose = 0
+
+-- an entry's numbers have 32 or 64 bits
+abbrev pub EntryFits : Entry → Type 0
+EntryFits entry.Null = Unit {0}
+EntryFits (entry.Bool b) = Unit {0}
+EntryFits (entry.Signed x) = x < 2 ^ 64
+EntryFits (entry.Unsigned x) = x < 2 ^ 64
+EntryFits (entry.Real x) = x < 2 ^ 32
+EntryFits (entry.LReal x) = x < 2 ^ 64
+EntryFits (entry.Text place long) = (place < 2 ^ 32) × (long < 2 ^ 32)
+EntryFits (entry.Member j) = j < 2 ^ 32
+EntryFits entry.Open = Unit {0}
+EntryFits entry.Close = Unit {0}
+EntryFits entry.ArrayOpen = Unit {0}
+EntryFits entry.ArrayClose = Unit {0}
+
+-- its twelve bytes
+abbrev pub bytesOfEntry : Entry → List ℕ
+bytesOfEntry e = entryBytes (entryKind e) (entryPayload e)
+
+-- ---- what a payload says
+
+-- of an entry that has none
+unfoldable pub bareIn : Entry → ℕ → Loaded
+bareIn e x = cond (eqb x 0) (Is e) Malformed
+
+unfoldable pub truthIn : ℕ → Loaded
+truthIn x = cond (eqb x 0) (Is (entry.Bool false)) (cond (eqb x 1) (Is (entry.Bool true)) Malformed)
+
+-- of an entry with a number of 32 bits
+unfoldable pub lowIn : (ℕ → Entry) → ℕ → Loaded
+lowIn e x = cond (ltb x (2 ^ 32)) (Is (e x)) Malformed
+
+abbrev pub textIn : ℕ → Loaded
+textIn x = Is (entry.Text (x % 2 ^ 32) (x / 2 ^ 32))
+
+-- by the kind, 0 to 11
+abbrev pub payloadsIn : ℕ → List Loaded
+payloadsIn x =
+    bareIn entry.Null x ∷ truthIn x ∷ Is (entry.Signed x) ∷ Is (entry.Unsigned x) ∷ lowIn entry.Real x
+    ∷ Is (entry.LReal x) ∷ textIn x ∷ lowIn entry.Member x ∷ bareIn entry.Open x ∷ bareIn entry.Close x
+    ∷ bareIn entry.ArrayOpen x ∷ bareIn entry.ArrayClose x ∷ []
+
+unfoldable pub loadedOf : ℕ → ℕ → Loaded
+loadedOf kind x = getD (payloadsIn x) kind Malformed
+
+-- ---- what twelve bytes say
+
+-- three zeros after the kind
+unfoldable pub threeZeros : List ℕ → ℕ → Bool
+threeZeros s at = eqb (getD s (at + 1) 0) 0 && eqb (getD s (at + 2) 0) 0 && eqb (getD s (at + 3) 0) 0
+
+unfoldable pub entryIn : List ℕ → ℕ → Loaded
+entryIn s at = cond (threeZeros s at) (loadedOf (getD s at 0) (wordAt 8 s (at + 4))) Malformed

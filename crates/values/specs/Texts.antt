@@ -1,0 +1,52 @@
+-- The stored text of a string (document 01, "Reading": handed back as that part of the caller's image; "Refusal
+-- numbers"): 15 for no such type or no string type, then 14 for an image that is not of the type's size; else 0, and
+-- min(LEN, capacity) bytes of DATA.
+use Prim.Native.Nat.{ℕ, _+_, _≤_}
+use mathlib.Core.Path.{_≡_}
+use mathlib.Core.Bool.{cond}
+use mathlib.Core.List.{List, []}
+use lib.Dec.{eqb}
+use lib.ListN.{length}
+use Rattle.types.specs.Refusal.{numberOf}
+use Rattle.types.specs.Shape.{isThere}
+use Rattle.types.specs.Tables.{typeAt}
+use Rattle.types.specs.Waste.{sizesIn}
+use Rattle.types.specs.declared.member.Ty.{Ty}
+use Rattle.types.specs.declared.member.Ty.the-variants as ty
+use Rattle.types.specs.declared.refusal.Refusal.the-variants.{ImageLength, NoSuchType}
+use Rattle.values.specs.Trees.{isString}
+use Rattle.values.specs.Walk.{capacityAt, textLength, textIn}
+
+-- the number for structure i and an image of so many bytes
+unfoldable pub stringNumber : List ℕ → ℕ → ℕ → ℕ
+stringNumber types i long =
+    cond (isString (typeAt types i .kind)) (cond (eqb long (sizesIn types i)) 0 (numberOf ImageLength))
+    (numberOf NoSuchType)
+
+-- an atomic is no string type
+abbrev pub typeNumber : List ℕ → Ty → ℕ → ℕ
+typeNumber types (ty.Atomic a) long = numberOf NoSuchType
+typeNumber types (ty.Struct i) long = stringNumber types i long
+
+unfoldable pub textNumber : List ℕ → Ty → List ℕ → ℕ
+textNumber types t image = cond (isThere types t) (typeNumber types t (length image)) (numberOf NoSuchType)
+
+-- the capacity of a string type
+abbrev pub capacityOf : List ℕ → List ℕ → Ty → ℕ
+capacityOf types members (ty.Atomic a) = 0
+capacityOf types members (ty.Struct i) = capacityAt members (typeAt types i .first)
+
+-- the text's part of the image; an empty part where it is refused
+unfoldable pub textPart : List ℕ → List ℕ → Ty → List ℕ → List ℕ
+textPart types members t image =
+    cond (eqb (textNumber types t image) 0) (textIn (capacityOf types members t) image) []
+
+-- what a caller who asks for the text gets
+pub record Stored (types members : List ℕ) (t : Ty) (image : List ℕ) (number : ℕ) (part : List ℕ) : Type 0 where
+  pub why : number ≡ textNumber types t image
+  pub text : part ≡ textPart types members t image
+
+-- the bytes of a text that is not refused lie in the image
+pub record Held (types members : List ℕ) (t : Ty) (image : List ℕ) (n : ℕ) : Type 0 where
+  pub long : n ≡ textLength (capacityOf types members t) image
+  pub inside : 4 + n ≤ length image

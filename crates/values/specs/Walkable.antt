@@ -1,0 +1,62 @@
+-- What the walk counts on in the tables (document 01, "Layout"): a structure's rows are in the table, each of its members
+-- names an earlier type and lies inside it, and a string is LEN and DATA. Tables as our own calls left them are so.
+use Prim.Native.Nat.{ℕ, _+_, _*_, _/_, _^_, _<_, _≤_}
+use mathlib.Core.Path.{_≡_}
+use mathlib.Core.Bool.{Bool, true}
+use mathlib.Core.List.{List}
+use lib.ListN.{length}
+use Rattle.types.specs.Laid.{Earlier, pastBit}
+use Rattle.types.specs.Layout.{times}
+use Rattle.types.specs.Tables.{TyFits, memberAt, typeAt}
+use Rattle.types.specs.Waste.{sizeIn, sizesIn}
+use Rattle.types.specs.declared.member.Member.{Member}
+use Rattle.types.specs.declared.member.StructDef.{StructDef}
+use Rattle.types.specs.declared.member.Ty.{Ty}
+use Rattle.values.specs.Trees.{isString}
+use Rattle.values.specs.Walk.{capacityAt, isNested}
+
+-- a member of structure i, of so many bytes
+pub record Within (types : List ℕ) (i size : ℕ) (m : Member) : Type 0 where
+  pub earlier : Earlier i (m .ty)
+  pub inside : pastBit (sizesIn types) m ≤ 8 * size
+
+-- a string has two rows, and its size is 4 plus its capacity rounded up to 4
+pub record IsString (members : List ℕ) (d : StructDef) : Type 0 where
+  pub rows : d .count ≡ 2
+  pub size : d .size ≡ 4 + 4 * ((capacityAt members (d .first) + 3) / 4)
+
+pub record WalkableType (types members : List ℕ) (i : ℕ) : Type 0 where
+  pub rows : typeAt types i .first + typeAt types i .count ≤ 2000
+  pub most : typeAt types i .size ≤ 2 ^ 26 + 224
+  pub string : isString (typeAt types i .kind) ≡ true → IsString members (typeAt types i)
+  pub each : (k : ℕ) → k < typeAt types i .count
+      → Within types i (typeAt types i .size) (memberAt members (typeAt types i .first + k))
+
+pub record Walkable (types members : List ℕ) : Type 0 where
+  pub each : (i : ℕ) → i < 200 → WalkableType types members i
+
+-- a row of structure i
+pub record RowOf (types members : List ℕ) (i row : ℕ) : Type 0 where
+  pub low : i < 200
+  pub inside : row < 2000
+  pub within : Within types i (sizesIn types i) (memberAt members row)
+
+-- that holds a visible structure, or an array of structures
+pub record NestedRow (types members : List ℕ) (i row : ℕ) : Type 0 where
+  pub row-of : RowOf types members i row
+  pub nested : isNested (memberAt members row) ≡ true
+
+-- an image of structure i
+pub record ImageOf (types : List ℕ) (i : ℕ) (image : List ℕ) : Type 0 where
+  pub low : i < 200
+  pub long : length image ≡ sizesIn types i
+
+-- an image of n structures i
+pub record ImagesOf (types : List ℕ) (i n : ℕ) (image : List ℕ) : Type 0 where
+  pub low : i < 200
+  pub long : length image ≡ sizesIn types i * n
+
+-- an image of a value: size times max(count, 1) bytes
+pub record ValueImage (types : List ℕ) (t : Ty) (n : ℕ) (image : List ℕ) : Type 0 where
+  pub fits : TyFits t
+  pub long : length image ≡ sizeIn (sizesIn types) t * times n

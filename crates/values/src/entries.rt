@@ -1,0 +1,181 @@
+// An entry by value (document 01, "Value stream"): its kinds 0 to 11 with their payloads, stored as twelve bytes and
+// loaded again. Bytes that are no entry are malformed.
+ghost use mathlib.Core.Path.{_≡_};
+ghost use Prim.Native.Nat.{_+_, _/_, _%_, _^_, _≤_};
+ghost use lib.ListN.{length};
+ghost use lib.Seq.{sets};
+ghost use Rattle.values.specs.Entry.{bytesOfEntry, entryIn, entryKind, entryPayload, loadedOf};
+ghost use Rattle.values.specs.Entry.{bareIn, lowIn, textIn, truthIn};
+use crate::entry::put_entry;
+use crate::numbers::truth_of;
+use words::load64;
+use words::wide64;
+
+// A text has its place in the bodies and its length.
+pub enum Entry {
+    Null,
+    Bool(bool),
+    Signed(u64),
+    Unsigned(u64),
+    Real(u32),
+    LReal(u64),
+    Text(u32, u32),
+    Member(u32),
+    Open,
+    Close,
+    ArrayOpen,
+    ArrayClose,
+}
+
+// What twelve bytes say.
+pub enum Loaded {
+    Is(Entry),
+    Malformed,
+}
+
+impl Entry {
+    // The number of its kind.
+    pub fn kind(self) -> u8
+        ensures { λ r. ⌜ r ≡ entryKind self ⌝ }
+    {
+        match self {
+            Entry::Null => 0,
+            Entry::Bool(_) => 1,
+            Entry::Signed(_) => 2,
+            Entry::Unsigned(_) => 3,
+            Entry::Real(_) => 4,
+            Entry::LReal(_) => 5,
+            Entry::Text(_, _) => 6,
+            Entry::Member(_) => 7,
+            Entry::Open => 8,
+            Entry::Close => 9,
+            Entry::ArrayOpen => 10,
+            Entry::ArrayClose => 11,
+        }
+    }
+
+    // Its payload as a number; unused bytes are zero.
+    pub fn payload(self) -> u64
+        ensures { λ r. ⌜ r ≡ entryPayload self ⌝ }
+    {
+        match self {
+            Entry::Null => 0,
+            Entry::Bool(b) => truth_of(b),
+            Entry::Signed(x) => x,
+            Entry::Unsigned(x) => x,
+            Entry::Real(x) => wide64(x),
+            Entry::LReal(x) => x,
+            Entry::Text(place, long) => wide64(place) + 0x1_0000_0000 * wide64(long),
+            Entry::Member(j) => wide64(j),
+            Entry::Open => 0,
+            Entry::Close => 0,
+            Entry::ArrayOpen => 0,
+            Entry::ArrayClose => 0,
+        }
+    }
+}
+
+// Stores an entry at a place; the bytes around it stay.
+pub fn store_entry(out: &mut [u8], at: usize, e: Entry)
+    requires { ⌜ at + 12 ≤ length (now out) ⌝ }
+    ensures { λ _. ⌜ now (out .exit) ≡ sets (now (out .entry)) at (bytesOfEntry e) ⌝ }
+{
+    put_entry(out, at, e.kind(), e.payload());
+}
+
+// The four low bytes of a payload, and the four high ones.
+fn low(x: u64) -> u32
+    ensures { λ r. ⌜ r ≡ x % 2 ^ 32 ⌝ }
+{
+    (x % 0x1_0000_0000) as u32
+}
+
+fn high(x: u64) -> u32
+    ensures { λ r. ⌜ r ≡ x / 2 ^ 32 ⌝ }
+{
+    (x / 0x1_0000_0000) as u32
+}
+
+// An entry without a payload.
+fn bare_in(e: Entry, x: u64) -> Loaded
+    ensures { λ r. ⌜ r ≡ bareIn e x ⌝ }
+{
+    if x == 0 {
+        return Loaded::Is(e);
+    }
+    Loaded::Malformed
+}
+
+fn truth_in(x: u64) -> Loaded
+    ensures { λ r. ⌜ r ≡ truthIn x ⌝ }
+{
+    if x == 0 {
+        return Loaded::Is(Entry::Bool(false));
+    }
+    if x == 1 {
+        return Loaded::Is(Entry::Bool(true));
+    }
+    Loaded::Malformed
+}
+
+fn real_in(x: u64) -> Loaded
+    ensures { λ r. ⌜ r ≡ lowIn Entry.Real x ⌝ }
+{
+    if x < 0x1_0000_0000 {
+        return Loaded::Is(Entry::Real(low(x)));
+    }
+    Loaded::Malformed
+}
+
+fn member_in(x: u64) -> Loaded
+    ensures { λ r. ⌜ r ≡ lowIn Entry.Member x ⌝ }
+{
+    if x < 0x1_0000_0000 {
+        return Loaded::Is(Entry::Member(low(x)));
+    }
+    Loaded::Malformed
+}
+
+fn text_in(x: u64) -> Loaded
+    ensures { λ r. ⌜ r ≡ textIn x ⌝ }
+{
+    Loaded::Is(Entry::Text(low(x), high(x)))
+}
+
+// What a kind and a payload say.
+fn loaded_of(kind: u8, x: u64) -> Loaded
+    ensures { λ r. ⌜ r ≡ loadedOf kind x ⌝ }
+{
+    match kind {
+        0 => bare_in(Entry::Null, x),
+        1 => truth_in(x),
+        2 => Loaded::Is(Entry::Signed(x)),
+        3 => Loaded::Is(Entry::Unsigned(x)),
+        4 => real_in(x),
+        5 => Loaded::Is(Entry::LReal(x)),
+        6 => text_in(x),
+        7 => member_in(x),
+        8 => bare_in(Entry::Open, x),
+        9 => bare_in(Entry::Close, x),
+        10 => bare_in(Entry::ArrayOpen, x),
+        11 => bare_in(Entry::ArrayClose, x),
+        _ => Loaded::Malformed,
+    }
+}
+
+// The entry in the twelve bytes at a place.
+pub fn entry_at(s: &[u8], at: usize) -> Loaded
+    requires { ⌜ at + 12 ≤ length (now s) ⌝ }
+    ensures { λ r. ⌜ r ≡ entryIn (now (s .entry)) at ⌝ }
+{
+    if s[at + 1] != 0 {
+        return Loaded::Malformed;
+    }
+    if s[at + 2] != 0 {
+        return Loaded::Malformed;
+    }
+    if s[at + 3] != 0 {
+        return Loaded::Malformed;
+    }
+    loaded_of(s[at], load64(s, at + 4))
+}

@@ -1,0 +1,23 @@
+// Values (document 01's second crate): a tag's bytes become a value stream, and a string's stored text is handed back.
+// It stands on `types` by the rows of its tables and by what every layout promises.
+mod atomics;
+mod count;
+mod entries;
+mod entry;
+mod lengths;
+mod numbers;
+mod place;
+mod reading;
+mod rows;
+mod runs;
+mod stored;
+mod texts;
+mod walk;
+
+pub use entries::Entry;
+pub use entries::Loaded;
+pub use entries::entry_at;
+pub use entries::store_entry;
+pub use reading::Streamed;
+pub use reading::read;
+pub use stored::text;

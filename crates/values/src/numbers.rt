@@ -1,0 +1,138 @@
+// How an atomic's bytes become a payload (document 01, "Reading"): its size and kind, and for signed types the sign
+// that fills the bytes above it.
+ghost use mathlib.Core.Path.{_≡_};
+ghost use mathlib.Core.Bool.{cond};
+ghost use Prim.Native.Nat.{_+_, _^_, _<_};
+ghost use lib.Dec.{ltb};
+ghost use Rattle.words.specs.Bits.{digit};
+ghost use Rattle.types.specs.Atomic.{bitString, sizeOf};
+ghost use Rattle.values.specs.Leaf.{isTrue, leafKind, leafOf};
+ghost use Rattle.values.specs.Numbers.{formOf, extended};
+use types::Atomic;
+
+// The kind of a number's entry; from which number on it is negative, and what then stands above it.
+pub struct Form {
+    pub kind: u8,
+    pub half: u64,
+    pub fill: u64,
+}
+
+// An atomic's bytes: by a match, since the table of fifteen rows is dearer.
+pub fn size_of(a: Atomic) -> usize
+    ensures { λ r. ⌜ r ≡ sizeOf a ⌝ }
+{
+    match a {
+        Atomic::Bool => 1,
+        Atomic::SInt => 1,
+        Atomic::Int => 2,
+        Atomic::DInt => 4,
+        Atomic::LInt => 8,
+        Atomic::USInt => 1,
+        Atomic::UInt => 2,
+        Atomic::UDInt => 4,
+        Atomic::ULInt => 8,
+        Atomic::Real => 4,
+        Atomic::LReal => 8,
+        Atomic::Byte => 1,
+        Atomic::Word => 2,
+        Atomic::DWord => 4,
+        Atomic::LWord => 8,
+    }
+}
+
+// BYTE, WORD, DWORD or LWORD.
+pub fn is_bits(a: Atomic) -> bool
+    ensures { λ r. ⌜ r ≡ bitString a ⌝ }
+{
+    match a {
+        Atomic::Bool => false,
+        Atomic::SInt => false,
+        Atomic::Int => false,
+        Atomic::DInt => false,
+        Atomic::LInt => false,
+        Atomic::USInt => false,
+        Atomic::UInt => false,
+        Atomic::UDInt => false,
+        Atomic::ULInt => false,
+        Atomic::Real => false,
+        Atomic::LReal => false,
+        Atomic::Byte => true,
+        Atomic::Word => true,
+        Atomic::DWord => true,
+        Atomic::LWord => true,
+    }
+}
+
+// A number without a sign is kept as it is.
+fn plain(kind: u8) -> Form
+    ensures { λ r. ⌜ r ≡ record { kind = kind; half = 0; fill = 0 } ⌝ }
+{
+    Form {
+        kind,
+        half: 0,
+        fill: 0,
+    }
+}
+
+fn signed(half: u64, fill: u64) -> Form
+    ensures { λ r. ⌜ r ≡ record { kind = 2; half = half; fill = fill } ⌝ }
+{
+    Form {
+        kind: 2,
+        half,
+        fill,
+    }
+}
+
+pub fn form_of(a: Atomic) -> Form
+    ensures { λ r. ⌜ r ≡ formOf a ⌝ }
+{
+    match a {
+        Atomic::Bool => plain(1),
+        Atomic::SInt => signed(0x80, 0xFFFF_FFFF_FFFF_FF00),
+        Atomic::Int => signed(0x8000, 0xFFFF_FFFF_FFFF_0000),
+        Atomic::DInt => signed(0x8000_0000, 0xFFFF_FFFF_0000_0000),
+        Atomic::LInt => plain(2),
+        Atomic::USInt => plain(3),
+        Atomic::UInt => plain(3),
+        Atomic::UDInt => plain(3),
+        Atomic::ULInt => plain(3),
+        Atomic::Real => plain(4),
+        Atomic::LReal => plain(5),
+        Atomic::Byte => plain(3),
+        Atomic::Word => plain(3),
+        Atomic::DWord => plain(3),
+        Atomic::LWord => plain(3),
+    }
+}
+
+// A number with its sign: from `half` on it is negative, and `fill` stands above it.
+pub fn extend(f: Form, x: u64) -> u64
+    requires { ⌜ x + f .fill < 2 ^ 64 ⌝ }
+    ensures { λ r. ⌜ r ≡ extended f x ⌝ }
+{
+    let half = f.half;
+    if x < half {
+        return x;
+    }
+    x + f.fill
+}
+
+// A byte is true when it is not 0.
+pub fn truth(x: u8) -> u64
+    ensures { λ r. ⌜ r ≡ digit (isTrue x) ⌝ }
+{
+    if x == 0 {
+        return 0;
+    }
+    1
+}
+
+pub fn truth_of(b: bool) -> u64
+    ensures { λ r. ⌜ r ≡ digit b ⌝ }
+{
+    if b {
+        return 1;
+    }
+    0
+}

@@ -1,0 +1,256 @@
+// Reading (document 01, "Reading"): the value stream of a tag's bytes. Everything is counted before the first byte is
+// written, so that a refusal leaves the buffer as it was.
+ghost use mathlib.Core.Path.{_≡_};
+ghost use mathlib.Core.Bool.{true};
+ghost use mathlib.Core.List.{[]};
+ghost use Prim.Native.Nat.{_+_, _*_, _≤_, min};
+ghost use lib.Dec.{eqb};
+ghost use lib.ListN.{length};
+ghost use Rattle.types.specs.Layout.{times};
+ghost use Rattle.types.specs.Tables.{TyFits};
+ghost use Rattle.types.specs.Waste.{sizeIn, sizesIn};
+ghost use Rattle.values.specs.Counting.{Counted, Texts};
+ghost use Rattle.values.specs.Laying.{Room, Wrote};
+ghost use Rattle.values.specs.Reading.{Answered, Written};
+ghost use Rattle.values.specs.Stream.{bodies};
+ghost use Rattle.values.specs.Walk.{valueOut};
+ghost use Rattle.values.specs.Walkable.{ImagesOf, ValueImage, Walkable};
+use crate::atomics::put_atomics;
+use crate::count::Tally;
+use crate::count::count_atomics;
+use crate::count::count_structs;
+use crate::lengths::text_elements;
+use crate::lengths::text_struct;
+use crate::numbers::size_of;
+use crate::place::Place;
+use crate::rows::struct_size;
+use crate::rows::times_of;
+use crate::walk::read_elements;
+use crate::walk::read_struct;
+use types::MemberTable;
+use types::Refusal;
+use types::Ty;
+use types::TypeTable;
+use types::is_there;
+use words::store32;
+
+// The longest stream.
+const MOST: usize = 2147483648;
+
+// The stream's length, or a refusal.
+pub enum Streamed {
+    Length(usize),
+    Refused(Refusal),
+}
+
+fn size_of_ty(types: &TypeTable, ty: Ty) -> usize
+    requires { ⌜ TyFits ty ⌝ }
+    ensures { λ r. ⌜ r ≡ sizeIn (sizesIn (now (types .entry))) ty ⌝ }
+{
+    match ty {
+        Ty::Atomic(a) => size_of(a),
+        Ty::Struct(i) => struct_size(types, i),
+    }
+}
+
+// A product, compared without being made: it may be too large.
+fn is_product(long: usize, size: usize, n: usize) -> bool
+    ensures { λ r. ⌜ r ≡ eqb long (size * n) ⌝ }
+{
+    if size == 0 {
+        return long == 0;
+    }
+    if long % size != 0 {
+        return false;
+    }
+    long / size == n
+}
+
+fn least(a: usize, b: usize) -> usize
+    ensures { λ r. ⌜ r ≡ min a b ⌝ }
+{
+    if a < b {
+        return a;
+    }
+    b
+}
+
+// The same number: a usize has 64 bits.
+fn as_size(n: u64) -> usize
+    ensures { λ r. ⌜ r ≡ n ⌝ }
+{
+    n as usize
+}
+
+// How many entries a value has, in an image of so many bytes.
+fn count_value(
+    types: &TypeTable,
+    members: &MemberTable,
+    ty: Ty,
+    n: usize,
+    long: usize,
+    room: usize,
+) -> Tally
+    requires { ⌜ Walkable (now types) (now members) × (TyFits ty × (room ≤ 2147483648)) ⌝ }
+    requires { ⌜ long ≡ sizeIn (sizesIn (now types)) ty * times n ⌝ }
+    ensures { λ r. ⌜ Counted room (valueOut (now (types .entry)) (now (members .entry)) ty n) r ⌝ }
+{
+    match ty {
+        Ty::Atomic(a) => count_atomics(a, n, long, room),
+        Ty::Struct(i) => count_structs(types, members, i, n, room),
+    }
+}
+
+// How many bytes of text a structure has, or an array of structures.
+fn text_structs(
+    types: &TypeTable,
+    members: &MemberTable,
+    i: usize,
+    n: usize,
+    image: &[u8],
+    room: usize,
+) -> usize
+    requires { ⌜ Walkable (now types) (now members) × (ImagesOf (now types) i (times n) (now image)
+        × (room ≤ 2147483648)) ⌝ }
+    ensures { λ r. ⌜ Texts room (valueOut (now (types .entry)) (now (members .entry)) (Ty.Struct i) n
+        (now (image .entry))) r ⌝ }
+{
+    if n == 0 {
+        return text_struct(types, members, i, image, room);
+    }
+    text_elements(types, members, i, n, image, room)
+}
+
+// And a value, of which is known whether it has any.
+fn text_value(
+    types: &TypeTable,
+    members: &MemberTable,
+    ty: Ty,
+    n: usize,
+    image: &[u8],
+    room: usize,
+    plain: bool,
+) -> usize
+    requires { ⌜ Walkable (now types) (now members) × ((room ≤ 2147483648)
+        × ValueImage (now types) ty n (now image)) ⌝ }
+    requires { ⌜ (plain ≡ true → bodies (valueOut (now types) (now members) ty n (now image)) ≡ []) ⌝ }
+    ensures { λ r. ⌜ Texts room (valueOut (now (types .entry)) (now (members .entry)) ty n (now (image .entry))) r ⌝ }
+{
+    if plain {
+        return 0;
+    }
+    match ty {
+        Ty::Atomic(_) => 0,
+        Ty::Struct(i) => text_structs(types, members, i, n, image, room),
+    }
+}
+
+// A structure, or an array of structures.
+fn read_structs(
+    types: &TypeTable,
+    members: &MemberTable,
+    i: usize,
+    n: usize,
+    image: &[u8],
+    out: &mut [u8],
+    base: usize,
+) -> Place
+    requires { ⌜ Walkable (now types) (now members) × ImagesOf (now types) i (times n) (now image) ⌝ }
+    requires { ⌜ Room (length (now out)) base 4 0
+        (valueOut (now types) (now members) (Ty.Struct i) n (now image)) ⌝ }
+    ensures { λ r. ⌜ Wrote (now (out .entry)) base 4 0
+        (valueOut (now (types .entry)) (now (members .entry)) (Ty.Struct i) n (now (image .entry))) (now (out .exit)) r ⌝ }
+{
+    if n == 0 {
+        return read_struct(types, members, i, image, out, base, 4, 0);
+    }
+    read_elements(types, members, i, n, image, out, base, 4, 0)
+}
+
+// The entries and the texts of a value.
+fn read_value(
+    types: &TypeTable,
+    members: &MemberTable,
+    ty: Ty,
+    n: usize,
+    image: &[u8],
+    out: &mut [u8],
+    base: usize,
+) -> Place
+    requires { ⌜ Walkable (now types) (now members) × ValueImage (now types) ty n (now image) ⌝ }
+    requires { ⌜ Room (length (now out)) base 4 0 (valueOut (now types) (now members) ty n (now image)) ⌝ }
+    ensures { λ r. ⌜ Wrote (now (out .entry)) base 4 0
+        (valueOut (now (types .entry)) (now (members .entry)) ty n (now (image .entry))) (now (out .exit)) r ⌝ }
+{
+    match ty {
+        Ty::Atomic(a) => {
+            let next = put_atomics(a, n, image, out, 4);
+            return Place { at: next, text: 0 };
+        }
+        Ty::Struct(i) => {
+            return read_structs(types, members, i, n, image, out, base);
+        }
+    }
+}
+
+// The count of the entries, the entries and the texts; the bytes past them stay. The stream's length, where there is
+// room for it.
+fn read_within(
+    types: &TypeTable,
+    members: &MemberTable,
+    ty: Ty,
+    n: usize,
+    image: &[u8],
+    out: &mut [u8],
+    room: usize,
+) -> Streamed
+    requires { ⌜ Walkable (now types) (now members) × ValueImage (now types) ty n (now image) ⌝ }
+    requires { ⌜ room + 4 ≡ min (length (now out)) 2147483648 ⌝ }
+    ensures { λ r. ⌜ Written (now (types .entry)) (now (members .entry)) ty n (now (image .entry))
+        (now (out .entry)) r (now (out .exit)) ⌝ }
+{
+    let t = count_value(types, members, ty, n, image.len(), room);
+    let entries = t.entries;
+    if room < 12 * entries {
+        return Streamed::Refused(Refusal::NoRoom);
+    }
+    let left = room - 12 * entries;
+    let text = text_value(types, members, ty, n, image, left, t.plain);
+    if left < text {
+        return Streamed::Refused(Refusal::NoRoom);
+    }
+    store32(out, 0, entries as u32);
+    let base = 4 + 12 * entries;
+    read_value(types, members, ty, n, image, out, base);
+    Streamed::Length(base + text)
+}
+
+// The stream of a value of a type, of `count` elements where `count` is not 0, from the buffer's start on: its length;
+// or 15, 14 or 16, and nothing is written.
+pub fn read(
+    types: &TypeTable,
+    members: &MemberTable,
+    ty: Ty,
+    count: u64,
+    image: &[u8],
+    out: &mut [u8],
+) -> Streamed
+    requires { ⌜ Walkable (now types) (now members) ⌝ }
+    ensures { λ r. ⌜ Answered (now (types .entry)) (now (members .entry)) ty count (now (image .entry))
+        (now (out .entry)) r (now (out .exit)) ⌝ }
+{
+    let there = is_there(types, ty);
+    if !there {
+        return Streamed::Refused(Refusal::NoSuchType);
+    }
+    let n = as_size(count);
+    let fits = is_product(image.len(), size_of_ty(types, ty), times_of(n));
+    if !fits {
+        return Streamed::Refused(Refusal::ImageLength);
+    }
+    let most = least(out.len(), MOST);
+    if most < 4 {
+        return Streamed::Refused(Refusal::NoRoom);
+    }
+    read_within(types, members, ty, n, image, out, most - 4)
+}

@@ -1,0 +1,84 @@
+// What the walk asks of the tables' rows (document 01, "Layout"): sizes, capacities, and which members are structures.
+ghost use mathlib.Core.Path.{_≡_};
+ghost use Prim.Native.Nat.{_+_, _<_};
+ghost use Rattle.types.specs.Layout.{times};
+ghost use Rattle.types.specs.Tables.{memberAt};
+ghost use Rattle.types.specs.Waste.{sizesIn};
+ghost use Rattle.values.specs.Trees.{isString};
+ghost use Rattle.values.specs.Walk.{capacityAt, isNested};
+use types::Bit;
+use types::MemberTable;
+use types::StructKind;
+use types::Ty;
+use types::TypeTable;
+use types::member_at;
+use types::type_at;
+use words::wide;
+
+// A count of 0 is one.
+pub fn times_of(n: usize) -> usize
+    ensures { λ r. ⌜ r ≡ times n ⌝ }
+{
+    if n == 0 {
+        return 1;
+    }
+    n
+}
+
+// The bytes of structure i.
+pub fn struct_size(types: &TypeTable, i: usize) -> usize
+    requires { ⌜ i < 200 ⌝ }
+    ensures { λ r. ⌜ r ≡ sizesIn (now (types .entry)) i ⌝ }
+{
+    let d = type_at(types, i);
+    wide(d.size)
+}
+
+pub fn is_string(kind: StructKind) -> bool
+    ensures { λ r. ⌜ r ≡ isString kind ⌝ }
+{
+    match kind {
+        StructKind::Udt => false,
+        StructKind::Predefined => false,
+        StructKind::Str => true,
+        StructKind::Aoi => false,
+    }
+}
+
+// A string has its capacity in its second row.
+pub fn capacity_at(members: &MemberTable, first: usize) -> u32
+    requires { ⌜ first < 1999 ⌝ }
+    ensures { λ r. ⌜ r ≡ capacityAt (now (members .entry)) first ⌝ }
+{
+    let data = member_at(members, first + 1);
+    data.count
+}
+
+// A row holds a visible structure, or an array of structures.
+pub fn is_nested(members: &MemberTable, row: usize) -> bool
+    requires { ⌜ row < 2000 ⌝ }
+    ensures { λ r. ⌜ r ≡ isNested (memberAt (now (members .entry)) row) ⌝ }
+{
+    let m = member_at(members, row);
+    let hidden = m.hidden;
+    let bit = m.bit;
+    let ty = m.ty;
+    if hidden {
+        return false;
+    }
+    match bit {
+        Bit::At(_) => {
+            return false;
+        }
+        Bit::None => {
+            match ty {
+                Ty::Atomic(_) => {
+                    return false;
+                }
+                Ty::Struct(_) => {
+                    return true;
+                }
+            }
+        }
+    }
+}

@@ -1,0 +1,88 @@
+// The stored text of a string (document 01, "Reading"): handed back as that part of the caller's image.
+ghost use mathlib.Core.Path.{_≡_};
+ghost use Prim.Native.Nat.{_<_};
+ghost use Rattle.values.specs.Texts.{Held, Stored, stringNumber, textNumber};
+ghost use Rattle.values.specs.Walkable.{Walkable};
+use crate::rows::capacity_at;
+use crate::rows::is_string;
+use crate::texts::text_length;
+use types::MemberTable;
+use types::Refusal;
+use types::Ty;
+use types::TypeTable;
+use types::is_there;
+use types::type_at;
+use words::wide;
+
+// 0 where an image of so many bytes holds a text of structure i, else the refusal's number.
+fn string_number(types: &TypeTable, i: usize, long: usize) -> u8
+    requires { ⌜ i < 200 ⌝ }
+    ensures { λ r. ⌜ r ≡ stringNumber (now (types .entry)) i long ⌝ }
+{
+    let d = type_at(types, i);
+    let kind = d.kind;
+    let string = is_string(kind);
+    if string {
+        if long == wide(d.size) {
+            return 0;
+        }
+        return Refusal::ImageLength.number();
+    }
+    Refusal::NoSuchType.number()
+}
+
+// The same of a type.
+fn text_number(types: &TypeTable, ty: Ty, image: &[u8]) -> u8
+    ensures { λ r. ⌜ r ≡ textNumber (now (types .entry)) ty (now (image .entry)) ⌝ }
+{
+    let there = is_there(types, ty);
+    if there {
+        match ty {
+            Ty::Atomic(_) => {
+                return Refusal::NoSuchType.number();
+            }
+            Ty::Struct(i) => {
+                return string_number(types, i, image.len());
+            }
+        }
+    }
+    Refusal::NoSuchType.number()
+}
+
+// How many bytes of an image that is not refused are its text.
+fn text_bytes(types: &TypeTable, members: &MemberTable, ty: Ty, image: &[u8]) -> usize
+    requires { ⌜ Walkable (now types) (now members) × (textNumber (now types) ty (now image) ≡ 0) ⌝ }
+    ensures { λ r. ⌜ Held (now (types .entry)) (now (members .entry)) ty (now (image .entry)) r ⌝ }
+{
+    match ty {
+        Ty::Atomic(_) => {
+            return 0;
+        }
+        Ty::Struct(i) => {
+            let d = type_at(types, i);
+            let capacity = capacity_at(members, wide(d.first));
+            return text_length(capacity, image);
+        }
+    }
+}
+
+// The text's part of the image and 0; or an empty part and the refusal's number, 15 or 14.
+pub fn text<'a>(
+    types: &TypeTable,
+    members: &MemberTable,
+    ty: Ty,
+    image: &'a [u8],
+    why: &mut u8,
+) -> &'a [u8]
+    requires { ⌜ Walkable (now types) (now members) ⌝ }
+    ensures { λ r. ⌜ Stored (now (types .entry)) (now (members .entry)) ty (now (image .entry)) (now (why .exit))
+        (now r) ⌝ }
+{
+    let number = text_number(types, ty, image);
+    *why = number;
+    if number == 0 {
+        let end = 4 + text_bytes(types, members, ty, image);
+        return &image[4..end];
+    }
+    &image[0..0]
+}
