@@ -4,53 +4,34 @@ use Prim.Native.Nat.{ℕ, _+_, _*_}
 use native.Mathlib.Omega.{arith}
 use mathlib.Core.Path.{_≡_, refl, sym, ap, _∙_}
 use mathlib.Core.Bool.{Bool, true, false}
-use mathlib.Core.List.{List, [], _++_}
+use mathlib.Core.List.{List, []}
 use borrow.Author.Tests.{eq-eqb, ne-eqb}
 use lib.ListN.{length, take, drop}
 use lib.Seq.{sets, take-all}
-use Rattle.words.specs.Bits.{Bits, flat}
+use Rattle.words.specs.Bits.{flat}
 use Rattle.words.specs.Words.{part}
 use Rattle.types.specs.Atomic.{bitString, sizeOf}
 use Rattle.types.specs.Layout.{times}
 use Rattle.types.specs.declared.atomic.Atomic.{Atomic}
-use Rattle.types.specs.declared.atomic.Atomic.the-variants as atomic
 use Rattle.types.proofs.LayoutLaws.{times-one, times-same}
-use Rattle.values.specs.Leaf.{emit, leafOf}
-use Rattle.values.specs.Stream.{bodyOf, bodies, entryBytes}
+use Rattle.values.specs.Stream.{bodies, entryBytes}
 use Rattle.values.specs.Laying.{Put}
 use Rattle.values.specs.Walk.{upTo, bitsOut, numberOut, elementOut, numbersOut, atomicsOut}
-use Rattle.values.proofs.HeadLaws.{put-wrap, length-wrap, up-length, up-plain}
-
--- an atomic is no text
-leaf-plain : (a : Atomic) (b : Bits) → bodyOf (emit (leafOf a) b) ≡ []
-leaf-plain atomic.Bool b = refl
-leaf-plain atomic.SInt b = refl
-leaf-plain atomic.Int b = refl
-leaf-plain atomic.DInt b = refl
-leaf-plain atomic.LInt b = refl
-leaf-plain atomic.USInt b = refl
-leaf-plain atomic.UInt b = refl
-leaf-plain atomic.UDInt b = refl
-leaf-plain atomic.ULInt b = refl
-leaf-plain atomic.Real b = refl
-leaf-plain atomic.LReal b = refl
-leaf-plain atomic.Byte b = refl
-leaf-plain atomic.Word b = refl
-leaf-plain atomic.DWord b = refl
-leaf-plain atomic.LWord b = refl
+use Rattle.values.proofs.LeafLaws.{textless-emit}
+use Rattle.values.proofs.PutLaws.{put-wrap}
+use Rattle.values.proofs.UpLaws.{up-ones, up-bodies, wrap-length}
 
 module _ (a : Atomic) (n : ℕ) (s : List ℕ) where
   elements-plain : bodies (upTo (elementOut a s) n) ≡ []
   elements-plain =
-      up-plain (elementOut a s) n
-      (λ k. unfold bodies in ap (λ (l : List ℕ). l ++ []) (leaf-plain a (flat (part s (sizeOf a * k) (sizeOf a)))))
+      up-bodies (elementOut a s) (λ k. textless-emit a (flat (part s (sizeOf a * k) (sizeOf a))) .none) n
 
   pub elements-long : length (upTo (elementOut a s) n) ≡ n
-  elements-long = up-length (elementOut a s) n (λ k. refl)
+  elements-long = up-ones (elementOut a s) n (λ k. refl)
 
   pub numbers-long : length (numbersOut a n s) ≡ n + 2
   unfolding numbersOut
-  numbers-long = length-wrap 10 11 (upTo (elementOut a s) n) ∙ ap (λ (k : ℕ). k + 2) elements-long
+  numbers-long = wrap-length 10 11 (upTo (elementOut a s) n) ∙ omega (arith, elements-long)
 
   pub numbers-put : {out first new last : List ℕ} {at p : ℕ} → first ≡ sets out at (entryBytes 10 0)
       → Put first (at + 12) (upTo (elementOut a s) n) new p → last ≡ sets new p (entryBytes 11 0)

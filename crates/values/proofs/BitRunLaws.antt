@@ -14,9 +14,8 @@ use Rattle.words.proofs.BitLaws.{flat-at}
 use Rattle.values.specs.Stream.{Token, bool, entryBytes, bodies}
 use Rattle.values.specs.Laying.{Put}
 use Rattle.values.specs.Walk.{upTo, bitToken, bitsOut}
-use Rattle.values.proofs.HeadLaws.{put-length, put-none, put-one, put-then, put-as, put-wrap, length-wrap}
-use Rattle.values.proofs.HeadLaws.{up-split, up-length, up-plain}
-use Rattle.values.proofs.WalkLaws.{up-ext}
+use Rattle.values.proofs.PutLaws.{put-length, put-none, put-one, put-then, put-as, put-wrap}
+use Rattle.values.proofs.UpLaws.{up-ext, up-split, up-ones, up-bodies, wrap-length}
 
 -- ---- the bits of a byte
 
@@ -39,10 +38,10 @@ pub record LowBits (x : ℕ) (out : List ℕ) (at k : ℕ) (new : List ℕ) : Ty
   pub long : length new ≡ length out
 
 bits-plain : (s : List ℕ) (n : ℕ) → bodies (upTo (bitToken s) n) ≡ []
-bits-plain s n = up-plain (bitToken s) n (λ k. unfold bodies in refl)
+bits-plain s n = up-bodies (bitToken s) (λ k. unfold bodies in refl) n
 
 bits-length : (s : List ℕ) (n : ℕ) → length (upTo (bitToken s) n) ≡ n
-bits-length s n = up-length (bitToken s) n (λ k. refl)
+bits-length s n = up-ones (bitToken s) n (λ k. refl)
 
 -- one bit more, so many bytes on
 pub next-bit : (d : ℕ) {x : ℕ} {out new last : List ℕ} {at k r : ℕ} → LowBits x out at k new → k < 8 → d ≡ 12 * k
@@ -53,7 +52,7 @@ next-bit d {x} {out} {new} {last} {at} {k} {r} l h n b e =
     let g : last ≡ sets new (at + 12 * k) (entryBytes 1 (digit (flat (x ∷ []) k))) = e ∙ rw (n, f) in
     let q : at + 12 * suc k ≡ at + 12 * k + 12 = omega arith in
     record {
-      put = rw q (put-then (bits-plain (x ∷ []) k) (l .put) (put-one (bool (flat (x ∷ []) k)) g));
+      put = rw q (put-then (bits-plain (x ∷ []) k) (l .put) (put-one (bool (flat (x ∷ []) k)) refl refl g));
       long = ap length e ∙ length-sets new (at + d) (entryBytes 1 r) ∙ l .long;
     }
 
@@ -108,7 +107,7 @@ byte-more {s} {first} {out} {new} {at} {p} {i} w h v =
 -- all bits, between the brackets
 pub bits-long : (s : List ℕ) (n : ℕ) → length (bitsOut s n) ≡ n + 2
 unfolding bitsOut
-bits-long s n = length-wrap 10 11 (upTo (bitToken s) n) ∙ omega (arith, bits-length s n)
+bits-long s n = wrap-length 10 11 (upTo (bitToken s) n) ∙ omega (arith, bits-length s n)
 
 pub bits-put : {s out first new last : List ℕ} {at p i : ℕ} → first ≡ sets out at (entryBytes 10 0)
     → FirstBytes s first (at + 12) new p i → length s ≤ i → last ≡ sets new p (entryBytes 11 0)

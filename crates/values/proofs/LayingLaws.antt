@@ -16,6 +16,7 @@ use Rattle.values.specs.declared.place.Place.{Place}
 use Rattle.values.proofs.EntryLaws.{heads-append, bodies-append, texts-append, length-heads}
 use Rattle.values.proofs.EntryLaws.{textless-member, textless-mark}
 use Rattle.values.proofs.PutLaws.{put-one, put-wrote}
+use Rattle.values.proofs.UpLaws.{up-more, up-split}
 
 -- ---- one run after another
 
@@ -144,16 +145,6 @@ module _ (out : List ℕ) {mid : List ℕ} {base at text j : ℕ} {ts : List Tok
   value-wrote w = wrote-then {ts = member j ∷ []} {us = ts} room number w
 
 -- ---- a run in a loop
-
-up-more : (g : ℕ → List Token) (n : ℕ) → upTo g (n + 1) ≡ upTo g n ++ g n
-unfolding upTo
-up-more g n = rw add-one
-
-up-split : (g : ℕ → List Token) (i k : ℕ) → upTo g (i + k) ≡ upTo g i ++ upTo (λ j. g (i + j)) k
-unfolding upTo
-up-split g i zero = rw add-zero (sym (append-nil (upTo g i)))
-up-split g i (suc k) =
-    rw (add-suc, up-split g i k) (append-assoc (upTo g i) (upTo (λ j. g (i + j)) k) (g (i + k)))
 
 -- n parts in brackets, the last of them of kind c, of which i are written: what stands, and the room for all and the
 -- bracket

@@ -37,7 +37,7 @@ use Rattle.values.proofs.PutLaws.{put-none, put-one, put-first}
 textless-wrap : (start stop : ℕ) {ts : List Token} → Textless ts → Textless (wrap start stop ts)
 textless-wrap start stop h = textless-append (textless-mark start) (textless-append h (textless-mark stop))
 
-textless-emit : (a : Atomic) (b : Bits) → Textless (emit (leafOf a) b ∷ [])
+pub textless-emit : (a : Atomic) (b : Bits) → Textless (emit (leafOf a) b ∷ [])
 textless-emit atomic.Bool b = textless-bool _
 textless-emit atomic.SInt b = textless-number _ _
 textless-emit atomic.Int b = textless-number _ _

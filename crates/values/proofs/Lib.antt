@@ -5,7 +5,6 @@ pub mod CountLaws
 pub mod CountLeaves
 pub mod CountRows
 pub mod EntryLaws
-pub mod HeadLaws
 pub mod KeptWalkable
 pub mod LayingLaws
 pub mod LeafLaws
@@ -24,4 +23,5 @@ pub mod StreamLaws
 pub mod TextCountLaws
 pub mod TextLaws
 pub mod TreeLaws
+pub mod UpLaws
 pub mod WalkLaws

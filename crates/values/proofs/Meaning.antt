@@ -36,8 +36,8 @@ use Rattle.values.specs.Walk.{bytesBy, memberBy, rowBy, membersBy, struc
 use Rattle.values.specs.Walkable.{Within, IsString, WalkableType, Walkable}
 use Rattle.values.proofs.SpanLaws.{Many, one, some, many, leaf-room, all-bits, Sound, value-span, value-inside}
 use Rattle.values.proofs.SpanLaws.{sound-below, capacity-is, earlier, sound-within, sound-all}
-use Rattle.values.proofs.TreeLaws.{Inside, read-append, read-between, part-read, chars-part, up-cons, each-up}
-use Rattle.values.proofs.WalkLaws.{up-ext}
+use Rattle.values.proofs.TreeLaws.{Inside, read-append, read-between, part-read, chars-part, each-up}
+use Rattle.values.proofs.UpLaws.{up-cons, up-ext}
 
 -- ---- parts of an image have bytes
 

@@ -3,13 +3,14 @@
 use Prim.Native.Nat.{ℕ, _+_}
 use native.Mathlib.Nat.{add-zero}
 use native.Mathlib.Omega.{arith}
-use mathlib.Core.Path.{_≡_, refl, sym, ap, ap₂, _∙_}
+use mathlib.Core.Path.{_≡_, refl, sym, ap, ap₂, _∙_, subst}
 use mathlib.Core.List.{List, [], _∷_, _++_}
 use lib.ListN.{length, length-append}
 use lib.Seq.{sets, length-sets}
 use Rattle.words.proofs.Lists.{sets-append}
 use Rattle.values.specs.Laying.{Put, Wrote, laid}
-use Rattle.values.specs.Stream.{Token, kindOf, payloadOf, entryBytes, heads, bodies}
+use Rattle.values.specs.Stream.{Token, mark, kindOf, payloadOf, entryBytes, heads, bodies}
+use Rattle.values.specs.Walk.{wrap}
 use Rattle.values.proofs.EntryLaws.{heads-append, heads-one, length-heads, Textless}
 
 pub put-length : {out new : List ℕ} {at r : ℕ} {ts : List Token} → Put out at ts new r → length new ≡ length out
@@ -61,3 +62,14 @@ put-wrote {out} {new} {at} {r} {ts} base text h w =
       texts = rw (h .none, add-zero);
       bytes = unfold laid in w .bytes ∙ rw (h .anywhere text, h .none);
     }
+
+-- the same entries
+pub put-as : {out new : List ℕ} {at r : ℕ} {ts us : List Token} → ts ≡ us → Put out at ts new r → Put out at us new r
+put-as {out} {new} {at} {r} e w = subst (λ (ts : List Token). Put out at ts new r) e w
+
+-- brackets around entries
+pub put-wrap : (start stop : ℕ) {out first new last : List ℕ} {at p : ℕ} {ts : List Token} → bodies ts ≡ []
+    → first ≡ sets out at (entryBytes start 0) → Put first (at + 12) ts new p → last ≡ sets new p (entryBytes stop 0)
+    → Put out at (wrap start stop ts) last (p + 12)
+put-wrap start stop b d v e =
+    put-first (mark start) (unfold bodies in refl) refl refl d (put-next (mark stop) b v refl refl e)

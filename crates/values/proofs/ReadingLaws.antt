@@ -20,12 +20,13 @@ use Rattle.types.specs.declared.atomic.Atomic.{Atomic}
 use Rattle.types.specs.declared.member.Ty.{Ty}
 use Rattle.types.specs.declared.member.Ty.the-variants as ty
 use Rattle.types.specs.declared.refusal.Refusal.the-variants.{ImageLength, NoSuchType, NoRoom}
+use Rattle.types.proofs.LayoutLaws.{times-one, times-same}
 use Rattle.values.specs.declared.count.Tally.{Tally}
 use Rattle.values.specs.declared.place.Place.{Place}
 use Rattle.values.specs.declared.reading.Streamed.{Streamed}
 use Rattle.values.specs.declared.reading.Streamed.the-variants.{Length, Refused}
 use Rattle.values.specs.Counting.{Counted, Texts}
-use Rattle.values.specs.Laying.{laid, Room, Wrote}
+use Rattle.values.specs.Laying.{laid, Wrote}
 use Rattle.values.specs.Stream.{Token, bodies, mostBytes, streamBytes}
 use Rattle.values.specs.Tree.{items, read}
 use Rattle.values.specs.Trees.{knownIn, treeOfValue}
@@ -33,7 +34,8 @@ use Rattle.values.specs.Walk.{atomicsOut, elementsBy, structOut, structs
 use Rattle.values.specs.Walkable.{ImageOf, ImagesOf, ValueImage, Walkable}
 use Rattle.values.proofs.Meaning.{meaning}
 use Rattle.values.proofs.StreamLaws.{stream-long, stream-laid}
-use Rattle.values.specs.Reading.{streamOf, valueStream, imageFits, hasRoom, streamAnswer, readAnswer, leftBy, Answered, Written}
+use Rattle.values.specs.Reading.{streamOf, valueStream, imageFits, hasRoom, streamAnswer, readAnswer}
+use Rattle.values.specs.Reading.{Answered, Written}
 
 -- ---- one way out each
 
@@ -91,21 +93,13 @@ module _ (long size n : ℕ) (some : size ≡ 0 → ⊥) where
 
 -- ---- a value is an atomic or a structure, one or an array
 
-pub times-one : (n : ℕ) → n ≡ 0 → times n ≡ 1
-unfolding times
-times-one n e = rw e refl
-
-pub times-some : (n : ℕ) → (n ≡ 0 → ⊥) → times n ≡ n
-unfolding times
-times-some n e = rw (ne-eqb n 0 e)
-
 module _ (types : List ℕ) (i n : ℕ) (image : List ℕ) (v : ImagesOf types i (times n) image) where
   pub image-one : n ≡ 0 → ImageOf types i image
   image-one e =
-      record { low = v .low; long = v .long ∙ ap (λ (k : ℕ). sizesIn types i * k) (times-one n e) ∙ mul-one _ }
+      record { low = v .low; long = v .long ∙ ap (λ (k : ℕ). sizesIn types i * k) (sym (times-one n e)) ∙ mul-one _ }
 
   pub image-some : (n ≡ 0 → ⊥) → ImagesOf types i n image
-  image-some e = record { low = v .low; long = v .long ∙ ap (λ (k : ℕ). sizesIn types i * k) (times-some n e) }
+  image-some e = record { low = v .low; long = v .long ∙ ap (λ (k : ℕ). sizesIn types i * k) (sym (times-same n e)) }
 
 -- the image of a value of a structure
 pub images : (types : List ℕ) (t : Ty) (i n : ℕ) (image : List ℕ) → t ≡ ty.Struct i → ValueImage types t n image
@@ -144,17 +138,6 @@ counted-as same c =
       plain = λ p image. ap bodies (same image) ∙ c .plain p image;
       small = c .small;
     }
-
-pub texts-as : {room : ℕ} {ts us : List Token} {r : ℕ} → us ≡ ts → Texts room ts r → Texts room us r
-texts-as e t = rw e t
-
-pub room-as : {long base at text : ℕ} {ts us : List Token} → ts ≡ us → Room long base at text ts
-    → Room long base at text us
-room-as e t = rw (← e) t
-
-pub wrote-as : {out : List ℕ} {base at text : ℕ} {ts us : List Token} {new : List ℕ} {p : Place} → us ≡ ts
-    → Wrote out base at text ts new p → Wrote out base at text us new p
-wrote-as e t = rw e t
 
 -- entries of which none is a text have no bytes of text
 pub no-texts : {room : ℕ} {ts : List Token} → bodies ts ≡ [] → Texts room ts 0

@@ -24,7 +24,7 @@ use Rattle.values.proofs.EntryLaws.{bodies-one, plain-append, Textless,
 use Rattle.values.proofs.EntryLaws.{textless-up}
 use Rattle.values.proofs.NumberLaws.{number-form, truth-form, fill-fits}
 use Rattle.values.proofs.PutLaws.{put-length, put-none, put-next}
-use Rattle.values.proofs.WalkLaws.{up-ext}
+use Rattle.values.proofs.UpLaws.{up-ext}
 
 -- one entry for each of the first i elements
 abbrev pub ones : (ℕ → Token) → ℕ → List Token

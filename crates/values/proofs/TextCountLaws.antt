@@ -1,113 +1,28 @@
 -- The bytes of text of some entries (document 01, "Value stream"): those of runs and brackets, the promise of one part
 -- more within the room, and the sum that a loop has so far. Entries of atomics have no text.
-use Prim.Native.Nat.{ℕ, zero, suc, _+_, _-_, _*_, _^_, _<_, _≤_}
+use Prim.Native.Nat.{ℕ, zero, suc, _+_, _-_, _^_, _<_, _≤_}
 use native.Mathlib.Nat.{add-zero}
 use native.Mathlib.Numerals.{add-one}
 use native.Mathlib.Omega.{arith}
-use mathlib.Core.Path.{_≡_, refl, sym, ap, ap₂, _∙_, subst}
-use mathlib.Core.Bool.{Bool, true, false, cond}
-use mathlib.Core.List.{List, [], _∷_, _++_, append-assoc, append-nil}
-use lib.Dec.{eqb}
+use mathlib.Core.Path.{_≡_, refl, sym, ap, _∙_, subst}
+use mathlib.Core.Bool.{true, false}
+use mathlib.Core.List.{List, [], _∷_, _++_, append-nil}
 use lib.ListN.{length, length-append}
-use Rattle.words.specs.Bits.{Bits, flat}
 use Rattle.words.specs.Words.{part}
 use Rattle.words.proofs.Lists.{length-part}
-use Rattle.types.specs.Atomic.{bitString, sizeOf}
-use Rattle.types.specs.Layout.{times}
 use Rattle.types.specs.Tables.{memberAt, typeAt}
-use Rattle.types.specs.declared.atomic.Atomic.{Atomic}
-use Rattle.types.specs.declared.atomic.Atomic.the-variants as atomic
-use Rattle.types.specs.declared.member.Bit.{Bit}
-use Rattle.types.specs.declared.member.Bit.the-variants.{None, At}
-use Rattle.types.specs.declared.member.Member.{Member}
-use Rattle.types.specs.declared.member.Ty.{Ty}
-use Rattle.types.specs.declared.member.Ty.the-variants as ty
 use Rattle.values.specs.Counting.{Texts}
-use Rattle.values.specs.Leaf.{emit, leafOf}
-use Rattle.values.specs.Stream.{Token, member, mark, bodyOf, bodies}
+use Rattle.values.specs.Stream.{Token, member, bodies}
 use Rattle.values.specs.Trees.{isString}
-use Rattle.values.specs.Walk.{upTo, wrap, bitToken, bitsOut, numberOut, elementOut, numbersOut, atomicsOut}
-use Rattle.values.specs.Walk.{textLength, textOut, capacityAt, isNested, bitOut, leafValue, leafOut}
+use Rattle.values.specs.Walk.{upTo, wrap}
+use Rattle.values.specs.Walk.{textLength, textOut, capacityAt, isNested}
 use Rattle.values.specs.Walk.{memberBy, rowBy, membersBy, structBy, structOut}
 use Rattle.values.specs.Walkable.{IsString, Walkable, ImageOf}
+use Rattle.values.proofs.EntryLaws.{bodies-append}
+use Rattle.values.proofs.LeafLaws.{textless-leaf}
 use Rattle.values.proofs.MemberLaws.{member-leaf}
+use Rattle.values.proofs.UpLaws.{wrap-bodies}
 use Rattle.values.proofs.WalkLaws.{struct-out}
-
--- ---- the texts of runs and brackets
-
-pub bodies-append : (x y : List Token) → bodies (x ++ y) ≡ bodies x ++ bodies y
-unfolding bodies
-bodies-append [] y = refl
-bodies-append (t ∷ x) y = ap (bodyOf t ++_) (bodies-append x y) ∙ sym (append-assoc (bodyOf t) (bodies x) (bodies y))
-
-pub bodies-wrap : (start stop : ℕ) (ts : List Token) → bodies (wrap start stop ts) ≡ bodies ts
-unfolding bodies
-bodies-wrap start stop ts = bodies-append ts (mark stop ∷ []) ∙ append-nil (bodies ts)
-
-pub bodies-up : (g : ℕ → List Token) → ((k : ℕ) → bodies (g k) ≡ []) → (n : ℕ) → bodies (upTo g n) ≡ []
-unfolding upTo bodies
-bodies-up g e zero = refl
-bodies-up g e (suc n) = bodies-append (upTo g n) (g n) ∙ ap₂ _++_ (bodies-up g e n) (e n)
-
--- ---- entries without text
-
-number-plain : (a : Atomic) (b : Bits) → bodyOf (emit (leafOf a) b) ≡ []
-number-plain atomic.Bool b = refl
-number-plain atomic.SInt b = refl
-number-plain atomic.Int b = refl
-number-plain atomic.DInt b = refl
-number-plain atomic.LInt b = refl
-number-plain atomic.USInt b = refl
-number-plain atomic.UInt b = refl
-number-plain atomic.UDInt b = refl
-number-plain atomic.ULInt b = refl
-number-plain atomic.Real b = refl
-number-plain atomic.LReal b = refl
-number-plain atomic.Byte b = refl
-number-plain atomic.Word b = refl
-number-plain atomic.DWord b = refl
-number-plain atomic.LWord b = refl
-
-one-plain : (a : Atomic) (image : List ℕ) → bodies (numberOut a image) ≡ []
-unfolding bodies
-one-plain a image = ap (_++ []) (number-plain a (flat image))
-
-bits-plain : (image : List ℕ) (n : ℕ) → bodies (bitsOut image n) ≡ []
-unfolding bitsOut
-bits-plain image n =
-    bodies-wrap 10 11 (upTo (bitToken image) n) ∙ bodies-up (bitToken image) (λ k. unfold bodies in refl) n
-
-numbers-plain : (a : Atomic) (n : ℕ) (image : List ℕ) → bodies (numbersOut a n image) ≡ []
-unfolding numbersOut
-numbers-plain a n image =
-    bodies-wrap 10 11 (upTo (elementOut a image) n)
-    ∙ bodies-up (elementOut a image) (λ k. one-plain a (part image (sizeOf a * k) (sizeOf a))) n
-
-either-plain : (b : Bool) (x y : List Token) → bodies x ≡ [] → bodies y ≡ [] → bodies (cond b x y) ≡ []
-either-plain true x y p q = p
-either-plain false x y p q = q
-
-pub atomics-plain : (a : Atomic) (n : ℕ) (image : List ℕ) → bodies (atomicsOut a n image) ≡ []
-unfolding atomicsOut
-atomics-plain a n image =
-    either-plain (bitString a) _ _ (bits-plain image (8 * (sizeOf a * times n)))
-    (either-plain (eqb n 0) _ _ (one-plain a image) (numbers-plain a n image))
-
-value-plain : (t : Ty) (n : ℕ) (bytes : ℕ → List ℕ) → bodies (leafValue t n bytes) ≡ []
-value-plain (ty.Atomic a) n bytes = atomics-plain a n (bytes (sizeOf a * times n))
-value-plain (ty.Struct i) n bytes = unfold bodies in refl
-
-bit-plain : (b : Bit) (f : ℕ → List Token) (ts : List Token) → ((k : ℕ) → bodies (f k) ≡ []) → bodies ts ≡ []
-    → bodies (bitOut b f ts) ≡ []
-bit-plain None f ts p q = q
-bit-plain (At k) f ts p q = p k
-
--- a member that is no structure
-pub leaf-plain : (j : ℕ) (m : Member) (image : List ℕ) → bodies (leafOut j m image) ≡ []
-unfolding leafOut bodies
-leaf-plain j m image =
-    either-plain (m .hidden) [] _ refl
-    (bit-plain (m .bit) _ _ (λ k. refl) (value-plain (m .ty) (m .count) (part image (m .offset))))
 
 -- ---- the promise
 
@@ -125,7 +40,7 @@ texts-same e w =
     }
 
 pub texts-wrap : {room r : ℕ} {ts : List Token} (start stop : ℕ) → Texts room ts r → Texts room (wrap start stop ts) r
-texts-wrap {ts = ts} start stop w = texts-same (sym (bodies-wrap start stop ts)) w
+texts-wrap {ts = ts} start stop w = texts-same (sym (wrap-bodies start stop ts)) w
 
 pub texts-member : {room r : ℕ} {ts : List Token} (j : ℕ) → Texts room ts r → Texts room (member j ∷ ts) r
 unfolding bodies
@@ -250,7 +165,7 @@ module _ {types members : List ℕ} {i room j t : ℕ} {image : List ℕ} (w : R
       rows-plain h =
           let m = memberAt members (typeAt types i .first + j) in
           let leaf = member-leaf types members (structOut types members) j m image (rw e at h) in
-          record { sum = sum-plain (w .sum) (omega arith) (ap bodies leaf ∙ leaf-plain j m image) }
+          record { sum = sum-plain (w .sum) (omega arith) (ap bodies leaf ∙ textless-leaf j image m .none) }
 
 pub members-texts : {types members : List ℕ} {i room r : ℕ} {image : List ℕ} → Walkable types members
     → ImageOf types i image → isString (typeAt types i .kind) ≡ false

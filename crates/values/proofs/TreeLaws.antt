@@ -15,6 +15,7 @@ use Rattle.values.specs.Stream.{Token, bool, number, text, member, mark}
 use Rattle.values.specs.Tree.{Tree, leaf, bits, array, struct, Branches, none, branch, room, allBits, span}
 use Rattle.values.specs.Tree.{Item, say, at, each, between, oneFlag, items, branchItems, read}
 use Rattle.values.specs.Walk.{upTo, wrap}
+use Rattle.values.proofs.UpLaws.{up-cons}
 
 -- ---- reading some items
 
@@ -199,12 +200,6 @@ chars-part (suc n) s a b h =
     rw (e, drop-cons s a 0 (omega arith)) (ap₂ _∷_ (byte-val s a (b a)) (chars-part n s (suc a) b (omega arith)))
 
 -- ---- runs
-
-pub up-cons : (g : ℕ → List Token) (n : ℕ) → upTo g (suc n) ≡ g 0 ++ upTo (λ k. g (suc k)) n
-unfolding upTo
-up-cons g zero = sym (append-nil (g 0))
-up-cons g (suc n) =
-    ap (_++ g (suc n)) (up-cons g n) ∙ append-assoc (g 0) (upTo (λ k. g (suc k)) n) (g (suc n))
 
 pub each-up : (n : ℕ) (f : ℕ → List Item) (w p : ℕ) (x : Bits)
     → read (each n f w p) x ≡ upTo (λ k. read (f (p + w * k)) x) n

@@ -1,5 +1,5 @@
--- The walk over the tables (document 01, "Reading"): a structure holds only earlier ones, so that it is what its rows say
--- with each nested structure as it is, however deep nesting was allowed for.
+-- The walk over the tables (document 01, "Reading"): a structure holds only earlier ones, so that it is what its rows
+-- say with each nested structure as it is, however deep nesting was allowed for.
 use Prim.Native.Nat.{ℕ, zero, suc, _+_, _*_, _<_, _≤_}
 use native.Mathlib.Omega.{arith}
 use mathlib.Core.Path.{_≡_, refl, sym, ap, ap₂, _∙_}
@@ -18,31 +18,29 @@ use Rattle.types.specs.declared.member.Ty.{Ty}
 use Rattle.types.specs.declared.member.Ty.the-variants as ty
 use Rattle.values.specs.Stream.{Token, bool, member}
 use Rattle.values.specs.Trees.{isString}
-use Rattle.values.specs.Walk.{upTo, wrap, atomicsOut, textOut, capacityAt, bitOut, elementBy, elementsBy, structsBy}
+use Rattle.values.specs.Walk.{wrap, textOut, capacityAt, bitOut, elementBy, elementsBy, structsBy}
 use Rattle.values.specs.Walk.{valueBy, bytesBy, memberBy, rowBy, membersBy, structBy, structWithin, structOut}
 use Rattle.values.specs.Walkable.{WalkableType, Walkable}
-
--- runs that agree element for element
-pub up-ext : (g h : ℕ → List Token) (n : ℕ) → ((k : ℕ) → k < n → g k ≡ h k) → upTo g n ≡ upTo h n
-unfolding upTo
-up-ext g h zero e = refl
-up-ext g h (suc n) e = ap₂ _++_ (up-ext g h n (λ k l. e k (omega arith))) (e n (omega arith))
+use Rattle.values.proofs.UpLaws.{up-ext}
 
 -- ---- what the nested structures give is all that matters
 
 module _ (types members : List ℕ) (f g : ℕ → List ℕ → List Token) (i : ℕ)
     (same : (s : ℕ) (image : List ℕ) → s < i → f s image ≡ g s image) where
-  elements-same : (s n : ℕ) (image : List ℕ) → s < i → elementsBy types members f s n image ≡ elementsBy types members g s n image
+  elements-same : (s n : ℕ) (image : List ℕ) → s < i
+      → elementsBy types members f s n image ≡ elementsBy types members g s n image
   unfolding elementsBy
   elements-same s n image l =
       ap (wrap 10 11) (up-ext (elementBy types members f s image) (elementBy types members g s image) n
       (λ k h. same s (part image (sizesIn types s * k) (sizesIn types s)) l))
 
-  structs-same : (s n : ℕ) (image : List ℕ) → s < i → structsBy types members f s n image ≡ structsBy types members g s n image
+  structs-same : (s n : ℕ) (image : List ℕ) → s < i
+      → structsBy types members f s n image ≡ structsBy types members g s n image
   unfolding structsBy
   structs-same s n image l = ap₂ (cond (eqb n 0)) (same s image l) (elements-same s n image l)
 
-  value-same : (t : Ty) (n : ℕ) (image : List ℕ) → Earlier i t → valueBy types members f t n image ≡ valueBy types members g t n image
+  value-same : (t : Ty) (n : ℕ) (image : List ℕ) → Earlier i t
+      → valueBy types members f t n image ≡ valueBy types members g t n image
   value-same (ty.Atomic a) n image l = refl
   value-same (ty.Struct s) n image l = structs-same s n image l
 
@@ -60,7 +58,8 @@ module _ (types members : List ℕ) (f g : ℕ → List ℕ → List Token) (i :
   struct-same w image =
       ap (λ (ts : List Token). cond (isString (typeAt types i .kind))
       (textOut (capacityAt members (typeAt types i .first)) image) (wrap 8 9 ts))
-      (up-ext (rowBy types members f (typeAt types i .first) image) (rowBy types members g (typeAt types i .first) image)
+      (up-ext (rowBy types members f (typeAt types i .first) image)
+      (rowBy types members g (typeAt types i .first) image)
       (typeAt types i .count)
       (λ k h. member-same k (memberAt members (typeAt types i .first + k)) image (w .each k h .earlier)))
 

@@ -59,5 +59,5 @@ pub record Answered (types members : List ℕ) (t : Ty) (n : ℕ) (image out : L
 pub record Written (types members : List ℕ) (t : Ty) (n : ℕ) (image out : List ℕ) (r : Streamed) (new : List ℕ)
     : Type 0 where
   pub answer : r ≡ streamAnswer (valueStream types members t n image) (length out)
-  pub leaves : new
-      ≡ leftBy (streamAnswer (valueStream types members t n image) (length out)) out (valueStream types members t n image)
+  pub leaves : new ≡ leftBy (streamAnswer (valueStream types members t n image) (length out)) out
+      (valueStream types members t n image)

@@ -1,5 +1,5 @@
--- The value stream (document 01, "Value stream"): its entries, each with its text, the twelve bytes of an entry, and the
--- bytes of the whole.
+-- The value stream (document 01, "Value stream"): its entries, each with its text, the twelve bytes of an entry, and
+-- the bytes of the whole.
 use Prim.Native.Nat.{ℕ, _+_, _*_, _^_}
 use mathlib.Core.Bool.{Bool}
 use mathlib.Core.List.{List, [], _∷_, _++_}

@@ -1,5 +1,5 @@
--- The walk that the code makes over the tables: the entries of a value, each member read from its own part of the image.
--- That it is the reading of the type's tree is the law `meaning`.
+-- The walk that the code makes over the tables (document 01, "Reading"): the entries of a value, each member read from
+-- its own part of the image. That it is the reading of the type's tree is the law `meaning`.
 use Prim.Native.Nat.{ℕ, zero, suc, _+_, _*_, min}
 use mathlib.Core.Bool.{Bool, true, false, cond}
 use mathlib.Core.List.{List, [], _∷_, _++_}

@@ -1,5 +1,5 @@
-// The bytes of text that a value has (document 01, "Value stream"), from the LEN of each of its strings. It stops as soon
-// as the room is passed.
+// The bytes of text that a value has (document 01, "Value stream"), from the LEN of each of its strings. It stops as
+// soon as the room is passed.
 ghost use mathlib.Core.Path.{_≡_};
 ghost use Prim.Native.Nat.{ℕ, _+_, _*_, _<_, _≤_};
 ghost use lib.ListN.{length};
@@ -123,8 +123,8 @@ pub fn text_elements(
     requires { ⌜ Walkable (now types) (now members)
         × (ImagesOf (now types) i n (now image) × (room ≤ 2147483648)) ⌝ }
     ensures { λ r. ⌜ Texts room
-        (elementsBy (now (types .entry)) (now (members .entry)) (structOut (now (types .entry)) (now (members .entry))) i n
-        (now (image .entry))) r ⌝ }
+        (elementsBy (now (types .entry)) (now (members .entry)) (structOut (now (types .entry)) (now (members .entry)))
+        i n (now (image .entry))) r ⌝ }
 {
     let size = struct_size(types, i);
     let mut t: usize = 0;

@@ -159,7 +159,8 @@ fn read_structs(
     requires { ⌜ Room (length (now out)) base 4 0
         (valueOut (now types) (now members) (Ty.Struct i) n (now image)) ⌝ }
     ensures { λ r. ⌜ Wrote (now (out .entry)) base 4 0
-        (valueOut (now (types .entry)) (now (members .entry)) (Ty.Struct i) n (now (image .entry))) (now (out .exit)) r ⌝ }
+        (valueOut (now (types .entry)) (now (members .entry)) (Ty.Struct i) n (now (image .entry))) (now (out .exit))
+        r ⌝ }
 {
     if n == 0 {
         return read_struct(types, members, i, image, out, base, 4, 0);

@@ -23,7 +23,8 @@ use words::wide64;
 // BOOLs outside a structure: a byte each.
 fn put_truths(n: usize, s: &[u8], out: &mut [u8], at: usize) -> usize
     requires { ⌜ (n ≤ length (now s)) × (at + 12 * n ≤ length (now out)) ⌝ }
-    ensures { λ r. ⌜ Put (now (out .entry)) at (upTo (elementOut Atomic.Bool (now (s .entry))) n) (now (out .exit)) r ⌝ }
+    ensures { λ r. ⌜ Put (now (out .entry)) at (upTo (elementOut Atomic.Bool (now (s .entry))) n) (now (out .exit))
+        r ⌝ }
 {
     let mut p = at;
     let mut i: usize = 0;

@@ -224,8 +224,8 @@ pub fn read_elements(
     requires { ⌜ Room (length (now out)) base at text
         (elementsBy (now types) (now members) (structOut (now types) (now members)) i n (now image)) ⌝ }
     ensures { λ r. ⌜ Wrote (now (out .entry)) base at text
-        (elementsBy (now (types .entry)) (now (members .entry)) (structOut (now (types .entry)) (now (members .entry))) i n
-        (now (image .entry))) (now (out .exit)) r ⌝ }
+        (elementsBy (now (types .entry)) (now (members .entry)) (structOut (now (types .entry)) (now (members .entry)))
+        i n (now (image .entry))) (now (out .exit)) r ⌝ }
 {
     let size = struct_size(types, i);
     put_entry(out, at, 10, 0);

@@ -157,7 +157,8 @@ add-entry-requires c κs =
       declared =
           rw (← n .count-of2 .ensures .0)
           (turn-ready _ (s .args .members .now) _ _ (s .args .u) _ _ _ few _ (resolved .resolve .ensures)
-          (more .if2 .left) (omega (arith, few, s .pre .room)) (rw few (s .pre .inside)) (omega (arith, n .count-of2 .ensures .1)));
+          (more .if2 .left) (omega (arith, few, s .pre .room)) (rw few (s .pre .inside))
+          (omega (arith, n .count-of2 .ensures .1)));
       rows = s .pre .rows;
       bytes = s .pre .bytes;
     }

@@ -7,7 +7,7 @@ use mathlib.Core.Bool.{false}
 use lib.ListN.{length}
 use Rattle.types.specs.Atomic.{bitString}
 use Rattle.values.specs.Walk.{atomicsOut, bitsOut, elementOut, numbersOut, upTo}
-use Rattle.values.proofs.HeadLaws.{put-as}
+use Rattle.values.proofs.PutLaws.{put-as}
 use Rattle.values.proofs.AtomicRunLaws.{one-long, array-long, elements-long}
 use Rattle.values.proofs.AtomicRunLaws.{atomics-bits, atomics-one, atomics-array}
 use Rattle.values.proofs.atomics.put_atomics.Statement.{statement}

@@ -4,7 +4,7 @@ use Prim.Native.Nat.{_+_, _*_, _≤_}
 use native.Mathlib.Omega.{arith}
 use mathlib.Core.Path.{_≡_, _∙_}
 use lib.ListN.{length}
-use Rattle.values.proofs.HeadLaws.{put-length}
+use Rattle.values.proofs.PutLaws.{put-length}
 use Rattle.values.proofs.AtomicRunLaws.{elements-long, numbers-long, numbers-put}
 use Rattle.values.proofs.atomics.put_numbers.Statement.{statement}
 use Rattle.values.proofs.atomics.put_numbers.Tie as tie

@@ -42,7 +42,8 @@ product c =
     let same = at-size .before .as-size .ensures in
     let image = at-size .before .before .before .before .before .before .args .image .now in
     c .is-product .ensures
-    ∙ ap₂ (λ (s n : ℕ). eqb (length image) (s * n)) (at-size .size-of-ty .ensures) (at-times .times-of .ensures ∙ ap times same)
+    ∙ ap₂ (λ (s n : ℕ). eqb (length image) (s * n)) (at-size .size-of-ty .ensures)
+    (at-times .times-of .ensures ∙ ap times same)
 
 is-there-requires : tie.Need-is-there-requires
 is-there-requires c κs = search needs

@@ -1,5 +1,6 @@
 -- `values::read_structs` meets its contract.
-use Rattle.values.proofs.ReadingLaws.{image-one, image-some, room-as, value-one, value-some, wrote-as}
+use Rattle.values.proofs.LayingLaws.{room-as, wrote-as}
+use Rattle.values.proofs.ReadingLaws.{image-one, image-some, value-one, value-some}
 use borrow.Author.Needs.{needs}
 use Rattle.values.proofs.reading.read_structs.Statement.{statement}
 use Rattle.values.proofs.reading.read_structs.Tie as tie

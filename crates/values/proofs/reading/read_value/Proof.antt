@@ -4,7 +4,8 @@ use mathlib.Core.Path.{ap}
 use Rattle.types.specs.declared.member.Ty.{Ty}
 use Rattle.values.specs.Walk.{valueOut}
 use Rattle.values.proofs.PutLaws.{put-wrote}
-use Rattle.values.proofs.ReadingLaws.{images, room-as, value-atomic, wrote-as}
+use Rattle.values.proofs.LayingLaws.{room-as, wrote-as}
+use Rattle.values.proofs.ReadingLaws.{images, value-atomic}
 use Rattle.values.proofs.LeafLaws.{textless-atomics}
 use borrow.Author.Needs.{needs}
 use Rattle.values.proofs.reading.read_value.Statement.{statement}
@@ -62,8 +63,8 @@ returns-2 c =
     let at-ty = at-read .before .before .before in
     let at-start = at-ty .before .before .before .before in
     let a = at-start .args in
-    wrote-as (ap (λ (t : Ty). valueOut (a .types .now) (a .members .now) t (a .n) (a .image .now)) (at-ty .ty2 .given .1))
-    (at-read .read-structs .ensures)
+    wrote-as (ap (λ (t : Ty). valueOut (a .types .now) (a .members .now) t (a .n) (a .image .now))
+    (at-ty .ty2 .given .1)) (at-read .read-structs .ensures)
 
 pub read-value-spec : {M : Type 1} → statement M
 read-value-spec =

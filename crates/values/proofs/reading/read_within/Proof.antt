@@ -1,5 +1,5 @@
--- `values::read_within` meets its contract: entries and texts are counted first, so that all of the stream is written or
--- nothing.
+-- `values::read_within` meets its contract: entries and texts are counted first, so that all of the stream is written
+-- or nothing.
 use native.Mathlib.Omega.{arith}
 use mathlib.Core.Path.{_≡_, sym}
 use Rattle.values.specs.Reading.{valueStream}

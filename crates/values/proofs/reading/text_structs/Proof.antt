@@ -1,5 +1,7 @@
 -- `values::text_structs` meets its contract.
-use Rattle.values.proofs.ReadingLaws.{image-one, image-some, value-one, value-some, texts-as}
+use mathlib.Core.Path.{sym}
+use Rattle.values.proofs.ReadingLaws.{image-one, image-some, value-one, value-some}
+use Rattle.values.proofs.TextCountLaws.{texts-as}
 use Rattle.values.proofs.reading.text_structs.Statement.{statement}
 use Rattle.values.proofs.reading.text_structs.Tie as tie
 use Rattle.values.proofs.reading.text_structs.Reads as reads
@@ -22,7 +24,7 @@ returns : tie.Need-returns
 returns c =
     let at-then = c .before in
     let a = at-then .before .before .args in
-    texts-as (value-one (a .types .now) (a .members .now) (a .n) (a .image .now) (a .i) (at-then .if1 .taken))
+    texts-as (sym (value-one (a .types .now) (a .members .now) (a .n) (a .image .now) (a .i) (at-then .if1 .taken)))
     (c .text-struct .ensures)
 
 text-elements-requires : tie.Need-text-elements-requires
@@ -40,7 +42,7 @@ returns-2 : tie.Need-returns-2
 returns-2 c =
     let at-else = c .before in
     let a = at-else .before .before .args in
-    texts-as (value-some (a .types .now) (a .members .now) (a .n) (a .image .now) (a .i) (at-else .if1 .left))
+    texts-as (sym (value-some (a .types .now) (a .members .now) (a .n) (a .image .now) (a .i) (at-else .if1 .left)))
     (c .text-elements .ensures)
 
 pub text-structs-spec : {M : Type 1} → statement M

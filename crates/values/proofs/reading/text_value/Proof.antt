@@ -1,9 +1,10 @@
 -- `values::text_value` meets its contract.
-use mathlib.Core.Path.{_∙_, ap}
+use mathlib.Core.Path.{_∙_, ap, sym}
 use Rattle.types.specs.declared.member.Ty.{Ty}
 use Rattle.values.specs.Stream.{bodies}
 use Rattle.values.specs.Walk.{valueOut}
-use Rattle.values.proofs.ReadingLaws.{images, no-texts, texts-as, value-atomic}
+use Rattle.values.proofs.ReadingLaws.{images, no-texts, value-atomic}
+use Rattle.values.proofs.TextCountLaws.{texts-as}
 use Rattle.values.proofs.LeafLaws.{textless-atomics}
 use borrow.Author.Needs.{needs}
 use Rattle.values.proofs.reading.text_value.Statement.{statement}
@@ -43,8 +44,8 @@ returns-3 : tie.Need-returns-3
 returns-3 c =
     let at-start = c .before .before .before .before .before .before in
     let a = at-start .args in
-    texts-as (ap (λ (t : Ty). valueOut (a .types .now) (a .members .now) t (a .n) (a .image .now))
-    (c .before .before .ty .given .1)) (c .text-structs .ensures)
+    texts-as (sym (ap (λ (t : Ty). valueOut (a .types .now) (a .members .now) t (a .n) (a .image .now))
+    (c .before .before .ty .given .1))) (c .text-structs .ensures)
 
 pub text-value-spec : {M : Type 1} → statement M
 text-value-spec =

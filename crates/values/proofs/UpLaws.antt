@@ -1,0 +1,55 @@
+-- Runs of entries and brackets around them, as the walk makes them (document 01, "Reading"): how a run splits, how long
+-- it is, and what texts it has.
+use Prim.Native.Nat.{ℕ, zero, suc, _+_, _*_, _<_}
+use native.Mathlib.Nat.{add-zero, add-suc}
+use native.Mathlib.Numerals.{add-one}
+use native.Mathlib.Omega.{arith}
+use mathlib.Core.Path.{_≡_, refl, sym, ap, ap₂, _∙_}
+use mathlib.Core.List.{List, [], _∷_, _++_, append-assoc, append-nil}
+use lib.ListN.{length, length-append}
+use Rattle.values.specs.Stream.{Token, mark, bodies}
+use Rattle.values.specs.Walk.{upTo, wrap}
+use Rattle.values.proofs.EntryLaws.{bodies-append}
+
+-- runs that agree element for element
+pub up-ext : (g h : ℕ → List Token) (n : ℕ) → ((k : ℕ) → k < n → g k ≡ h k) → upTo g n ≡ upTo h n
+unfolding upTo
+up-ext g h zero e = refl
+up-ext g h (suc n) e = ap₂ _++_ (up-ext g h n (λ k l. e k (omega arith))) (e n (omega arith))
+
+-- one more at the end, one more at the start, and two parts
+pub up-more : (g : ℕ → List Token) (n : ℕ) → upTo g (n + 1) ≡ upTo g n ++ g n
+unfolding upTo
+up-more g n = rw add-one
+
+pub up-cons : (g : ℕ → List Token) (n : ℕ) → upTo g (suc n) ≡ g 0 ++ upTo (λ k. g (suc k)) n
+unfolding upTo
+up-cons g zero = sym (append-nil (g 0))
+up-cons g (suc n) =
+    ap (_++ g (suc n)) (up-cons g n) ∙ append-assoc (g 0) (upTo (λ k. g (suc k)) n) (g (suc n))
+
+pub up-split : (g : ℕ → List Token) (i n : ℕ) → upTo g (i + n) ≡ upTo g i ++ upTo (λ k. g (i + k)) n
+unfolding upTo
+up-split g i zero = rw add-zero (sym (append-nil (upTo g i)))
+up-split g i (suc n) =
+    rw (add-suc, up-split g i n) (append-assoc (upTo g i) (upTo (λ k. g (i + k)) n) (g (i + n)))
+
+-- an entry for each element
+pub up-ones : (g : ℕ → List Token) (n : ℕ) → ((k : ℕ) → length (g k) ≡ 1) → length (upTo g n) ≡ n
+unfolding upTo
+up-ones g zero e = refl
+up-ones g (suc n) e = omega (arith, length-append (upTo g n) (g n), e n, up-ones g n e)
+
+pub up-bodies : (g : ℕ → List Token) → ((k : ℕ) → bodies (g k) ≡ []) → (n : ℕ) → bodies (upTo g n) ≡ []
+unfolding upTo
+up-bodies g e zero = unfold bodies in refl
+up-bodies g e (suc n) = bodies-append (upTo g n) (g n) ∙ ap₂ _++_ (up-bodies g e n) (e n)
+
+-- ---- brackets
+
+pub wrap-length : (start stop : ℕ) (ts : List Token) → length (wrap start stop ts) ≡ 2 + length ts
+wrap-length start stop ts = omega (arith, length-append ts (mark stop ∷ []))
+
+pub wrap-bodies : (start stop : ℕ) (ts : List Token) → bodies (wrap start stop ts) ≡ bodies ts
+unfolding bodies
+wrap-bodies start stop ts = bodies-append ts (mark stop ∷ []) ∙ append-nil (bodies ts)
