@@ -1,26 +1,24 @@
 -- How many entries a value has (document 01, "Value stream"): the entries and texts of runs and brackets, counts that
--- are held within the room, and what a string, an array of structures and a member's number add to them.
+-- go on from a number, and what a string, an array of structures and a member's number add to them.
 use Prim.Native.Nat.{ℕ, zero, suc, _+_, _*_, _^_, _<_, _≤_}
 use native.Mathlib.Decide.{decLe}
-use native.Mathlib.Nat.{mul-le-mul, mul-le-mul-right}
+use native.Mathlib.Nat.{mul-le-mul}
 use native.Mathlib.Omega.{arith}
 use mathlib.Core.Path.{_≡_, refl, sym, ap, ap₂, _∙_}
 use mathlib.Core.Bool.{Bool, true, false, cond}
 use mathlib.Core.List.{List, [], _∷_, _++_, append-assoc, append-nil}
-use borrow.Author.Tests.{ltb-true, ltb-false, eqb-false}
-use lib.Dec.{eqb, ltb}
+use borrow.Author.Tests.{eq-eqb, ne-eqb}
 use lib.ListN.{length, length-append}
 use Rattle.words.specs.Words.{part}
 use Rattle.types.specs.Tables.{typeAt}
 use Rattle.types.specs.Waste.{sizesIn}
 use Rattle.types.proofs.TestLaws.{clash}
-use Rattle.values.specs.Counting.{Counted, Plain, capped, scaled}
+use Rattle.values.specs.Counting.{Counted, Plain}
 use Rattle.values.specs.Stream.{Token, member, mark, bodyOf, bodies}
 use Rattle.values.specs.Trees.{isString}
 use Rattle.values.specs.Walk.{upTo, wrap, textOut, capacityAt, elementBy, elementsBy, structsBy, membersBy}
 use Rattle.values.specs.Walk.{structBy, structWithin, structOut}
 use Rattle.values.specs.Walkable.{Walkable}
-use Rattle.values.specs.declared.count.Tally.{Tally}
 use Rattle.values.proofs.WalkLaws.{struct-out}
 
 -- ---- runs and brackets
@@ -68,52 +66,28 @@ module _ (g : ℕ → List Token) where
   up-bodies e zero = refl
   up-bodies e (suc n) = bodies-append (upTo g n) (g n) ∙ ap₂ _++_ (up-bodies e n) (e n)
 
--- ---- counts that are held within the room
+-- ---- counts that go on from a number
 
--- entries that may be more than the room: exact where they are within it
-pub record Reached (room : ℕ) (f : List ℕ → List Token) (entries : ℕ) (bare : Bool) : Type 0 where
-  pub exact : 12 * entries ≤ room → (image : List ℕ) → length (f image) ≡ entries
-  pub over : room < 12 * entries → (image : List ℕ) → room < 12 * length (f image)
-  pub plain : bare ≡ true → (image : List ℕ) → bodies (f image) ≡ []
-
-pub capped-counted : {room entries : ℕ} {f : List ℕ → List Token} {plain : Bool} → Reached room f entries plain
-    → Counted room f (capped entries plain room)
-unfolding capped
-capped-counted {room} {entries} {f} {plain} w = go (ltb room entries) refl
-  where
-    go : (b : Bool) → ltb room entries ≡ b
-        → Counted room f
-        (cond b (record { entries = room + 1; plain = false }) (record { entries = entries; plain = plain }))
-    go true e = record {
-      exact = λ h. absurd (let z : ⊥ = omega arith in z);
-      over = λ h. w .over (omega (arith, ltb-true room entries e));
-      plain = λ h. clash h refl;
-      small = omega arith;
-    }
-    go false e = record {
-      exact = w .exact;
-      over = w .over;
-      plain = w .plain;
-      small = omega (arith, ltb-false room entries e);
-    }
-
-pub plain-reached : {room r : ℕ} {f : List ℕ → List Token} → Plain f r → Reached room f r true
-plain-reached p =
+-- entries of which none is a text
+pub plain-counted : {most from sum r : ℕ} {f : List ℕ → List Token} {b : Bool} → Plain f r → sum ≡ from + r
+    → Counted most from f b b sum
+plain-counted p q =
     record {
-      exact = λ h. p .exact;
+      exact = λ h image. omega (arith, p .exact image);
       over = λ h image. omega (arith, p .exact image);
-      plain = λ e. p .plain;
+      quiet = λ h e. p .plain;
+      still = λ e. e;
     }
 
 -- the same entries
-pub counted-same : {room : ℕ} {f g : List ℕ → List Token} {r : Tally} → Counted room f r
-    → ((image : List ℕ) → f image ≡ g image) → Counted room g r
+pub counted-same : {most from sum : ℕ} {f g : List ℕ → List Token} {b t : Bool} → Counted most from f b t sum
+    → ((image : List ℕ) → f image ≡ g image) → Counted most from g b t sum
 counted-same w q =
     record {
-      exact = λ h image. ap length (sym (q image)) ∙ w .exact h image;
+      exact = λ h image. omega (arith, ap length (q image), w .exact h image);
       over = λ h image. omega (arith, ap length (q image), w .over h image);
-      plain = λ e image. ap bodies (sym (q image)) ∙ w .plain e image;
-      small = w .small;
+      quiet = λ h e image. ap bodies (sym (q image)) ∙ w .quiet h e image;
+      still = w .still;
     }
 
 pub plain-same : {f g : List ℕ → List Token} {r : ℕ} → Plain f r → ((image : List ℕ) → f image ≡ g image) → Plain g r
@@ -126,99 +100,25 @@ plain-same w q =
 -- ---- structures
 
 -- the product of count and entries fits
-pub scaled-fits : {n e room : ℕ} → room ≤ 2147483648 → e ≤ room + 1 → n ≤ room → n * e ≤ 2 ^ 63
-scaled-fits {n} {e} h k l =
-    omega (arith, mul-le-mul {n₁ = n} {m₁ = e} {n₂ = 2147483648} {m₂ = 2147483649} (omega arith) (omega arith))
+pub product-fits : {n e most : ℕ} → most ≤ 2147483648 → e ≤ most → n ≤ most → n * e ≤ 2 ^ 62
+product-fits {n} {e} h k l =
+    omega (arith, mul-le-mul {n₁ = n} {m₁ = e} {n₂ = 2147483648} {m₂ = 2147483648} (omega arith) (omega arith))
 
 -- a member's number before a value, which is read from a part of the image
-pub member-counted : {room : ℕ} {f : List ℕ → List Token} {t : Tally} (j : ℕ) (own : List ℕ → List ℕ)
-    → Counted room f t → Counted room (λ image. member j ∷ f (own image)) (capped (1 + t .entries) (t .plain) room)
+pub member-counted : {most from sum : ℕ} {f : List ℕ → List Token} {b t : Bool} (j : ℕ) (own : List ℕ → List ℕ)
+    → Counted most (from + 1) f b t sum → Counted most from (λ image. member j ∷ f (own image)) b t sum
 unfolding bodies
-member-counted {room} {f} {t} j own w =
-    capped-counted (record {
-      exact = λ h image. omega (arith, w .exact (omega arith) (own image));
-      over = λ h image. more h image (decLe (12 * t .entries) room);
-      plain = λ e image. w .plain e (own image);
-    })
-  where
-    more : room < 12 * (1 + t .entries) → (image : List ℕ) → Dec (12 * t .entries ≤ room)
-        → room < 12 * suc (length (f (own image)))
-    more h image (yes l) = omega (arith, w .exact l (own image))
-    more h image (no l) = omega (arith, w .over (omega (arith, l)) (own image))
+member-counted j own w =
+    record {
+      exact = λ h image. omega (arith, w .exact h (own image));
+      over = λ h image. omega (arith, w .over h (own image));
+      quiet = λ h e image. w .quiet h e (own image);
+      still = w .still;
+    }
 
 -- the bytes of an element of an array of structures
 abbrev element : List ℕ → ℕ → List ℕ → ℕ → List ℕ
 element types s image k = part image (sizesIn types s * k) (sizesIn types s)
-
-module _ (types members : List ℕ) (rec : ℕ → List ℕ → List Token) (s : ℕ) {room : ℕ} {one : Tally}
-    (w : Counted room (rec s) one) where
-  abbrev Run : List ℕ → ℕ → List Token
-  Run image = upTo (elementBy types members rec s image)
-
-  elements-length : (n : ℕ) (image : List ℕ)
-      → length (elementsBy types members rec s n image) ≡ 2 + length (Run image n)
-  unfolding elementsBy
-  elements-length n image = wrap-length 10 11 (Run image n)
-
-  run-length : (n : ℕ) (image : List ℕ) → 12 * one .entries ≤ room → length (Run image n) ≡ n * one .entries
-  run-length n image l =
-      up-length (elementBy types members rec s image) (one .entries) (λ k. w .exact l (element types s image k)) n
-
-  elements-many : (n : ℕ) → ((image : List ℕ) → 1 ≤ length (rec s image)) → room < n
-      → Reached room (elementsBy types members rec s n) n false
-  elements-many n some h =
-      record {
-        exact = λ l. absurd (let z : ⊥ = omega arith in z);
-        over = λ l image.
-            omega (
-              arith,
-              elements-length n image,
-              up-least (elementBy types members rec s image) 1 (λ k. some (element types s image k)) n,
-            );
-        plain = λ e. clash e refl;
-      }
-
-  elements-few : (n : ℕ) → (n ≡ 0 → ⊥)
-      → Reached room (elementsBy types members rec s n) (2 + n * one .entries) (one .plain)
-  elements-few n z =
-      record {
-        exact = λ h image.
-            let l = mul-le-mul-right {m = 1} {n = n} (one .entries) (omega (arith, z)) in
-            omega (arith, elements-length n image, run-length n image (omega arith));
-        over = λ h image. more h image (decLe (12 * one .entries) room);
-        plain = λ e image.
-            unfold elementsBy in wrap-bodies 10 11 (Run image n)
-            ∙ up-bodies (elementBy types members rec s image) (λ k. w .plain e (element types s image k)) n;
-      }
-    where
-      more : room < 12 * (2 + n * one .entries) → (image : List ℕ) → Dec (12 * one .entries ≤ room)
-          → room < 12 * length (elementsBy types members rec s n image)
-      more h image (yes l) = omega (arith, elements-length n image, run-length n image l)
-      more h image (no l) =
-          omega (
-            arith,
-            elements-length n image,
-            up-first (elementBy types members rec s image) n z,
-            w .over (omega (arith, l)) (element types s image 0),
-          )
-
-  -- a structure, or an array of n
-  scaled-counted : ((image : List ℕ) → 1 ≤ length (rec s image)) → (n : ℕ)
-      → Counted room (structsBy types members rec s n) (scaled one n room)
-  unfolding structsBy scaled
-  scaled-counted some n = go (eqb n 0) refl
-    where
-      many : (b : Bool) → ltb room n ≡ b → (n ≡ 0 → ⊥)
-          → Counted room (elementsBy types members rec s n)
-          (cond b (capped n false room) (capped (2 + n * one .entries) (one .plain) room))
-      many true e z = capped-counted (elements-many n some (ltb-true room n e))
-      many false e z = capped-counted (elements-few n z)
-
-      go : (b : Bool) → eqb n 0 ≡ b
-          → Counted room (λ image. cond b (rec s image) (elementsBy types members rec s n image))
-          (cond b one (cond (ltb room n) (capped n false room) (capped (2 + n * one .entries) (one .plain) room)))
-      go true e = w
-      go false e = many (ltb room n) refl (eqb-false n 0 e)
 
 -- every structure has an entry
 struct-some : (types members : List ℕ) (i : ℕ) (image : List ℕ) → 1 ≤ length (structOut types members i image)
@@ -231,29 +131,98 @@ struct-some types members i image =
     go true xs ys p q = p
     go false xs ys p q = q
 
-pub structs-counted : (types members : List ℕ) (s n : ℕ) {room : ℕ} {one : Tally}
-    → Counted room (structOut types members s) one
-    → Counted room (structsBy types members (structOut types members) s n) (scaled one n room)
-structs-counted types members s n w =
-    scaled-counted types members (structOut types members) s w (struct-some types members s) n
+module _ (types members : List ℕ) (s n : ℕ) where
+  abbrev Structs : List ℕ → List Token
+  Structs = structsBy types members (structOut types members) s n
 
-module _ {types members : List ℕ} {i room : ℕ} (w : Walkable types members) (l : i < 200) where
+  abbrev Element : List ℕ → ℕ → List Token
+  Element = elementBy types members (structOut types members) s
+
+  -- one structure
+  pub structs-one : {most from sum : ℕ} {b t : Bool} → n ≡ 0 → Counted most from (structOut types members s) b t sum
+      → Counted most from Structs b t sum
+  unfolding structsBy
+  structs-one z w = counted-same w (λ image. rw (eq-eqb n 0 z))
+
+  -- or an array
+  module _ (z : n ≡ 0 → ⊥) where
+    structs-are : (image : List ℕ) → Structs image ≡ wrap 10 11 (upTo (Element image) n)
+    unfolding structsBy elementsBy
+    structs-are image = rw (ne-eqb n 0 z)
+
+    structs-length : (image : List ℕ) → length (Structs image) ≡ 2 + length (upTo (Element image) n)
+    structs-length image = ap length (structs-are image) ∙ wrap-length 10 11 (upTo (Element image) n)
+
+    -- of more elements than `most`
+    pub structs-many : {most from : ℕ} {b : Bool} → most < n → Counted most from Structs b b (most + 1)
+    structs-many h =
+        record {
+          exact = λ l. absurd (let e : ⊥ = omega arith in e);
+          over = λ l image.
+              omega (
+                arith,
+                structs-length image,
+                up-least (Element image) 1 (λ k. struct-some types members s (element types s image k)) n,
+              );
+          quiet = λ l. absurd (let e : ⊥ = omega arith in e);
+          still = λ e. e;
+        }
+
+    module _ {most one : ℕ} {b t : Bool} (w : Counted most 0 (structOut types members s) b t one) where
+      -- whose first element is above `most`
+      pub structs-large : {from : ℕ} → most < one → Counted most from Structs b t (most + 1)
+      structs-large h =
+          record {
+            exact = λ l. absurd (let e : ⊥ = omega arith in e);
+            over = λ l image.
+                omega (
+                  arith,
+                  structs-length image,
+                  up-first (Element image) n z,
+                  w .over h (element types s image 0),
+                );
+            quiet = λ l. absurd (let e : ⊥ = omega arith in e);
+            still = w .still;
+          }
+
+      run-length : one ≤ most → (image : List ℕ) → length (Structs image) ≡ 2 + n * one
+      run-length h image =
+          omega (
+            arith,
+            structs-length image,
+            up-length (Element image) one (λ k. omega (arith, w .exact h (element types s image k))) n,
+          )
+
+      -- all as long as the first
+      pub structs-all : {from : ℕ} → one ≤ most → Counted most from Structs b t (from + 2 + n * one)
+      structs-all h =
+          record {
+            exact = λ l image. omega (arith, run-length h image);
+            over = λ l image. omega (arith, run-length h image);
+            quiet = λ l e image.
+                ap bodies (structs-are image) ∙ wrap-bodies 10 11 (upTo (Element image) n)
+                ∙ up-bodies (Element image) (λ k. w .quiet h e (element types s image k)) n;
+            still = w .still;
+          }
+
+module _ {types members : List ℕ} {i most from : ℕ} (w : Walkable types members) (l : i < 200) where
   -- a string
-  pub text-counted : isString (typeAt types i .kind) ≡ true
-      → Counted room (structOut types members i) (capped 1 false room)
+  pub text-counted : {b : Bool} → isString (typeAt types i .kind) ≡ true
+      → Counted most from (structOut types members i) b true (from + 1)
   text-counted e =
-      capped-counted (record {
-        exact = λ h image. one image;
+      record {
+        exact = λ h image. omega (arith, one image);
         over = λ h image. omega (arith, one image);
-        plain = λ h. clash h refl;
-      })
+        quiet = λ h k. clash refl k;
+        still = λ k. clash refl k;
+      }
     where
       one : (image : List ℕ) → length (structOut types members i image) ≡ 1
       one image = ap length (struct-out types members w i image l) ∙ unfold structBy in rw e
 
   -- any other structure
-  pub members-counted : {r : Tally} → isString (typeAt types i .kind) ≡ false
-      → Counted room (membersBy types members (structOut types members) i) r
-      → Counted room (structOut types members i) r
+  pub members-counted : {b t : Bool} {sum : ℕ} → isString (typeAt types i .kind) ≡ false
+      → Counted most from (membersBy types members (structOut types members) i) b t sum
+      → Counted most from (structOut types members i) b t sum
   members-counted e v =
       counted-same v (λ image. sym (struct-out types members w i image l ∙ unfold structBy in rw e))

@@ -17,7 +17,6 @@ use Rattle.types.specs.declared.atomic.Atomic.the-variants as atomic
 use Rattle.types.specs.declared.member.Bit.the-variants.{None, At}
 use Rattle.types.specs.declared.member.Member.{Member}
 use Rattle.types.specs.declared.member.Ty.the-variants as ty
-use Rattle.types.proofs.TestLaws.{clash}
 use Rattle.values.specs.Counting.{Counted, Plain}
 use Rattle.values.specs.Leaf.{leafOf, emit}
 use Rattle.values.specs.Stream.{bodyOf, bodies}
@@ -112,7 +111,7 @@ module _ (a : Atomic) (n : ℕ) where
       go false e = (omega arith, omega arith)
 
   -- their bytes
-  pub bytes-least : n ≤ sizeOf a * times n
+  bytes-least : n ≤ sizeOf a * times n
   bytes-least = omega (arith, times-near .0, mul-le-mul-right {m = 1} {n = sizeOf a} (times n) (size-range a .0))
 
   bytes-most : sizeOf a * times n ≤ 8 * times n
@@ -125,7 +124,7 @@ module _ (a : Atomic) (n : ℕ) where
   record Sized : Type 0 where
     pub entries : ℕ
     pub is : Plain (atomicsOut a n) entries
-    pub enough : sizeOf a * times n < 12 * entries
+    pub enough : n ≤ entries
     pub few : entries ≤ 2 + 64 * times n
 
   sized : Sized
@@ -135,19 +134,19 @@ module _ (a : Atomic) (n : ℕ) where
       go true e z f = record {
         entries = 2 + 8 * (sizeOf a * times n);
         is = atomics-bits e;
-        enough = omega arith;
+        enough = omega (arith, bytes-least);
         few = omega (arith, bytes-most);
       }
       go false e true f = record {
         entries = 1;
         is = atomics-one e (eqb-true n 0 f);
-        enough = omega (arith, bytes-most, times-near .1, eqb-true n 0 f);
+        enough = omega (arith, eqb-true n 0 f);
         few = omega arith;
       }
       go false e false f = record {
         entries = 2 + n;
         is = atomics-many e (eqb-false n 0 f);
-        enough = omega (arith, bytes-most, times-near .1);
+        enough = omega arith;
         few = omega (arith, times-near .0);
       }
 
@@ -155,15 +154,14 @@ module _ (a : Atomic) (n : ℕ) where
   pub atomics-few : {r : ℕ} → Plain (atomicsOut a n) r → n ≤ 2 ^ 32 → r ≤ 2 ^ 39
   atomics-few w h = omega (arith, w .exact [], sized .is .exact [], sized .few, times-near .1)
 
-  -- more bytes than the room are more entries than the room
-  pub atomics-over : {room long : ℕ} → long ≡ sizeOf a * times n → room < long
-      → Counted room (atomicsOut a n) (record { entries = room + 1; plain = false })
-  atomics-over q h =
+  -- more elements than `most` are more entries
+  pub atomics-over : {most : ℕ} {b : Bool} → most < n → Counted most 0 (atomicsOut a n) b b (most + 1)
+  atomics-over h =
       record {
         exact = λ l. absurd (let z : ⊥ = omega arith in z);
         over = λ l image. omega (arith, sized .is .exact image, sized .enough);
-        plain = λ e. clash e refl;
-        small = omega arith;
+        quiet = λ l. absurd (let z : ⊥ = omega arith in z);
+        still = λ e. e;
       }
 
 -- ---- members that are no structures

@@ -21,11 +21,10 @@ use Rattle.types.specs.declared.member.Ty.{Ty}
 use Rattle.types.specs.declared.member.Ty.the-variants as ty
 use Rattle.types.specs.declared.refusal.Refusal.the-variants.{ImageLength, NoSuchType, NoRoom}
 use Rattle.types.proofs.LayoutLaws.{times-one, times-same}
-use Rattle.values.specs.declared.count.Tally.{Tally}
 use Rattle.values.specs.declared.place.Place.{Place}
 use Rattle.values.specs.declared.reading.Streamed.{Streamed}
 use Rattle.values.specs.declared.reading.Streamed.the-variants.{Length, Refused}
-use Rattle.values.specs.Counting.{Counted, Texts}
+use Rattle.values.specs.Counting.{Texts}
 use Rattle.values.specs.Laying.{laid, Wrote}
 use Rattle.values.specs.Stream.{Token, bodies, mostBytes, streamBytes}
 use Rattle.values.specs.Tree.{items, read}
@@ -126,18 +125,6 @@ module _ (types members : List ℕ) (n : ℕ) (image : List ℕ) where
       ≡ elementsBy types members (structOut types members) i n image
   unfolding valueOut structsBy
   value-some i e = rw (ne-eqb n 0 e) refl
-
--- ---- promises carried over to entries that are the same
-
-pub counted-as : {room : ℕ} {f g : List ℕ → List Token} {r : Tally} → ((image : List ℕ) → g image ≡ f image)
-    → Counted room f r → Counted room g r
-counted-as same c =
-    record {
-      exact = λ l image. ap length (same image) ∙ c .exact l image;
-      over = λ l image. rw (same image) (c .over l image);
-      plain = λ p image. ap bodies (same image) ∙ c .plain p image;
-      small = c .small;
-    }
 
 -- entries of which none is a text have no bytes of text
 pub no-texts : {room : ℕ} {ts : List Token} → bodies ts ≡ [] → Texts room ts 0

@@ -1,13 +1,10 @@
-// The count of a reading (document 01, "Value stream"): how many entries a value has. It depends on the type alone, so
-// that an array takes one product; it stops as soon as the room is passed.
-ghost use mathlib.Core.Path.{_≡_};
-ghost use mathlib.Core.Bool.{Bool, true, false, cond};
-ghost use Prim.Native.Nat.{ℕ, _+_, _*_, _<_, _≤_};
-ghost use lib.ListN.{length};
-ghost use Rattle.types.specs.Atomic.{sizeOf};
-ghost use Rattle.types.specs.Layout.{times};
-ghost use Rattle.types.specs.Tables.{memberAt, typeAt};
-ghost use Rattle.values.specs.Counting.{Counted, Plain, capped as cappedAt, scaled as scaledBy};
+// The count of a reading (document 01, "Value stream"): how many entries a value has, and whether one is a text. It
+// depends on the type alone, so that an array takes one product. It counts on from what was counted before, and stops
+// where `most` is passed: the sum is then any number above `most`.
+ghost use mathlib.Core.Bool.{Bool};
+ghost use Prim.Native.Nat.{ℕ, _+_, _<_, _≤_};
+ghost use Rattle.types.specs.Tables.{memberAt};
+ghost use Rattle.values.specs.Counting.{Counted, Plain};
 ghost use Rattle.values.specs.Walk.{atomicsOut, leafOut, memberBy, membersBy, structOut, structsBy};
 ghost use Rattle.values.specs.Walkable.{NestedRow, Walkable};
 use crate::numbers::is_bits;
@@ -24,26 +21,6 @@ use types::member_at;
 use types::type_at;
 use words::wide;
 
-// How many entries, and that none is a text, whatever the image.
-pub struct Tally {
-    pub entries: usize,
-    pub plain: bool,
-}
-
-// So many entries, or more than the room.
-fn capped(entries: usize, plain: bool, room: usize) -> Tally
-    requires { ⌜ room ≤ 2147483648 ⌝ }
-    ensures { λ r. ⌜ r ≡ cappedAt entries plain room ⌝ }
-{
-    if room < entries {
-        return Tally {
-            entries: room + 1,
-            plain: false,
-        };
-    }
-    Tally { entries, plain }
-}
-
 // An atomic, or n of them where n is not 0.
 pub fn atomic_entries(a: Atomic, n: usize) -> usize
     requires { ⌜ n ≤ 4294967296 ⌝ }
@@ -59,18 +36,15 @@ pub fn atomic_entries(a: Atomic, n: usize) -> usize
     2 + n
 }
 
-// The same in so many bytes.
-pub fn count_atomics(a: Atomic, n: usize, long: usize, room: usize) -> Tally
-    requires { ⌜ (room ≤ 2147483648) × (long ≡ sizeOf a * times n) ⌝ }
-    ensures { λ r. ⌜ Counted room (atomicsOut a n) r ⌝ }
+// The same within `most`.
+pub fn count_atomics(a: Atomic, n: usize, most: usize) -> usize
+    requires { ⌜ most ≤ 2147483648 ⌝ }
+    ensures { λ r. ⌜ ((b : Bool) → Counted most 0 (atomicsOut a n) b b r) ⌝ }
 {
-    if room < long {
-        return Tally {
-            entries: room + 1,
-            plain: false,
-        };
+    if most < n {
+        return most + 1;
     }
-    capped(atomic_entries(a, n), true, room)
+    atomic_entries(a, n)
 }
 
 // The member in a row, where it is no structure.
@@ -104,83 +78,94 @@ fn leaf_entries(members: &MemberTable, row: usize) -> usize
     }
 }
 
-// n elements with so many entries each as an array, or one where n is 0.
-fn scaled(one: Tally, n: usize, room: usize) -> Tally
-    requires { ⌜ (room ≤ 2147483648) × (one .entries ≤ room + 1) ⌝ }
-    ensures { λ r. ⌜ r ≡ scaledBy one n room ⌝ }
-{
-    if n == 0 {
-        return one;
-    }
-    let entries = one.entries;
-    if room < n {
-        return capped(n, false, room);
-    }
-    capped(2 + n * entries, one.plain, room)
-}
-
 // Structure i, or n of it where n is not 0.
 pub fn count_structs(
     types: &TypeTable,
     members: &MemberTable,
     i: usize,
     n: usize,
-    room: usize,
-) -> Tally
-    requires { ⌜ Walkable (now types) (now members) × ((i < 200) × (room ≤ 2147483648)) ⌝ }
-    ensures { λ r. ⌜ Counted room
-        (structsBy (now (types .entry)) (now (members .entry)) (structOut (now (types .entry)) (now (members .entry))) i n)
-        r ⌝ }
+    from: usize,
+    most: usize,
+    texts: &mut bool,
+) -> usize
+    requires { ⌜ Walkable (now types) (now members) × ((i < 200) × ((most ≤ 2147483648) × (from ≤ most + 1))) ⌝ }
+    ensures { λ r. ⌜ Counted most from
+        (structsBy (now (types .entry)) (now (members .entry))
+        (structOut (now (types .entry)) (now (members .entry))) i n) (now (texts .entry)) (now (texts .exit)) r ⌝ }
 {
-    let one = count_struct(types, members, i, room);
-    scaled(one, n, room)
+    if n == 0 {
+        return count_struct(types, members, i, from, most, texts);
+    }
+    if most < n {
+        return most + 1;
+    }
+    let one = count_struct(types, members, i, 0, most, texts);
+    if most < one {
+        return most + 1;
+    }
+    from + 2 + n * one
 }
 
 // Structure i.
-fn count_struct(types: &TypeTable, members: &MemberTable, i: usize, room: usize) -> Tally
-    requires { ⌜ Walkable (now types) (now members) × ((i < 200) × (room ≤ 2147483648)) ⌝ }
-    ensures { λ r. ⌜ Counted room (structOut (now (types .entry)) (now (members .entry)) i) r ⌝ }
+fn count_struct(
+    types: &TypeTable,
+    members: &MemberTable,
+    i: usize,
+    from: usize,
+    most: usize,
+    texts: &mut bool,
+) -> usize
+    requires { ⌜ Walkable (now types) (now members) × ((i < 200) × ((most ≤ 2147483648) × (from ≤ most + 1))) ⌝ }
+    ensures { λ r. ⌜ Counted most from (structOut (now (types .entry)) (now (members .entry)) i)
+        (now (texts .entry)) (now (texts .exit)) r ⌝ }
 {
     let d = type_at(types, i);
     let kind = d.kind;
     let string = is_string(kind);
     if string {
-        return capped(1, false, room);
+        *texts = true;
+        return from + 1;
     }
-    count_members(types, members, i, room)
+    count_members(types, members, i, from, most, texts)
 }
 
-// Its members.
-fn count_members(types: &TypeTable, members: &MemberTable, i: usize, room: usize) -> Tally
-    requires { ⌜ Walkable (now types) (now members) × ((i < 200) × (room ≤ 2147483648)) ⌝ }
-    ensures { λ r. ⌜ Counted room
-        (membersBy (now (types .entry)) (now (members .entry)) (structOut (now (types .entry)) (now (members .entry))) i)
-        r ⌝ }
+// Its members. The last one's structure takes the place of this one, so that it costs no call.
+fn count_members(
+    types: &TypeTable,
+    members: &MemberTable,
+    i: usize,
+    from: usize,
+    most: usize,
+    texts: &mut bool,
+) -> usize
+    requires { ⌜ Walkable (now types) (now members) × ((i < 200) × ((most ≤ 2147483648) × (from ≤ most + 1))) ⌝ }
+    ensures { λ r. ⌜ Counted most from
+        (membersBy (now (types .entry)) (now (members .entry))
+        (structOut (now (types .entry)) (now (members .entry))) i) (now (texts .entry)) (now (texts .exit)) r ⌝ }
 {
     let d = type_at(types, i);
     let first = wide(d.first);
     let n = wide(d.count);
-    let mut entries: usize = 2;
-    let mut plain = true;
+    let mut sum = from + 2;
     let mut j: usize = 0;
     while j < n {
-        let used = 12 * entries;
-        if room < used {
-            return capped(room + 1, false, room);
+        if most < sum {
+            return sum;
         }
         let row = first + j;
         let nested = is_nested(members, row);
         if nested {
-            let t = count_nested(types, members, i, row, room - used);
-            entries += t.entries;
-            plain = both(plain, t.plain);
+            if j + 1 == n {
+                return count_nested(types, members, i, row, sum, most, texts);
+            }
+            sum = count_nested(types, members, i, row, sum, most, texts);
             j += 1;
         } else {
-            entries += leaf_entries(members, row);
+            sum += leaf_entries(members, row);
             j += 1;
         }
     }
-    capped(entries, plain, room)
+    sum
 }
 
 // The structure, or the array of structures, in a row of structure i, with the member's number before it.
@@ -189,34 +174,25 @@ fn count_nested(
     members: &MemberTable,
     i: usize,
     row: usize,
-    room: usize,
-) -> Tally
+    from: usize,
+    most: usize,
+    texts: &mut bool,
+) -> usize
     requires { ⌜ Walkable (now types) (now members)
-        × (NestedRow (now types) (now members) i row × (room ≤ 2147483648)) ⌝ }
-    ensures { λ r. ⌜ ((j : ℕ) → Counted room
+        × (NestedRow (now types) (now members) i row × ((most ≤ 2147483648) × (from ≤ most))) ⌝ }
+    ensures { λ r. ⌜ ((j : ℕ) → Counted most from
         (memberBy (now (types .entry)) (now (members .entry)) (structOut (now (types .entry)) (now (members .entry))) j
-        (memberAt (now (members .entry)) row)) r) ⌝ }
+        (memberAt (now (members .entry)) row)) (now (texts .entry)) (now (texts .exit)) r) ⌝ }
 {
     let m = member_at(members, row);
     let n = wide(m.count);
     let ty = m.ty;
     match ty {
         Ty::Atomic(_) => {
-            return capped(1, false, room);
+            return from;
         }
         Ty::Struct(s) => {
-            let one = count_struct(types, members, s, room);
-            let t = scaled(one, n, room);
-            return capped(1 + t.entries, t.plain, room);
+            return count_structs(types, members, s, n, from + 1, most, texts);
         }
     }
-}
-
-fn both(a: bool, b: bool) -> bool
-    ensures { λ r. ⌜ r ≡ cond a b false ⌝ }
-{
-    if a {
-        return b;
-    }
-    false
 }

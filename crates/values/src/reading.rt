@@ -1,7 +1,7 @@
 // Reading (document 01, "Reading"): the value stream of a tag's bytes. Everything is counted before the first byte is
 // written, so that a refusal leaves the buffer as it was.
 ghost use mathlib.Core.Path.{_≡_};
-ghost use mathlib.Core.Bool.{true};
+ghost use mathlib.Core.Bool.{false};
 ghost use mathlib.Core.List.{[]};
 ghost use Prim.Native.Nat.{_+_, _*_, _≤_, min};
 ghost use lib.Dec.{eqb};
@@ -16,7 +16,6 @@ ghost use Rattle.values.specs.Stream.{bodies};
 ghost use Rattle.values.specs.Walk.{valueOut};
 ghost use Rattle.values.specs.Walkable.{ImagesOf, ValueImage, Walkable};
 use crate::atomics::put_atomics;
-use crate::count::Tally;
 use crate::count::count_atomics;
 use crate::count::count_structs;
 use crate::lengths::text_elements;
@@ -82,22 +81,22 @@ fn as_size(n: u64) -> usize
     n as usize
 }
 
-// How many entries a value has, in an image of so many bytes.
+// How many entries a value has, and whether one is a text.
 fn count_value(
     types: &TypeTable,
     members: &MemberTable,
     ty: Ty,
     n: usize,
-    long: usize,
-    room: usize,
-) -> Tally
-    requires { ⌜ Walkable (now types) (now members) × (TyFits ty × (room ≤ 2147483648)) ⌝ }
-    requires { ⌜ long ≡ sizeIn (sizesIn (now types)) ty * times n ⌝ }
-    ensures { λ r. ⌜ Counted room (valueOut (now (types .entry)) (now (members .entry)) ty n) r ⌝ }
+    most: usize,
+    texts: &mut bool,
+) -> usize
+    requires { ⌜ Walkable (now types) (now members) × (TyFits ty × (most ≤ 2147483648)) ⌝ }
+    ensures { λ r. ⌜ Counted most 0 (valueOut (now (types .entry)) (now (members .entry)) ty n)
+        (now (texts .entry)) (now (texts .exit)) r ⌝ }
 {
     match ty {
-        Ty::Atomic(a) => count_atomics(a, n, long, room),
-        Ty::Struct(i) => count_structs(types, members, i, n, room),
+        Ty::Atomic(a) => count_atomics(a, n, most),
+        Ty::Struct(i) => count_structs(types, members, i, n, 0, most, texts),
     }
 }
 
@@ -129,14 +128,14 @@ fn text_value(
     n: usize,
     image: &[u8],
     room: usize,
-    plain: bool,
+    texts: bool,
 ) -> usize
     requires { ⌜ Walkable (now types) (now members) × ((room ≤ 2147483648)
         × ValueImage (now types) ty n (now image)) ⌝ }
-    requires { ⌜ (plain ≡ true → bodies (valueOut (now types) (now members) ty n (now image)) ≡ []) ⌝ }
+    requires { ⌜ (texts ≡ false → bodies (valueOut (now types) (now members) ty n (now image)) ≡ []) ⌝ }
     ensures { λ r. ⌜ Texts room (valueOut (now (types .entry)) (now (members .entry)) ty n (now (image .entry))) r ⌝ }
 {
-    if plain {
+    if !texts {
         return 0;
     }
     match ty {
@@ -210,13 +209,14 @@ fn read_within(
     ensures { λ r. ⌜ Written (now (types .entry)) (now (members .entry)) ty n (now (image .entry))
         (now (out .entry)) r (now (out .exit)) ⌝ }
 {
-    let t = count_value(types, members, ty, n, image.len(), room);
-    let entries = t.entries;
-    if room < 12 * entries {
+    let most = room / 12;
+    let mut texts = false;
+    let entries = count_value(types, members, ty, n, most, &mut texts);
+    if most < entries {
         return Streamed::Refused(Refusal::NoRoom);
     }
     let left = room - 12 * entries;
-    let text = text_value(types, members, ty, n, image, left, t.plain);
+    let text = text_value(types, members, ty, n, image, left, texts);
     if left < text {
         return Streamed::Refused(Refusal::NoRoom);
     }

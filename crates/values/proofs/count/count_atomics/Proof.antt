@@ -1,31 +1,22 @@
--- `values::count_atomics` meets its contract (document 01, "Value stream"): more bytes than the room are more entries
--- than the room.
+-- `values::count_atomics` meets its contract (document 01, "Value stream"): more elements than `most` are more entries.
 use borrow.Author.Needs.{needs}
 use native.Mathlib.Omega.{arith}
-use Rattle.values.proofs.CountLaws.{capped-counted, plain-reached}
-use Rattle.values.proofs.CountLeaves.{bytes-least, atomics-over}
+use Rattle.values.proofs.CountLaws.{plain-counted}
+use Rattle.values.proofs.CountLeaves.{atomics-over}
 use Rattle.values.proofs.count.count_atomics.Statement.{statement}
 use Rattle.values.proofs.count.count_atomics.Tie as tie
 
-add-t6 : tie.Need-add-t6
-add-t6 c = search needs
+add-result : tie.Need-add-result
+add-result c = search needs
 
 returns : tie.Need-returns
-returns c =
-    let at-start = c .before in
-    atomics-over (at-start .args .a) (at-start .args .n) (at-start .pre .1) (c .if1 .taken)
+returns c = λ b. atomics-over (c .before .args .a) (c .before .args .n) (c .if1 .taken)
 
 atomic-entries-requires : tie.Need-atomic-entries-requires
-atomic-entries-requires c κs =
-    let at-start = c .before in
-    omega (arith, bytes-least (at-start .args .a) (at-start .args .n), at-start .pre .1, at-start .pre .0, c .if1 .left)
-
-capped-requires : tie.Need-capped-requires
-capped-requires c κs = search needs
+atomic-entries-requires c κs = search needs
 
 returns-2 : tie.Need-returns-2
-returns-2 c = rw (c .capped .ensures) (capped-counted (plain-reached (c .before .atomic-entries .ensures)))
+returns-2 c = λ b. plain-counted (c .atomic-entries .ensures) (omega arith)
 
 pub count-atomics-spec : {M : Type 1} → statement M
-count-atomics-spec =
-    tie.close (tie.spec add-t6 returns atomic-entries-requires capped-requires returns-2)
+count-atomics-spec = tie.close (tie.spec add-result returns atomic-entries-requires returns-2)

@@ -1,5 +1,8 @@
 -- `values::count_value` meets its contract.
-use Rattle.values.proofs.ReadingLaws.{value-atomic, value-struct, counted-as}
+use native.Mathlib.Omega.{arith}
+use mathlib.Core.Path.{sym}
+use Rattle.values.proofs.ReadingLaws.{value-atomic, value-struct}
+use Rattle.values.proofs.CountLaws.{counted-same}
 use borrow.Author.Needs.{needs}
 use Rattle.values.proofs.reading.count_value.Statement.{statement}
 use Rattle.values.proofs.reading.count_value.Tie as tie
@@ -13,32 +16,31 @@ enum-known-ty c = search needs
 
 count-atomics-requires : tie.Need-count-atomics-requires
 count-atomics-requires c κs =
-    let at-start = c .before .before .before in
-    let long = at-start .pre .1 in
-    (at-start .pre .0 .1 .1, rw (c .before .ty .given .1) at long)
+    c .before .before .before .pre .1 .1
 
 enum-known-ty-2 : tie.Need-enum-known-ty-2
 enum-known-ty-2 c = search needs
 
 count-structs-requires : tie.Need-count-structs-requires
 count-structs-requires c κs =
-    let at-start = c .before .before .before in
-    let fits = at-start .pre .0 .1 .0 in
-    (at-start .pre .0 .0, (rw (c .before .ty2 .given .1) at fits, at-start .pre .0 .1 .1))
+    let at-ty = c .before .before in
+    let p = at-ty .before .before .pre in
+    let fits = p .1 .0 in
+    (p .0, (rw (at-ty .ty2 .given .1) at fits, (p .1 .1, omega arith)))
 
 returns : tie.Need-returns
 returns c =
     let at-start = c .before .before .before .before in
     let a = at-start .args in
-    counted-as (λ image. value-atomic (a .types .now) (a .members .now) (a .n) image (a .ty) _
-    (c .before .before .ty .given .1)) (c .count-atomics .ensures)
+    counted-same (c .count-atomics .ensures (a .texts .now)) (λ image. sym
+    (value-atomic (a .types .now) (a .members .now) (a .n) image (a .ty) _ (c .before .before .ty .given .1)))
 
 returns-2 : tie.Need-returns-2
 returns-2 c =
-    let at-start = c .before .before .before .before in
-    let a = at-start .args in
-    counted-as (λ image. value-struct (a .types .now) (a .members .now) (a .n) image (a .ty) _
-    (c .before .before .ty2 .given .1)) (c .count-structs .ensures)
+    let at-ty = c .before .before .before in
+    let a = at-ty .before .before .args in
+    counted-same (c .count-structs .ensures) (λ image. sym
+    (value-struct (a .types .now) (a .members .now) (a .n) image (a .ty) _ (at-ty .ty2 .given .1)))
 
 pub count-value-spec : {M : Type 1} → statement M
 count-value-spec =

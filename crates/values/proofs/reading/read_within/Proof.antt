@@ -29,18 +29,12 @@ same c =
     (at-start .pre .0 .1) (λ k. c .shared-slice-known .given k .fits)
 
 count-value-requires : tie.Need-count-value-requires
-count-value-requires c κs =
-    let at-start = c .before .before in
-    let v = at-start .pre .0 .1 in
-    ((at-start .pre .0 .0, (v .fits, omega (arith, at-start .pre .1))), v .long)
-
-mul-if1 : tie.Need-mul-if1
-mul-if1 c = search needs
+count-value-requires c κs = search needs
 
 returns : tie.Need-returns
 returns c =
     let at-count = c .before in
-    let at-known = at-count .before .before in
+    let at-known = at-count .before .before .before in
     let at-start = at-known .before in
     let a = at-start .args in
     let over = at-count .count-value .ensures .over (c .if1 .taken) (a .image .now) in
@@ -57,9 +51,9 @@ sub-left c = search needs
 text-value-requires : tie.Need-text-value-requires
 text-value-requires c κs =
     let at-count = c .before in
-    let at-start = at-count .before .before .before in (
+    let at-start = at-count .before .before .before .before in (
       (at-start .pre .0 .0, (omega (arith, at-start .pre .1), at-start .pre .0 .1)),
-      λ p. at-count .count-value .ensures .plain p (at-start .args .image .now),
+      λ p. at-count .count-value .ensures .quiet (c .if1 .left) p (at-start .args .image .now),
     )
 
 returns-2 : tie.Need-returns-2
@@ -67,11 +61,11 @@ returns-2 c =
     let at-text = c .before in
     let at-else = at-text .before in
     let at-count = at-else .before in
-    let at-known = at-count .before .before in
+    let at-known = at-count .before .before .before in
     let at-start = at-known .before in
     let a = at-start .args in
     let over = at-text .text-value .ensures .over (c .if2 .taken) in
-    let is = at-count .count-value .ensures .exact (omega (arith, at-else .if1 .left)) (a .image .now) in
+    let is = at-count .count-value .ensures .exact (at-else .if1 .left) (a .image .now) in
     no-room (a .types .now) (a .members .now) (a .ty) (a .n) (a .image .now) (a .out .now)
     (over-room (a .types .now) (a .members .now) (a .ty) (a .n) (a .image .now) (a .out .now) (a .room)
     (same at-known) (at-start .pre .1) (omega (arith, over, is, at-else .if1 .left)))
@@ -95,10 +89,10 @@ read-value-requires c κs =
     let at-text = at-left .before in
     let at-else = at-text .before in
     let at-count = at-else .before in
-    let at-known = at-count .before .before in
+    let at-known = at-count .before .before .before in
     let at-start = at-known .before in
     let a = at-start .args in
-    let is = at-count .count-value .ensures .exact (omega (arith, at-else .if1 .left)) (a .image .now) in
+    let is = at-count .count-value .ensures .exact (at-else .if1 .left) (a .image .now) in
     let text = at-text .text-value .ensures .exact (omega (arith, at-left .if2 .left)) in
     let long = at-store .store32 .kept .0 in (
       (at-start .pre .0 .0, at-start .pre .0 .1),
@@ -109,8 +103,8 @@ read-value-requires c κs =
       },
     )
 
-add-t13 : tie.Need-add-t13
-add-t13 c = search needs
+add-t17 : tie.Need-add-t17
+add-t17 c = search needs
 
 same-length : tie.Need-same-length
 same-length c = search needs
@@ -123,13 +117,13 @@ returns-3 c =
     let at-text = at-left .before in
     let at-else = at-text .before in
     let at-count = at-else .before in
-    let at-known = at-count .before .before in
+    let at-known = at-count .before .before .before in
     let at-start = at-known .before in
     let a = at-start .args in
-    let is = at-count .count-value .ensures .exact (omega (arith, at-else .if1 .left)) (a .image .now) in
+    let is = at-count .count-value .ensures .exact (at-else .if1 .left) (a .image .now) in
     let text = at-text .text-value .ensures .exact (omega (arith, at-left .if2 .left)) in
     read-all (a .types .now) (a .members .now) (a .ty) (a .n) (a .image .now) (a .out .now) (a .room)
-    (same at-known) (at-start .pre .1) (sym is) (sym text)
+    (same at-known) (at-start .pre .1) (omega (arith, is)) (sym text)
     (omega (arith, is, text, at-left .if2 .left, at-else .if1 .left)) (at-store .store32 .ensures)
     (at-read .read-value .ensures)
 
@@ -138,7 +132,6 @@ read-within-spec =
     tie.close
     (tie.spec
     count-value-requires
-    mul-if1
     returns
     mul-left
     sub-left
@@ -149,6 +142,6 @@ read-within-spec =
     mul-base
     add-base
     read-value-requires
-    add-t13
+    add-t17
     same-length
     returns-3)

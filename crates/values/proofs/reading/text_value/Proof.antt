@@ -7,6 +7,7 @@ use Rattle.values.proofs.ReadingLaws.{images, no-texts, value-atomic}
 use Rattle.values.proofs.TextCountLaws.{texts-as}
 use Rattle.values.proofs.LeafLaws.{textless-atomics}
 use borrow.Author.Needs.{needs}
+use borrow.Author.Tests.{not-true}
 use Rattle.values.proofs.reading.text_value.Statement.{statement}
 use Rattle.values.proofs.reading.text_value.Tie as tie
 use Rattle.values.proofs.reading.text_value.Reads as reads
@@ -14,7 +15,7 @@ use Rattle.values.proofs.reading.text_value.Lts as lts
 use Rattle.values.proofs.reading.text_structs.Reads as text-structs-reads
 
 returns : tie.Need-returns
-returns c = no-texts (c .before .before .pre .1 (c .if1 .taken))
+returns c = no-texts (c .before .before .pre .1 (not-true _ (c .if1 .taken)))
 
 enum-told : tie.Need-enum-told
 enum-told c = search needs

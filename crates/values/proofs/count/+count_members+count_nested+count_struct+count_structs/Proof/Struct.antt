@@ -1,0 +1,69 @@
+-- `values::count_struct` meets its contract (document 01, "Value stream"): a string is one entry, any other structure
+-- its members.
+use Prim.Native.Nat.{ℕ}
+use native.Mathlib.Omega.{arith}
+use borrow.Author.Needs.{needs}
+use borrow.Fn.Kinds.{In, Out}
+use denote.Ref.{now}
+use mathlib.Core.Path.{_≡_, sym, ap, _∙_}
+use Rattle.types.specs.Tables.{typeAt}
+use Rattle.types.specs.declared.member.StructDef.{StructDef}
+use Rattle.values.specs.Trees.{isString}
+use Rattle.values.proofs.CountLaws.{text-counted, members-counted}
+use Rattle.types.proofs.type_at.Reads as type-at-reads
+use Rattle.values.proofs.rows.is_string.Reads as is-string-reads
+use Rattle.values.proofs.count.count_struct.Reads as reads
+use Rattle.values.proofs.count.count_struct.Kinds as kinds
+use Rattle.values.proofs.count.+count_members+count_nested+count_struct+count_structs.Lts-count_struct as lts
+use Rattle.values.proofs.count.count_members.Reads as members-reads
+use Rattle.values.proofs.count.+count_members+count_nested+count_struct+count_structs.Proof.Measures as measures
+
+abbrev claims : ℕ → lts.Claims
+claims t = (
+  type-at-reads.Asked,
+  type-at-reads.Learnt,
+  is-string-reads.Asked,
+  is-string-reads.Learnt,
+  measures.members-below t,
+  members-reads.Post,
+)
+
+module _ (t : ℕ) where
+  abbrev so : (lts.Claims → In 3 kinds.ps → Out 3 kinds.ps kinds.r → Type 0) → Type 0
+  so need = need (claims t) (measures.struct-at t) reads.Post
+
+  kind-is : (c : so lts.After-is-string)
+      → let a = c .before .before .args in
+      isString (typeAt (now (a .types)) (a .i) .kind) ≡ c .is-string .result
+  kind-is c =
+      ap (λ (d : StructDef). isString (d .kind)) (sym (c .before .type-at .ensures)) ∙ sym (c .is-string .ensures)
+
+  type-at-requires : so lts.Need-type-at-requires
+  type-at-requires c κs = c .pre .1 .1 .0
+
+  is-string-requires : so lts.Need-is-string-requires
+  is-string-requires c κs = search needs
+
+  add-result : so lts.Need-add-result
+  add-result c = omega (arith, c .before .before .before .pre .1)
+
+  returns : so lts.Need-returns
+  returns c =
+      let p = c .before .before .before .pre .1 in
+      text-counted (p .0) (p .1 .0) (kind-is (c .before) ∙ c .if1 .taken)
+
+  count-members-requires : so lts.Need-count-members-requires
+  count-members-requires c κs =
+      let p = c .before .before .before .before .pre in
+      (omega (arith, p .0), p .1)
+
+  returns-2 : so lts.Need-returns-2
+  returns-2 c =
+      let else1 = c .before .before in
+      let p = else1 .before .before .before .pre .1 in
+      members-counted (p .0) (p .1 .0) (kind-is (else1 .before) ∙ else1 .if1 .left) (c .count-members .ensures)
+
+  pub closed : {M : Type 1} → lts.Closed (claims t) (measures.struct-at t) reads.Post M
+  closed =
+      lts.spec (claims t) (measures.struct-at t) reads.Post type-at-requires is-string-requires add-result returns
+      count-members-requires returns-2
