@@ -1,5 +1,5 @@
--- How many entries a value has (document 01, "Value stream"): the entries and texts of runs and brackets, counts that
--- go on from a number, and what a string, an array of structures and a member's number add to them.
+-- How many entries a value has (document 01, "Value stream"): counts that go on from a number, and what a
+-- string, an array of structures and a member's number add to them.
 use Prim.Native.Nat.{ℕ, zero, suc, _+_, _*_, _^_, _<_, _≤_}
 use native.Mathlib.Decide.{decLe}
 use native.Mathlib.Nat.{mul-le-mul}
@@ -19,52 +19,8 @@ use Rattle.values.specs.Trees.{isString}
 use Rattle.values.specs.Walk.{upTo, wrap, textOut, capacityAt, elementBy, elementsBy, structsBy, membersBy}
 use Rattle.values.specs.Walk.{structBy, structWithin, structOut}
 use Rattle.values.specs.Walkable.{Walkable}
+use Rattle.values.proofs.UpLaws.{up-length, up-least, up-first, up-bodies, wrap-length, wrap-bodies}
 use Rattle.values.proofs.WalkLaws.{struct-out}
-
--- ---- runs and brackets
-
-pub bodies-append : (x y : List Token) → bodies (x ++ y) ≡ bodies x ++ bodies y
-unfolding bodies
-bodies-append [] y = refl
-bodies-append (t ∷ x) y = rw (bodies-append x y) (sym (append-assoc (bodyOf t) (bodies x) (bodies y)))
-
-pub wrap-length : (start stop : ℕ) (ts : List Token) → length (wrap start stop ts) ≡ 2 + length ts
-wrap-length start stop ts = omega (arith, length-append ts (mark stop ∷ []))
-
-pub wrap-bodies : (start stop : ℕ) (ts : List Token) → bodies (wrap start stop ts) ≡ bodies ts
-unfolding bodies
-wrap-bodies start stop ts = bodies-append ts (mark stop ∷ []) ∙ append-nil (bodies ts)
-
-module _ (g : ℕ → List Token) where
-  pub up-length : (r : ℕ) → ((k : ℕ) → length (g k) ≡ r) → (n : ℕ) → length (upTo g n) ≡ n * r
-  unfolding upTo
-  up-length r e zero = omega arith
-  up-length r e (suc n) = length-append (upTo g n) (g n) ∙ omega (arith, up-length r e n, e n)
-
-  -- elements with at least so many entries each
-  pub up-least : (r : ℕ) → ((k : ℕ) → r ≤ length (g k)) → (n : ℕ) → n * r ≤ length (upTo g n)
-  unfolding upTo
-  up-least r e zero = omega arith
-  up-least r e (suc n) = omega (arith, length-append (upTo g n) (g n), up-least r e n, e n)
-
-  -- a longer run has no fewer
-  pub up-more : (j n : ℕ) → j ≤ n → length (upTo g j) ≤ length (upTo g n)
-  unfolding upTo
-  up-more j zero h = let e : j ≡ 0 = omega arith in rw e (omega arith)
-  up-more j (suc n) h = go (decLe j n) (up-more j n)
-    where
-      go : Dec (j ≤ n) → (j ≤ n → length (upTo g j) ≤ length (upTo g n)) → length (upTo g j) ≤ length (upTo g n ++ g n)
-      go (yes l) ih = omega (arith, length-append (upTo g n) (g n), ih l)
-      go (no l) ih = let e : j ≡ suc n = omega (arith, l) in rw e (omega arith)
-
-  pub up-first : (n : ℕ) → (n ≡ 0 → ⊥) → length (g 0) ≤ length (upTo g n)
-  unfolding upTo
-  up-first n z = up-more 1 n (omega (arith, z))
-
-  pub up-bodies : ((k : ℕ) → bodies (g k) ≡ []) → (n : ℕ) → bodies (upTo g n) ≡ []
-  unfolding upTo bodies
-  up-bodies e zero = refl
-  up-bodies e (suc n) = bodies-append (upTo g n) (g n) ∙ ap₂ _++_ (up-bodies e n) (e n)
 
 -- ---- counts that go on from a number
 

@@ -21,7 +21,8 @@ use Rattle.values.specs.Counting.{Counted, Plain}
 use Rattle.values.specs.Leaf.{leafOf, emit}
 use Rattle.values.specs.Stream.{bodyOf, bodies}
 use Rattle.values.specs.Walk.{upTo, bitToken, bitsOut, numberOut, elementOut, numbersOut, atomicsOut, leafOut}
-use Rattle.values.proofs.CountLaws.{wrap-length, wrap-bodies, up-length, up-bodies, plain-same}
+use Rattle.values.proofs.CountLaws.{plain-same}
+use Rattle.values.proofs.UpLaws.{wrap-length, wrap-bodies, up-length, up-bodies}
 
 -- ---- atomics
 

@@ -16,8 +16,9 @@ use Rattle.values.specs.Counting.{Counted, Plain}
 use Rattle.values.specs.Stream.{Token, bodies}
 use Rattle.values.specs.Walk.{isNested, upTo, wrap, leafOut, structsBy, memberBy, rowBy, membersBy, structOut}
 use Rattle.values.specs.Walkable.{Walkable, RowOf, NestedRow}
-use Rattle.values.proofs.CountLaws.{bodies-append, wrap-length, wrap-bodies, up-more, plain-counted}
-use Rattle.values.proofs.CountLaws.{counted-same, plain-same, member-counted}
+use Rattle.values.proofs.CountLaws.{counted-same, member-counted, plain-counted, plain-same}
+use Rattle.values.proofs.EntryLaws.{bodies-append}
+use Rattle.values.proofs.UpLaws.{up-grows, wrap-length, wrap-bodies}
 use Rattle.values.proofs.MemberLaws.{member-leaf, member-nested, row-of}
 
 -- ---- one run after another
@@ -60,7 +61,7 @@ module _ (g : List ℕ → ℕ → List Token) where
         record {
           exact = λ k. absurd (let z : ⊥ = omega arith in z);
           over = λ k image.
-              omega (arith, run-length j image, run-length n image, up-more (g image) j n l, w .over h image);
+              omega (arith, run-length j image, run-length n image, up-grows (g image) j n l, w .over h image);
           quiet = λ k. absurd (let z : ⊥ = omega arith in z);
           still = w .still;
         }

@@ -5,6 +5,7 @@ pub mod CountLaws
 pub mod CountLeaves
 pub mod CountRows
 pub mod EntryLaws
+pub mod FormLaws
 pub mod KeptWalkable
 pub mod LayingLaws
 pub mod LeafLaws

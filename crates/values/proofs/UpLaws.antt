@@ -1,7 +1,8 @@
 -- Runs of entries and brackets around them, as the walk makes them (document 01, "Reading"): how a run splits, how long
 -- it is, and what texts it has.
-use Prim.Native.Nat.{ℕ, zero, suc, _+_, _*_, _<_}
-use native.Mathlib.Nat.{add-zero, add-suc}
+use Prim.Native.Nat.{ℕ, zero, suc, _+_, _*_, _<_, _≤_}
+use native.Mathlib.Decide.{decLe}
+use native.Mathlib.Nat.{add-zero, add-suc, mul-one}
 use native.Mathlib.Numerals.{add-one}
 use native.Mathlib.Omega.{arith}
 use mathlib.Core.Path.{_≡_, refl, sym, ap, ap₂, _∙_}
@@ -34,11 +35,35 @@ up-split g i zero = rw add-zero (sym (append-nil (upTo g i)))
 up-split g i (suc n) =
     rw (add-suc, up-split g i n) (append-assoc (upTo g i) (upTo (λ k. g (i + k)) n) (g (i + n)))
 
--- an entry for each element
+-- as many entries for each element
+module _ (g : ℕ → List Token) where
+  pub up-length : (r : ℕ) → ((k : ℕ) → length (g k) ≡ r) → (n : ℕ) → length (upTo g n) ≡ n * r
+  unfolding upTo
+  up-length r e zero = omega arith
+  up-length r e (suc n) = length-append (upTo g n) (g n) ∙ omega (arith, up-length r e n, e n)
+
+  -- elements with at least so many entries each
+  pub up-least : (r : ℕ) → ((k : ℕ) → r ≤ length (g k)) → (n : ℕ) → n * r ≤ length (upTo g n)
+  unfolding upTo
+  up-least r e zero = omega arith
+  up-least r e (suc n) = omega (arith, length-append (upTo g n) (g n), up-least r e n, e n)
+
+  -- a longer run has no fewer
+  pub up-grows : (j n : ℕ) → j ≤ n → length (upTo g j) ≤ length (upTo g n)
+  unfolding upTo
+  up-grows j zero h = let e : j ≡ 0 = omega arith in rw e (omega arith)
+  up-grows j (suc n) h = go (decLe j n) (up-grows j n)
+    where
+      go : Dec (j ≤ n) → (j ≤ n → length (upTo g j) ≤ length (upTo g n)) → length (upTo g j) ≤ length (upTo g n ++ g n)
+      go (yes l) ih = omega (arith, length-append (upTo g n) (g n), ih l)
+      go (no l) ih = let e : j ≡ suc n = omega (arith, l) in rw e (omega arith)
+
+  pub up-first : (n : ℕ) → (n ≡ 0 → ⊥) → length (g 0) ≤ length (upTo g n)
+  unfolding upTo
+  up-first n z = up-grows 1 n (omega (arith, z))
+
 pub up-ones : (g : ℕ → List Token) (n : ℕ) → ((k : ℕ) → length (g k) ≡ 1) → length (upTo g n) ≡ n
-unfolding upTo
-up-ones g zero e = refl
-up-ones g (suc n) e = omega (arith, length-append (upTo g n) (g n), e n, up-ones g n e)
+up-ones g n e = up-length g 1 e n ∙ mul-one n
 
 pub up-bodies : (g : ℕ → List Token) → ((k : ℕ) → bodies (g k) ≡ []) → (n : ℕ) → bodies (upTo g n) ≡ []
 unfolding upTo

@@ -1,6 +1,7 @@
 -- What a value stream is, what reading gives, and the walk that the code makes.
 pub mod Stream
 pub mod Entry
+pub mod Form
 pub mod Leaf
 pub mod Tree
 pub mod Trees

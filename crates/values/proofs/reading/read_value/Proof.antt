@@ -51,7 +51,8 @@ read-structs-requires c κs =
     let a = at-start .args in
     let is = at-ty .ty2 .given .1 in (
       (at-start .pre .0 .0, images (a .types .now) (a .ty) _ (a .n) (a .image .now) is (at-start .pre .0 .1)),
-      room-as (ap (λ (t : Ty). valueOut (a .types .now) (a .members .now) t (a .n) (a .image .now)) is) (at-start .pre .1),
+      room-as (ap (λ (t : Ty). valueOut (a .types .now) (a .members .now) t (a .n) (a .image .now)) is)
+          (at-start .pre .1),
     )
 
 same-length-2 : tie.Need-same-length-2

@@ -1,0 +1,67 @@
+-- The form of a value stream (document 01, "Value stream"; refusal 17): the number of entries, that many entries, and
+-- the text bodies, gapless, in entry order, to the stream's end; at most 2^31 bytes.
+use Prim.Native.Nat.{ℕ, zero, suc, _+_, _*_, _^_, _≤_}
+use mathlib.Core.Path.{_≡_}
+use mathlib.Core.Bool.{Bool, true, false, cond}
+use mathlib.Core.List.{List}
+use lib.Dec.{eqb, leb}
+use lib.ListN.{length}
+use Rattle.words.specs.Words.{wordAt}
+use Rattle.values.specs.Entry.{entryIn}
+use Rattle.values.specs.Stream.{mostBytes}
+use Rattle.values.specs.declared.entries.Entry.{Entry}
+use Rattle.values.specs.declared.entries.Entry.the-variants as entry
+use Rattle.values.specs.declared.entries.Loaded.{Loaded}
+use Rattle.values.specs.declared.entries.Loaded.the-variants.{Is, Malformed}
+use Rattle.values.specs.declared.form.Step.{Step}
+use Rattle.values.specs.declared.form.Step.the-variants.{At, Broken}
+
+-- a text must begin at the place where the one before it ended, and moves that place on; no other entry does
+abbrev pub textStep : ℕ → ℕ → ℕ → Step
+textStep at long place = cond (eqb at place) (At (place + long)) Broken
+
+abbrev pub entryStep : Entry → ℕ → Step
+entryStep entry.Null place = At place
+entryStep (entry.Bool b) place = At place
+entryStep (entry.Signed x) place = At place
+entryStep (entry.Unsigned x) place = At place
+entryStep (entry.Real x) place = At place
+entryStep (entry.LReal x) place = At place
+entryStep (entry.Text at long) place = textStep at long place
+entryStep (entry.Member j) place = At place
+entryStep entry.Open place = At place
+entryStep entry.Close place = At place
+entryStep entry.ArrayOpen place = At place
+entryStep entry.ArrayClose place = At place
+
+abbrev pub loadedStep : Loaded → ℕ → Step
+loadedStep (Is e) place = entryStep e place
+loadedStep Malformed place = Broken
+
+-- a step, and that it moves the place by at most 2^32
+pub record Stepped (place : ℕ) (step r : Step) : Type 0 where
+  pub is : r ≡ step
+  pub near : (next : ℕ) → r ≡ At next → next ≤ place + 2 ^ 32
+
+abbrev pub onStep : Step → (ℕ → Bool) → Bool
+onStep (At place) go = go place
+onStep Broken go = false
+
+-- the n entries from number k on, where the next text begins at a place of the bodies; these begin at the base
+unfoldable pub formed : List ℕ → ℕ → ℕ → ℕ → ℕ → Bool
+formed s base k zero place = eqb (base + place) (length s)
+formed s base k (suc n) place =
+    onStep (loadedStep (entryIn s (4 + 12 * k)) place) (λ next. formed s base (k + 1) n next)
+
+-- how many entries a stream says that it has, and where its bodies then begin
+abbrev pub countIn : List ℕ → ℕ
+countIn s = wordAt 4 s 0
+
+abbrev pub baseIn : List ℕ → ℕ
+baseIn s = 4 + 12 * countIn s
+
+unfoldable pub streamOk : List ℕ → Bool
+streamOk s =
+    cond (leb 4 (length s))
+    (cond (leb (length s) mostBytes)
+    (cond (leb (baseIn s) (length s)) (formed s (baseIn s) 0 (countIn s) 0) false) false) false
