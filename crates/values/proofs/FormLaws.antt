@@ -18,7 +18,7 @@ use Rattle.values.specs.declared.form.Step.the-variants.{At, Broken}
 
 -- ---- one entry
 
-at-same : (x y : ℕ) → At x ≡ At y → x ≡ y
+pub at-same : (x y : ℕ) → At x ≡ At y → x ≡ y
 at-same x y e = cc
 
 pub stays : {step : Step} (place : ℕ) → At place ≡ step → Stepped place step (At place)

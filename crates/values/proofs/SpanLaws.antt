@@ -132,7 +132,7 @@ module _ (types members : List ℕ) (trees : ℕ → Tree) (i : ℕ) (sound : So
   value-inside (ty.Struct s) n l = structs-inside s n l
 
   -- a member's bits are those that its row says
-  bit-span : (b : Bit) (m : Member) → Earlier i (m .ty)
+  pub bit-span : (b : Bit) (m : Member) → Earlier i (m .ty)
       → span (bitTree b (valueTree trees (m .ty) (m .count))) ≡ bitsOf (sizesIn types) b m
   bit-span None m l = value-span (m .ty) (m .count) l
   bit-span (At k) m l = unfold span in refl

@@ -15,6 +15,8 @@ use Rattle.values.specs.Stream.{Token, bool, number, text, member, mark}
 use Rattle.values.specs.Tree.{Tree, leaf, bits, array, struct, Branches, none, branch, room, allBits, span}
 use Rattle.values.specs.Tree.{Item, say, at, each, between, oneFlag, items, branchItems, read}
 use Rattle.values.specs.Walk.{upTo, wrap}
+use Rattle.values.proofs.CharLaws.{chars-ext}
+use Rattle.values.proofs.NumberLaws.{flat-part}
 use Rattle.values.proofs.UpLaws.{up-cons}
 
 -- ---- reading some items
@@ -96,13 +98,6 @@ mutual
 abbrev pub Agree : ℕ → ℕ → Bits → Bits → Type 0
 Agree p n x y = (k : ℕ) → p ≤ k → k < p + n → x k ≡ y k
 
-chars-ext : (n : ℕ) (b c : Bits) → ((k : ℕ) → k < 8 * n → b k ≡ c k) → chars n b ≡ chars n c
-unfolding chars
-chars-ext zero b c h = refl
-chars-ext (suc n) b c h =
-    ap₂ _∷_ (val-ext 8 b c (λ k l. h k (omega arith)))
-    (chars-ext n (from 8 b) (from 8 c) (λ k l. h (8 + k) (omega arith)))
-
 -- a leaf gives what its bits say
 pub emit-ext : (l : Leaf) (b c : Bits) → ((k : ℕ) → k < width l → b k ≡ c k) → emit l b ≡ emit l c
 emit-ext flag b c h = ap bool (h 0 (omega arith))
@@ -114,7 +109,7 @@ emit-ext (str capacity) b c h =
     ap (λ (v : ℕ). text (chars (min v capacity) (from 32 b))) e
     ∙ ap text (chars-ext (clipped capacity c) (from 32 b) (from 32 c) (λ k l. h (32 + k) (omega arith)))
 
-width-room : (l : Leaf) → width l ≤ room l
+pub width-room : (l : Leaf) → width l ≤ room l
 width-room flag = omega arith
 width-room byte = omega arith
 width-room (int n) = omega arith
@@ -176,18 +171,11 @@ mutual
 
 -- ---- a part of an image
 
-pub part-bit : (image : List ℕ) (a n k : ℕ) → k < 8 * n → flat (part image a n) k ≡ flat image (8 * a + k)
-unfolding flat part
-part-bit image a n k h =
-    let e : (8 * a + k) / 8 ≡ a + k / 8 = omega arith in
-    let f : (8 * a + k) % 8 ≡ k % 8 = omega arith in
-    rw (e, f, getD-take n (drop a image) (k / 8) 0 (omega arith), getD-drop a image (k / 8) 0)
-
 -- a tree at a byte is read from the part that begins there
 pub part-read : (t : Tree) (image : List ℕ) (a n : ℕ) → Inside t → span t ≤ 8 * n
     → read (items t 0) (flat (part image a n)) ≡ read (items t (8 * a)) (flat image)
 part-read t image a n i h =
-    alike t 0 (flat (part image a n)) (from (8 * a) (flat image)) i (λ k u v. part-bit image a n k (omega arith))
+    alike t 0 (flat (part image a n)) (from (8 * a) (flat image)) i (λ k u v. flat-part image a n k (omega arith))
     ∙ sym (shift t (8 * a) 0 (flat image)) ∙ ap (λ (p : ℕ). read (items t p) (flat image)) (add-zero (8 * a))
 
 -- n bytes of an image are a part of it

@@ -2,6 +2,7 @@
 pub mod Stream
 pub mod Entry
 pub mod Form
+pub mod Decode
 pub mod Leaf
 pub mod Tree
 pub mod Trees
@@ -11,6 +12,8 @@ pub mod Numbers
 pub mod Counting
 pub mod Laying
 pub mod Reading
+pub mod Normal
 pub mod Texts
 pub mod ReadingCases
+pub mod NormalCases
 pub mod ValueCases

@@ -1,0 +1,184 @@
+-- Every type's tree has branches that share no bit (document 01, "Layout", "Normal image"): what the layouts promise,
+-- carried over to trees, for tables as our own calls left them.
+use Prim.Native.Nat.{ℕ, zero, suc, _+_, _*_, _<_, _≤_}
+use native.Mathlib.Decide.{decLt}
+use native.Mathlib.Omega.{arith}
+use mathlib.Core.Path.{_≡_, refl, sym, ap, _∙_}
+use mathlib.Core.Bool.{Bool, true, false, cond}
+use mathlib.Core.List.{List, [], _∷_}
+use mathlib.Core.Logic.{_⊎_, inl, inr, ⊎-elim}
+use lib.Dec.{eqb}
+use Rattle.types.specs.Atomic.{bitString, sizeOf}
+use Rattle.types.specs.Defs.{partAt, partsAt}
+use Rattle.types.specs.Kept.{Kept}
+use Rattle.types.specs.Laid.{Earlier, firstBit, Laid}
+use Rattle.types.specs.Laid.{Clear as ClearOf}
+use Rattle.types.specs.Registry.{typeCount}
+use Rattle.types.specs.Tables.{TyFits, memberAt, typeAt}
+use Rattle.types.specs.Waste.{bitsOf, sizesIn}
+use Rattle.types.specs.declared.atomic.Atomic.{Atomic}
+use Rattle.types.specs.declared.atomic.Atomic.the-variants as atomic
+use Rattle.types.specs.declared.member.Bit.{Bit}
+use Rattle.types.specs.declared.member.Bit.the-variants.{None, At}
+use Rattle.types.specs.declared.member.Member.{Member}
+use Rattle.types.specs.declared.member.Ty.{Ty}
+use Rattle.types.specs.declared.member.Ty.the-variants as ty
+use Rattle.types.proofs.KeptLaws.{kept-laid, kept-unused}
+use Rattle.values.specs.Leaf.{leafOf, str}
+use Rattle.values.specs.Tree.{Tree, leaf, bits, array, struct, Branches, span}
+use Rattle.values.specs.Trees.{isString, membersAt, knownIn, secondCount, atomicsTree, structsTree, valueTree}
+use Rattle.values.specs.Trees.{bitTree, seen, branchesFrom, structTree, treeWithin, treeOf, treeOfValue}
+use Rattle.values.proofs.KeptWalkable.{kept-walkable}
+use Rattle.values.proofs.NormalLaws.{Good}
+use Rattle.values.proofs.PlacedLaws.{Clear, Placed, AllPlaced}
+use Rattle.values.proofs.SpanLaws.{Sound, sound-below, sound-within, bit-span}
+
+-- ---- atomics
+
+leaf-good : (a : Atomic) → Good (leafOf a)
+leaf-good atomic.Bool = tt
+leaf-good atomic.SInt = (omega arith, omega arith)
+leaf-good atomic.Int = (omega arith, omega arith)
+leaf-good atomic.DInt = (omega arith, omega arith)
+leaf-good atomic.LInt = (omega arith, omega arith)
+leaf-good atomic.USInt = tt
+leaf-good atomic.UInt = tt
+leaf-good atomic.UDInt = tt
+leaf-good atomic.ULInt = tt
+leaf-good atomic.Real = tt
+leaf-good atomic.LReal = tt
+leaf-good atomic.Byte = tt
+leaf-good atomic.Word = tt
+leaf-good atomic.DWord = tt
+leaf-good atomic.LWord = tt
+
+atomics-placed : (a : Atomic) (n : ℕ) → Placed (atomicsTree a n)
+unfolding atomicsTree Placed
+atomics-placed a n = go (bitString a) (eqb n 0)
+  where
+    go : (b c : Bool) → Placed (cond b (bits (8 * sizeOf a) n) (cond c (leaf (leafOf a)) (array n (leaf (leafOf a)))))
+    go true c = tt
+    go false true = leaf-good a
+    go false false = leaf-good a
+
+-- ---- a structure whose earlier ones are placed
+
+module _ (types members names : List ℕ) (trees : ℕ → Tree) (i : ℕ) (sound : Sound types trees i)
+    (placed : (s : ℕ) → s < i → Placed (trees s)) where
+  abbrev tree : Member → Tree
+  tree m = bitTree (m .bit) (valueTree trees (m .ty) (m .count))
+
+  structs-placed : (s n : ℕ) → s < i → Placed (structsTree trees s n)
+  unfolding structsTree Placed
+  structs-placed s n l = go (eqb n 0)
+    where
+      go : (b : Bool) → Placed (cond b (trees s) (array n (trees s)))
+      go true = placed s l
+      go false = placed s l
+
+  value-placed : (t : Ty) (n : ℕ) → Earlier i t → Placed (valueTree trees t n)
+  value-placed (ty.Atomic a) n l = atomics-placed a n
+  value-placed (ty.Struct s) n l = structs-placed s n l
+
+  member-placed : (b : Bit) (t : Ty) (n : ℕ) → Earlier i t → Placed (bitTree b (valueTree trees t n))
+  member-placed None t n l = value-placed t n l
+  member-placed (At k) t n l = unfold Placed in tt
+
+  -- a visible member shares no bit with the visible ones after it
+  rows-clear : (m : Member) → m .hidden ≡ false → Earlier i (m .ty) → (size j row n : ℕ)
+      → ClearOf (sizesIn types) m (partsAt members names row n)
+      → Laid (sizesIn types) i size (partsAt members names row n)
+      → Clear (firstBit m) (span (tree m)) (branchesFrom trees j (membersAt members row n))
+  unfolding ClearOf Laid partsAt partAt branchesFrom membersAt
+  rows-clear m v e size j row zero c d = tt
+  rows-clear m v e size j row (suc n) (c, cs) (d, ds) =
+      go (memberAt members row .hidden) refl (rows-clear m v e size (suc j) (row + 1) n cs ds)
+    where
+      mine : span (tree m) ≡ bitsOf (sizesIn types) (m .bit) m
+      mine = bit-span types members trees i sound (m .bit) m e
+
+      theirs : span (tree (memberAt members row))
+          ≡ bitsOf (sizesIn types) (memberAt members row .bit) (memberAt members row)
+      theirs = bit-span types members trees i sound (memberAt members row .bit) (memberAt members row) (d .earlier)
+
+      go : (h : Bool) → memberAt members row .hidden ≡ h
+          → Clear (firstBit m) (span (tree m)) (branchesFrom trees (suc j) (membersAt members (row + 1) n))
+          → Clear (firstBit m) (span (tree m))
+          (seen h j (firstBit (memberAt members row)) (tree (memberAt members row))
+          (branchesFrom trees (suc j) (membersAt members (row + 1) n)))
+      go true h rest = rest
+      go false h rest =
+          (⊎-elim (λ p. inl (omega (arith, p, mine))) (λ p. inr (omega (arith, p, theirs))) (c v h), rest)
+
+  rows-placed : (size j row n : ℕ) → Laid (sizesIn types) i size (partsAt members names row n)
+      → AllPlaced (8 * size) (branchesFrom trees j (membersAt members row n))
+  unfolding Laid partsAt partAt branchesFrom membersAt Placed
+  rows-placed size j row zero d = tt
+  rows-placed size j row (suc n) (d, ds) =
+      go (memberAt members row .hidden) refl (rows-placed size (suc j) (row + 1) n ds)
+    where
+      m : Member
+      m = memberAt members row
+
+      go : (h : Bool) → memberAt members row .hidden ≡ h
+          → AllPlaced (8 * size) (branchesFrom trees (suc j) (membersAt members (row + 1) n))
+          → AllPlaced (8 * size)
+          (seen h j (firstBit (memberAt members row)) (tree (memberAt members row))
+          (branchesFrom trees (suc j) (membersAt members (row + 1) n)))
+      go true h rest = rest
+      go false h rest = (
+        member-placed (memberAt members row .bit) (memberAt members row .ty) (memberAt members row .count)
+            (d .earlier),
+        (
+          omega (
+            arith,
+            d .inside,
+            bit-span types members trees i sound (memberAt members row .bit)
+                (memberAt members row) (d .earlier),
+          ),
+          (rows-clear (memberAt members row) h (d .earlier) size (suc j) (row + 1) n (d .clear) ds, rest),
+        ),
+      )
+
+  struct-placed : Laid (sizesIn types) i (typeAt types i .size)
+      (partsAt members names (typeAt types i .first) (typeAt types i .count))
+      → Placed (structTree trees (knownIn types members i))
+  unfolding structTree knownIn Placed
+  struct-placed d = go (isString (typeAt types i .kind))
+    where
+      go : (b : Bool)
+          → Placed
+          (cond b (leaf (str (secondCount (membersAt members (typeAt types i .first) (typeAt types i .count)))))
+          (struct (8 * typeAt types i .size)
+          (branchesFrom trees 0 (membersAt members (typeAt types i .first) (typeAt types i .count)))))
+      go true = tt
+      go false = rows-placed (typeAt types i .size) 0 (typeAt types i .first) (typeAt types i .count) d
+
+-- ---- tables as our own calls left them
+
+module _ {types members names : List ℕ} (k : Kept types members names) where
+  laid-all : (i : ℕ) → Laid (sizesIn types) i (typeAt types i .size)
+      (partsAt members names (typeAt types i .first) (typeAt types i .count))
+  laid-all i = go (decLt i (typeCount types))
+    where
+      go : Dec (i < typeCount types) → Laid (sizesIn types) i (typeAt types i .size)
+          (partsAt members names (typeAt types i .first) (typeAt types i .count))
+      go (yes l) = kept-laid k i l
+      go (no l) = rw (kept-unused k i (omega (arith, l))) (unfold partsAt Laid in tt)
+
+  within-placed : (f i : ℕ) → f ≤ 200 → i < f → Placed (treeWithin (knownIn types members) f i)
+  unfolding treeWithin
+  within-placed zero i h l = absurd (let z : ⊥ = omega arith in z)
+  within-placed (suc f) i h l =
+      struct-placed types members names (treeWithin (knownIn types members) f) i
+      (sound-below i (omega arith) (sound-within types members (kept-walkable k) f (omega arith)))
+      (λ s q. within-placed f s (omega arith) (omega arith)) (laid-all i)
+
+  -- a value's tree
+  pub kept-placed : (t : Ty) (n : ℕ) → TyFits t → Placed (treeOfValue (knownIn types members) t n)
+  unfolding treeOfValue treeOf
+  kept-placed (ty.Atomic a) n h = atomics-placed a n
+  kept-placed (ty.Struct s) n h =
+      structs-placed types members names (treeWithin (knownIn types members) 200) 200
+      (sound-within types members (kept-walkable k) 200 (omega arith))
+      (λ j q. within-placed 200 j (omega arith) q) s n h

@@ -1,0 +1,143 @@
+-- The first half of demand 3 (document 01, "Normal image"), over byte images and byte streams, for tables as our own
+-- calls left them: two images of a value whose streams have room give the same stream exactly when their normal images
+-- are equal, and normalising again changes nothing.
+use Prim.Native.Nat.{ℕ, _*_, _^_, _<_, _≤_}
+use native.Mathlib.Decide.{decLt}
+use native.Mathlib.Omega.{arith}
+use mathlib.Core.Path.{_≡_, refl, sym, ap, ap₂, _∙_}
+use mathlib.Core.Bool.{Bool, true, false}
+use mathlib.Core.List.{List}
+use mathlib.Core.Logic.{_↔_}
+use lib.ListN.{length}
+use Rattle.words.specs.Bits.{Bits, flat}
+use Rattle.words.specs.Words.{Bytes}
+use Rattle.types.specs.Kept.{Kept}
+use Rattle.types.specs.Layout.{times}
+use Rattle.types.specs.Registry.{typeCount}
+use Rattle.types.specs.Tables.{TyFits, typeAt}
+use Rattle.types.specs.Waste.{sizeIn, sizesIn}
+use Rattle.types.specs.declared.member.Ty.{Ty}
+use Rattle.types.proofs.KeptLaws.{kept-listed, kept-unused}
+use Rattle.values.specs.Decode.{tokensIn}
+use Rattle.values.specs.Leaf.{chars}
+use Rattle.values.specs.Normal.{held, normal, normalImage}
+use Rattle.values.specs.Reading.{streamOf, valueStream}
+use Rattle.values.specs.Stream.{Token, streamBytes, mostBytes}
+use Rattle.values.specs.Tree.{Item, Tree, items, read, span}
+use Rattle.values.specs.Trees.{knownIn, treeOfValue}
+use Rattle.values.specs.Walk.{valueOut}
+use Rattle.values.specs.Walkable.{ValueImage, Walkable}
+use Rattle.values.proofs.CharLaws.{flat-chars, length-chars}
+use Rattle.values.proofs.ItemLaws.{Apart, AllGood, normal-unheld, same-normal, same-read, normal-twice}
+use Rattle.values.proofs.KeptPlaced.{kept-placed}
+use Rattle.values.proofs.KeptWalkable.{kept-walkable}
+use Rattle.values.proofs.Meaning.{meaning}
+use Rattle.values.proofs.PlacedLaws.{Placed, tree-apart, tree-between, tree-good}
+use Rattle.values.proofs.ReadingLaws.{stream-is}
+use Rattle.values.proofs.SayLaws.{reading-back}
+use Rattle.values.proofs.SpanLaws.{tree-value-span}
+
+-- ---- a value of kept tables
+
+module _ {types members names : List ℕ} (k : Kept types members names) (t : Ty) (n : ℕ) (fits : TyFits t) where
+  abbrev tree : Tree
+  tree = treeOfValue (knownIn types members) t n
+
+  abbrev is : List Item
+  is = items tree 0
+
+  abbrev size : ℕ
+  size = sizeIn (sizesIn types) t * times n
+
+  walkable : Walkable types members
+  walkable = kept-walkable k
+
+  placed : Placed tree
+  placed = kept-placed k t n fits
+
+  apart : Apart is
+  apart = tree-apart tree 0 placed
+
+  good : AllGood is
+  good = tree-good tree 0 placed
+
+  image-is : (x : List ℕ) → normalImage tree x ≡ chars (length x) (normal is (flat x))
+  unfolding normalImage
+  image-is x = refl
+
+  stream-read : (x : List ℕ) → valueStream types members t n x ≡ streamBytes (read is (flat x))
+  unfolding streamOf
+  stream-read x = refl
+
+  -- no bit past the image is held, so that none is in the normal image
+  none-past : (x : Bits) (j : ℕ) → 8 * size ≤ j → normal is x j ≡ false
+  none-past x j l = normal-unheld is x j (go (held is j) refl)
+    where
+      go : (b : Bool) → held is j ≡ b → b ≡ false
+      go true e =
+          absurd (let z : ⊥ = omega (
+            arith,
+            l,
+            tree-between tree 0 placed j e .1,
+            tree-value-span types members walkable t n fits,
+          ) in z)
+      go false e = refl
+
+  few : (i : ℕ) → typeAt types i .count ≤ 2 ^ 32
+  few i = go (decLt i (typeCount types))
+    where
+      go : Dec (i < typeCount types) → typeAt types i .count ≤ 2 ^ 32
+      go (yes l) = omega (arith, walkable .each i (omega (arith, l, kept-listed k .few)) .rows)
+      go (no l) = rw (kept-unused k i (omega (arith, l))) (omega arith)
+
+  module _ (x : List ℕ) (v : ValueImage types t n x) (b : Bytes x) where
+    entries-are : valueOut types members t n x ≡ read is (flat x)
+    entries-are = meaning types members walkable t n x (v .fits) (v .long) b
+
+    -- the stream says the entries
+    tokens-are : length (valueStream types members t n x) ≤ mostBytes
+        → tokensIn (valueStream types members t n x) ≡ read is (flat x)
+    tokens-are room =
+        let e = stream-is types members walkable t n x v b in
+        ap tokensIn e
+        ∙ reading-back types members few t n x (rw e at room) .tokens
+        ∙ entries-are
+
+    -- the normal image's bits are the normal bits
+    normal-bits : flat (normalImage tree x) ≡ normal is (flat x)
+    unfolding normalImage
+    normal-bits =
+        flat-chars (length x) (normal is (flat x)) (λ j l. none-past (flat x) j (omega (arith, l, v .long)))
+
+    pub normal-again : normalImage tree (normalImage tree x) ≡ normalImage tree x
+    normal-again =
+        let long : length (normalImage tree x) ≡ length x
+        = ap length (image-is x) ∙ length-chars (length x) (normal is (flat x)) in
+        let same : normal is (flat (normalImage tree x)) ≡ normal is (flat x)
+        = ap (normal is) normal-bits ∙ normal-twice is apart good (flat x) in
+        image-is (normalImage tree x) ∙ ap₂ chars long same ∙ sym (image-is x)
+
+  -- the same stream exactly when the normal images are equal
+  pub same-stream : (x y : List ℕ) → ValueImage types t n x → ValueImage types t n y → Bytes x → Bytes y
+      → length (valueStream types members t n x) ≤ mostBytes → length (valueStream types members t n y) ≤ mostBytes
+      → (valueStream types members t n x ≡ valueStream types members t n y)
+      ↔ (normalImage tree x ≡ normalImage tree y)
+  same-stream x y v w b c l m = (there, back)
+    where
+      long : length x ≡ length y
+      long = v .long ∙ sym (w .long)
+
+      there : valueStream types members t n x ≡ valueStream types members t n y
+          → normalImage tree x ≡ normalImage tree y
+      there e =
+          let same : normal is (flat x) ≡ normal is (flat y)
+          = same-normal is apart good (flat x) (flat y)
+          (sym (tokens-are x v b l) ∙ ap tokensIn e ∙ tokens-are y w c m) in
+          image-is x ∙ ap₂ chars long same ∙ sym (image-is y)
+
+      back : normalImage tree x ≡ normalImage tree y
+          → valueStream types members t n x ≡ valueStream types members t n y
+      back e =
+          let same : normal is (flat x) ≡ normal is (flat y)
+          = sym (normal-bits x v b) ∙ ap flat e ∙ normal-bits y w c in
+          stream-read x ∙ ap streamBytes (same-read is apart good (flat x) (flat y) same) ∙ sym (stream-read y)

@@ -1,0 +1,234 @@
+-- Every entry of a reading can be said (document 01, "Value stream"): its kind is one of the twelve and its payload
+-- fits, so that a reading's stream is well formed and says the reading's entries.
+use Prim.Native.Nat.{ℕ, zero, suc, _+_, _-_, _*_, _^_, _<_, _≤_}
+use native.Mathlib.Nat.{add-zero}
+use native.Mathlib.Omega.{arith}
+use mathlib.Core.Path.{_≡_, refl, sym, ap, _∙_}
+use mathlib.Core.Bool.{Bool, true, false, cond}
+use mathlib.Core.List.{List, [], _∷_, _++_}
+use mathlib.Core.Logic.{_⊎_, inl, inr}
+use lib.Dec.{eqb, ltb}
+use lib.ListN.{length, length-append}
+use borrow.Author.Tests.{eq-eqb}
+use Rattle.words.specs.Bits.{Bits, flat, val}
+use Rattle.words.specs.Words.{part}
+use Rattle.words.proofs.BitLaws.{val-below}
+use Rattle.types.specs.Atomic.{bitString, sizeOf}
+use Rattle.types.specs.Laid.{Every}
+use Rattle.types.specs.Layout.{times}
+use Rattle.types.specs.Tables.{memberAt, typeAt}
+use Rattle.types.specs.Waste.{sizesIn}
+use Rattle.types.specs.declared.atomic.Atomic.{Atomic}
+use Rattle.types.specs.declared.atomic.Atomic.the-variants as atomic
+use Rattle.types.specs.declared.member.Bit.{Bit}
+use Rattle.types.specs.declared.member.Bit.the-variants.{None, At as BitAt}
+use Rattle.types.specs.declared.member.Member.{Member}
+use Rattle.types.specs.declared.member.Ty.{Ty}
+use Rattle.types.specs.declared.member.Ty.the-variants as ty
+use Rattle.values.specs.Decode.{tokenOf}
+use Rattle.values.specs.Entry.{EntryFits, entryKind, entryPayload}
+use Rattle.values.specs.Form.{entryStep}
+use Rattle.values.specs.Leaf.{emit, leafOf, signed}
+use Rattle.values.specs.Stream.{Token, null, bool, number, text, member, mark, kindOf, payloadOf, bodyOf, bodies}
+use Rattle.values.specs.Stream.{streamBytes, mostBytes}
+use Rattle.values.specs.Trees.{isString}
+use Rattle.values.specs.Walk.{upTo, wrap, bitToken, bitsOut, elementOut, numberOut, numbersOut, atomicsOut}
+use Rattle.values.specs.Walk.{bitOut}
+use Rattle.values.specs.Walk.{elementBy, elementsBy, structsBy, valueBy, memberBy, rowBy, membersBy, structBy}
+use Rattle.values.specs.Walk.{structWithin, structOut, valueOut, textOut, bytesBy}
+use Rattle.values.specs.declared.entries.Entry.{Entry}
+use Rattle.values.specs.declared.entries.Entry.the-variants as entry
+use Rattle.values.specs.declared.form.Step.the-variants.{At}
+use Rattle.values.proofs.DecodeBack.{Says, Saying, Back, decode-back}
+use Rattle.values.proofs.StreamLaws.{stream-long}
+
+-- an entry whose kind and payload can be said
+abbrev pub Sound : Token → Type 0
+Sound null = Unit {0}
+Sound (bool b) = Unit {0}
+Sound (number k x) =
+    ((k ≡ 2) × (x < 2 ^ 64)) ⊎ (((k ≡ 3) × (x < 2 ^ 64)) ⊎ (((k ≡ 4) × (x < 2 ^ 32)) ⊎ ((k ≡ 5) × (x < 2 ^ 64))))
+Sound (text s) = Unit {0}
+Sound (member j) = j < 2 ^ 32
+Sound (mark k) = (k ≡ 8) ⊎ ((k ≡ 9) ⊎ ((k ≡ 10) ⊎ (k ≡ 11)))
+
+-- ---- such an entry is said, where its text begins and ends below 2^32
+
+plain-says : (place : ℕ) (e : Entry) (t : Token) → EntryFits e → kindOf t ≡ entryKind e
+    → payloadOf place t ≡ entryPayload e → bodyOf t ≡ [] → entryStep e place ≡ At place
+    → ((s : List ℕ) (base : ℕ) → tokenOf s base e ≡ t) → Says place t
+plain-says place e t f k p b g u =
+    record {
+      entry = e;
+      fits = f;
+      kind = k;
+      payload = p;
+      step = g ∙ ap At (sym (ap (λ (r : List ℕ). place + length r) b ∙ add-zero place));
+      token = λ s base h. u s base;
+    }
+
+number-says : (place k x : ℕ) → Sound (number k x) → Says place (number k x)
+number-says place k x (inl (e, l)) =
+    rw e (plain-says place (entry.Signed x) (number 2 x) l refl refl refl refl (λ s base. refl))
+number-says place k x (inr (inl (e, l))) =
+    rw e (plain-says place (entry.Unsigned x) (number 3 x) l refl refl refl refl (λ s base. refl))
+number-says place k x (inr (inr (inl (e, l)))) =
+    rw e (plain-says place (entry.Real x) (number 4 x) l refl refl refl refl (λ s base. refl))
+number-says place k x (inr (inr (inr (e, l)))) =
+    rw e (plain-says place (entry.LReal x) (number 5 x) l refl refl refl refl (λ s base. refl))
+
+mark-says : (place k : ℕ) → Sound (mark k) → Says place (mark k)
+mark-says place k (inl e) = rw e (plain-says place entry.Open (mark 8) tt refl refl refl refl (λ s base. refl))
+mark-says place k (inr (inl e)) =
+    rw e (plain-says place entry.Close (mark 9) tt refl refl refl refl (λ s base. refl))
+mark-says place k (inr (inr (inl e))) =
+    rw e (plain-says place entry.ArrayOpen (mark 10) tt refl refl refl refl (λ s base. refl))
+mark-says place k (inr (inr (inr e))) =
+    rw e (plain-says place entry.ArrayClose (mark 11) tt refl refl refl refl (λ s base. refl))
+
+one-says : (place : ℕ) (t : Token) → Sound t → place + length (bodyOf t) < 2 ^ 32 → Says place t
+one-says place null w l = plain-says place entry.Null null tt refl refl refl refl (λ s base. refl)
+one-says place (bool b) w l = plain-says place (entry.Bool b) (bool b) tt refl refl refl refl (λ s base. refl)
+one-says place (number k x) w l = number-says place k x w
+one-says place (text bs) w l =
+    record {
+      entry = entry.Text place (length bs);
+      fits = (omega arith, omega arith);
+      kind = refl;
+      payload = refl;
+      step = rw (eq-eqb place place refl) refl;
+      token = λ s base h. ap text h;
+    }
+one-says place (member j) w l = plain-says place (entry.Member j) (member j) w refl refl refl refl (λ s base. refl)
+one-says place (mark k) w l = mark-says place k w
+
+all-say : (place : ℕ) (ts : List Token) → Every Sound ts → place + length (bodies ts) < 2 ^ 32 → Saying place ts
+unfolding Every bodies
+all-say place [] w l = tt
+all-say place (t ∷ ts) (w, ws) l =
+    let n = length-append (bodyOf t) (bodies ts) in
+    (one-says place t w (omega arith), all-say (place + length (bodyOf t)) ts ws (omega arith))
+
+-- ---- the entries of a reading are so
+
+every-append : (xs ys : List Token) → Every Sound xs → Every Sound ys → Every Sound (xs ++ ys)
+unfolding Every
+every-append [] ys a b = b
+every-append (x ∷ xs) ys (a, more) b = (a, every-append xs ys more b)
+
+every-up : (g : ℕ → List Token) (n : ℕ) → ((k : ℕ) → k < n → Every Sound (g k)) → Every Sound (upTo g n)
+unfolding upTo Every
+every-up g zero h = tt
+every-up g (suc n) h = every-append (upTo g n) (g n) (every-up g n (λ k l. h k (omega arith))) (h n (omega arith))
+
+every-wrap : (start stop : ℕ) (ts : List Token) → Sound (mark start) → Sound (mark stop) → Every Sound ts
+    → Every Sound (wrap start stop ts)
+unfolding Every
+every-wrap start stop ts a b w = (a, every-append ts (mark stop ∷ []) w (b, tt))
+
+-- an array's brackets
+in-array : (ts : List Token) → Every Sound ts → Every Sound (wrap 10 11 ts)
+in-array ts w = every-wrap 10 11 ts (inr (inr (inl refl))) (inr (inr (inr refl))) w
+
+signed-small : (n : ℕ) (b : Bits) → 2 ^ n ≤ 2 ^ 64 → signed n (val n b) < 2 ^ 64
+unfolding signed
+signed-small n b h = go (ltb (val n b) (2 ^ (n - 1)))
+  where
+    go : (t : Bool) → cond t (val n b) (val n b + (2 ^ 64 - 2 ^ n)) < 2 ^ 64
+    go true = omega (arith, val-below n b, h)
+    go false = omega (arith, val-below n b, h)
+
+emit-sound : (a : Atomic) (b : Bits) → Sound (emit (leafOf a) b)
+emit-sound atomic.Bool b = tt
+emit-sound atomic.SInt b = inl (refl, signed-small 8 b (omega arith))
+emit-sound atomic.Int b = inl (refl, signed-small 16 b (omega arith))
+emit-sound atomic.DInt b = inl (refl, signed-small 32 b (omega arith))
+emit-sound atomic.LInt b = inl (refl, signed-small 64 b (omega arith))
+emit-sound atomic.USInt b = inr (inl (refl, omega (arith, val-below 8 b)))
+emit-sound atomic.UInt b = inr (inl (refl, omega (arith, val-below 16 b)))
+emit-sound atomic.UDInt b = inr (inl (refl, omega (arith, val-below 32 b)))
+emit-sound atomic.ULInt b = inr (inl (refl, val-below 64 b))
+emit-sound atomic.Real b = inr (inr (inl (refl, val-below 32 b)))
+emit-sound atomic.LReal b = inr (inr (inr (refl, val-below 64 b)))
+emit-sound atomic.Byte b = inr (inl (refl, omega (arith, val-below 8 b)))
+emit-sound atomic.Word b = inr (inl (refl, omega (arith, val-below 16 b)))
+emit-sound atomic.DWord b = inr (inl (refl, omega (arith, val-below 32 b)))
+emit-sound atomic.LWord b = inr (inl (refl, val-below 64 b))
+
+either : (b : Bool) (x y : List Token) → Every Sound x → Every Sound y → Every Sound (cond b x y)
+either true x y p q = p
+either false x y p q = q
+
+bits-sound : (image : List ℕ) (n : ℕ) → Every Sound (bitsOut image n)
+unfolding bitsOut Every
+bits-sound image n = in-array (upTo (bitToken image) n) (every-up (bitToken image) n (λ k l. (tt, tt)))
+
+numbers-sound : (a : Atomic) (n : ℕ) (image : List ℕ) → Every Sound (numbersOut a n image)
+unfolding numbersOut Every
+numbers-sound a n image =
+    in-array (upTo (elementOut a image) n)
+    (every-up (elementOut a image) n (λ k l. (emit-sound a (flat (part image (sizeOf a * k) (sizeOf a))), tt)))
+
+atomics-sound : (a : Atomic) (n : ℕ) (image : List ℕ) → Every Sound (atomicsOut a n image)
+unfolding atomicsOut Every
+atomics-sound a n image =
+    either (bitString a) _ _ (bits-sound image (8 * (sizeOf a * times n)))
+    (either (eqb n 0) (numberOut a image) _ (emit-sound a (flat image), tt) (numbers-sound a n image))
+
+module _ (types members : List ℕ) (rec : ℕ → List ℕ → List Token)
+    (sound : (i : ℕ) (image : List ℕ) → Every Sound (rec i image)) where
+  structs-sound : (i n : ℕ) (image : List ℕ) → Every Sound (structsBy types members rec i n image)
+  unfolding structsBy elementsBy
+  structs-sound i n image =
+      either (eqb n 0) _ _ (sound i image)
+      (in-array _ (every-up (elementBy types members rec i image) n
+      (λ k l. sound i (part image (sizesIn types i * k) (sizesIn types i)))))
+
+  value-sound : (t : Ty) (n : ℕ) (image : List ℕ) → Every Sound (valueBy types members rec t n image)
+  value-sound (ty.Atomic a) n image = atomics-sound a n image
+  value-sound (ty.Struct i) n image = structs-sound i n image
+
+  bit-sound : (b : Bit) (f : ℕ → Bool) (ts : List Token) → Every Sound ts
+      → Every Sound (bitOut b (λ k. bool (f k) ∷ []) ts)
+  unfolding Every
+  bit-sound None f ts w = w
+  bit-sound (BitAt k) f ts w = (tt, tt)
+
+  member-sound : (j : ℕ) (m : Member) (image : List ℕ) → j < 2 ^ 32
+      → Every Sound (memberBy types members rec j m image)
+  unfolding memberBy Every
+  member-sound j m image l =
+      either (m .hidden) [] _ tt (
+        l,
+        bit-sound (m .bit) (λ k. flat image (8 * m .offset + k)) _
+            (value-sound (m .ty) (m .count) (part image (m .offset) (bytesBy types members rec m))),
+      )
+
+  struct-sound : (i : ℕ) (image : List ℕ) → typeAt types i .count ≤ 2 ^ 32
+      → Every Sound (structBy types members rec i image)
+  unfolding structBy membersBy Every
+  struct-sound i image l =
+      let row : ℕ → List Token = rowBy types members rec (typeAt types i .first) image in
+      either (isString (typeAt types i .kind)) _ _ (tt, tt)
+      (every-wrap 8 9 (upTo row (typeAt types i .count)) (inl refl) (inr (inl refl))
+      (every-up row (typeAt types i .count)
+      (λ k h. member-sound k (memberAt members (typeAt types i .first + k)) image (omega arith))))
+
+module _ (types members : List ℕ) (few : (i : ℕ) → typeAt types i .count ≤ 2 ^ 32) where
+  within-sound : (f i : ℕ) (image : List ℕ) → Every Sound (structWithin types members f i image)
+  unfolding structWithin Every
+  within-sound zero i image = tt
+  within-sound (suc f) i image =
+      struct-sound types members (structWithin types members f) (λ s im. within-sound f s im) i image (few i)
+
+  pub reading-sound : (t : Ty) (n : ℕ) (image : List ℕ) → Every Sound (valueOut types members t n image)
+  unfolding valueOut structOut
+  reading-sound t n image =
+      value-sound types members (structWithin types members 200) (λ i im. within-sound 200 i im) t n image
+
+  -- what a reading writes is a stream that says its entries
+  pub reading-back : (t : Ty) (n : ℕ) (image : List ℕ)
+      → length (streamBytes (valueOut types members t n image)) ≤ mostBytes → Back (valueOut types members t n image)
+  reading-back t n image l =
+      let ts : List Token = valueOut types members t n image in
+      decode-back ts (all-say 0 ts (reading-sound t n image) (omega (arith, l, stream-long ts))) l

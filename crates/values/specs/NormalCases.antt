@@ -1,0 +1,24 @@
+-- The reference case of normal images that document 01 marks P, by computation: the image 03 7F FE FF of Chan has the
+-- normal image 03 00 FE FF. And a string whose LEN is too large, with bytes after its text.
+use Prim.Native.Nat.{ℕ}
+use mathlib.Core.Path.{_≡_, refl}
+use mathlib.Core.List.{List, [], _∷_}
+use Rattle.words.specs.Bits.{bitOf, flat, inside, val}
+use Rattle.values.specs.Leaf.{chars, flag, int, str}
+use Rattle.values.specs.Normal.{normal, normalImage}
+use Rattle.values.specs.ReadingCases.{chan-image}
+use Rattle.values.specs.Tree.{Tree, leaf, struct, none, branch, items}
+
+-- Chan's tree, as `ReadingCases.chan-tree` computes it
+abbrev chan : Tree
+chan = struct 32 (branch 1 0 (leaf flag) (branch 2 1 (leaf flag) (branch 3 16 (leaf (int 16)) none)))
+
+pub chan-normal : normalImage chan chan-image ≡ 0x03 ∷ 0x00 ∷ 0xFE ∷ 0xFF ∷ []
+unfolding normalImage normal items chars flat bitOf inside val
+chan-normal = refl
+
+-- capacity 2: LEN FFFFFFFF becomes 2, and what stands after the text zero
+pub long-normal : normalImage (leaf (str 2)) (0xFF ∷ 0xFF ∷ 0xFF ∷ 0xFF ∷ 65 ∷ 66 ∷ 67 ∷ 68 ∷ [])
+    ≡ 2 ∷ 0 ∷ 0 ∷ 0 ∷ 65 ∷ 66 ∷ 0 ∷ 0 ∷ []
+unfolding normalImage normal items chars flat bitOf inside val
+long-normal = refl
