@@ -3,6 +3,8 @@ ghost use Prim.Native.Nat.{_≤_};
 ghost use lib.ListN.{length};
 ghost use Rattle.types.specs.Kept.{Kept};
 use crate::describe::describe;
+use crate::puts::BODY;
+use crate::puts::MOST_ROOM;
 use crate::puts::accept;
 use crate::puts::least;
 use crate::puts::malformed;
@@ -15,6 +17,7 @@ use crate::streams::tell_read;
 use crate::streams::tell_text;
 use crate::type_words::ty_of_word;
 use crate::type_words::word_of_ty;
+use crate::writes::tell_write;
 use types::Built;
 use types::Fit;
 use types::FoundTy;
@@ -32,12 +35,6 @@ use types::type_header;
 use words::load16;
 use words::load32;
 use words::wide;
-
-// A larger room counts as this.
-const MOST_ROOM: usize = 1048000;
-
-// Where what was asked for begins in an answer: after the number and the place.
-const BODY: usize = 5;
 
 // The question's book in the tables, under its ids; refused or not, the tables are ours afterwards.
 fn rebuild(
@@ -227,6 +224,9 @@ fn tell(
     }
     if kind == 5 {
         return tell_read(rest, types, members, names, out);
+    }
+    if kind == 6 {
+        return tell_write(rest, types, members, names, out);
     }
     if kind == 7 {
         return tell_text(rest, types, members, names, out);

@@ -14,6 +14,12 @@ const NOT_A_QUESTION: u8 = 255;
 // Where a refusal's number stands: first of all.
 const NUMBER: usize = 0;
 
+// Where what was asked for begins in an answer: after the number and the place.
+pub const BODY: usize = 5;
+
+// A larger room counts as this.
+pub const MOST_ROOM: usize = 1048000;
+
 pub fn put8(out: &mut [u8], at: usize, x: u8) -> usize {
     if out.len() <= at {
         return at;

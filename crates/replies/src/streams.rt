@@ -1,5 +1,7 @@
 // Questions about a tag's bytes: their value stream, and the stored text of a string.
 ghost use Rattle.types.specs.Kept.{Kept};
+use crate::puts::BODY;
+use crate::puts::MOST_ROOM;
 use crate::puts::accept;
 use crate::puts::least;
 use crate::puts::malformed;
@@ -20,12 +22,6 @@ use words::load16;
 use words::load32;
 use words::load64;
 use words::wide;
-
-// A larger room counts as this.
-const MOST_ROOM: usize = 1048000;
-
-// Where the stream begins in an answer: after the number and the place.
-const BODY: usize = 5;
 
 // The stream of a value, written to its place in the answer.
 fn put_stream(

@@ -43,7 +43,7 @@ emit-body atomic.Word b = refl
 emit-body atomic.DWord b = refl
 emit-body atomic.LWord b = refl
 
-size-range : (a : Atomic) → (1 ≤ sizeOf a) × (sizeOf a ≤ 8)
+pub size-range : (a : Atomic) → (1 ≤ sizeOf a) × (sizeOf a ≤ 8)
 unfolding sizeOf
 size-range atomic.Bool = (lit≤ tt, lit≤ tt)
 size-range atomic.SInt = (lit≤ tt, lit≤ tt)

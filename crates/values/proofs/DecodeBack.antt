@@ -15,13 +15,12 @@ use Rattle.words.specs.Words.{bytesOf, part, wordAt}
 use Rattle.words.proofs.WordLaws.{length-bytes, word-back}
 use Rattle.values.specs.Decode.{tokenOf, tokenIn, tokensFrom, tokensIn}
 use Rattle.values.specs.Entry.{EntryFits, entryIn, entryKind, entryPayload, bytesOfEntry}
-use Rattle.values.specs.Form.{entryStep, loadedStep, onStep, formed, countIn, baseIn, streamOk}
+use Rattle.values.specs.Form.{At, entryStep, loadedStep, onStep, formed, countIn, baseIn, streamOk}
 use Rattle.values.specs.Stream.{Token, kindOf, payloadOf, bodyOf, entryBytes, heads, bodies, streamBytes}
 use Rattle.values.specs.Stream.{mostBytes}
 use Rattle.values.specs.declared.entries.Entry.{Entry}
 use Rattle.values.specs.declared.entries.Loaded.{Loaded}
 use Rattle.values.specs.declared.entries.Loaded.the-variants.{Is}
-use Rattle.values.specs.declared.form.Step.the-variants.{At}
 use Rattle.values.proofs.EntryLaws.{bodies-append, bodies-one, entry-back, heads-append, length-entry}
 use Rattle.values.proofs.EntryLaws.{length-heads}
 use Rattle.values.proofs.StreamLaws.{stream-long}

@@ -15,15 +15,14 @@ use Rattle.words.proofs.Lists.{length-part}
 use Rattle.words.proofs.WordLaws.{bytes-back}
 use Rattle.values.specs.Decode.{tokenOf, tokenIn, tokensFrom, tokensIn}
 use Rattle.values.specs.Entry.{entryIn, entryKind, entryPayload, bytesOfEntry}
-use Rattle.values.specs.Form.{entryStep, loadedStep, onStep, formed, countIn, baseIn, streamOk}
+use Rattle.values.specs.Form.{Step, At, Broken, textStep, entryStep, loadedStep, onStep, formed}
+use Rattle.values.specs.Form.{countIn, baseIn, streamOk}
 use Rattle.values.specs.Stream.{Token, kindOf, payloadOf, bodyOf, entryBytes, heads, bodies, streamBytes}
 use Rattle.values.specs.Stream.{mostBytes}
 use Rattle.values.specs.declared.entries.Entry.{Entry}
 use Rattle.values.specs.declared.entries.Entry.the-variants as entry
 use Rattle.values.specs.declared.entries.Loaded.{Loaded}
 use Rattle.values.specs.declared.entries.Loaded.the-variants.{Is, Malformed}
-use Rattle.values.specs.declared.form.Step.{Step}
-use Rattle.values.specs.declared.form.Step.the-variants.{At, Broken}
 use Rattle.values.proofs.EntryLaws.{entry-only}
 use Rattle.values.proofs.FormLaws.{at-same}
 
@@ -40,6 +39,18 @@ goes-on (Is e) place on h = go (entryStep e place) refl h
     go : (r : Step) → entryStep e place ≡ r → onStep r on ≡ true → Goes (Is e) place on
     go (At next) q g = goes e next refl q g
     go Broken q g = absurd (true≢false (sym g))
+
+-- a text stands where the one before it ended, and the next one after it
+pub record Moved (at long place next : ℕ) : Type 0 where
+  pub here : at ≡ place
+  pub after : place + long ≡ next
+
+pub text-moved : (at long place next : ℕ) → textStep at long place ≡ At next → Moved at long place next
+text-moved at long place next h = go (eqb at place) refl h
+  where
+    go : (b : Bool) → eqb at place ≡ b → cond b (At (place + long)) Broken ≡ At next → Moved at long place next
+    go true q e = record { here = eqb-true at place q; after = at-same (place + long) next e }
+    go false q e = absurd (true≢false (ap (λ (r : Step). onStep r (λ p. true)) (sym e)))
 
 -- what an entry says, and where the next text begins
 record Said (s : List ℕ) (base place : ℕ) (e : Entry) (next : ℕ) : Type 0 where
@@ -66,15 +77,12 @@ module _ (s : List ℕ) (base place next : ℕ) where
         body = ap (λ (b : List ℕ). b ++ drop (base + next) s) none ∙ ap (λ (k : ℕ). drop (base + k) s) (sym q);
       }
 
-  text-said : (at long : ℕ) (b : Bool) → eqb at place ≡ b → cond b (At (place + long)) Broken ≡ At next
-      → base + next ≤ length s → Said s base place (entry.Text at long) next
-  text-said at long false h e l = absurd (no (sym e))
-    where
-      no : At next ≡ Broken → ⊥
-      no g = true≢false (ap (λ (r : Step). onStep r (λ q. true)) g)
-  text-said at long true h e l =
-      let a : at ≡ place = eqb-true at place h in
-      let q : place + long ≡ next = at-same (place + long) next e in
+  text-said : (at long : ℕ) → textStep at long place ≡ At next → base + next ≤ length s
+      → Said s base place (entry.Text at long) next
+  text-said at long e l =
+      let moved = text-moved at long place next e in
+      let a : at ≡ place = moved .here in
+      let q : place + long ≡ next = moved .after in
       let n : length (part s (base + at) long) ≡ long = length-part s (base + at) long (omega (arith, a, q, l)) in
       record {
         bytes = ap₂ (λ (p k : ℕ). entryBytes 6 (p + 2 ^ 32 * k)) (sym a) n;
@@ -92,7 +100,7 @@ module _ (s : List ℕ) (base place next : ℕ) where
   entry-said (entry.Unsigned x) g l = other (entry.Unsigned x) refl refl refl g
   entry-said (entry.Real x) g l = other (entry.Real x) refl refl refl g
   entry-said (entry.LReal x) g l = other (entry.LReal x) refl refl refl g
-  entry-said (entry.Text at long) g l = text-said at long (eqb at place) refl g l
+  entry-said (entry.Text at long) g l = text-said at long g l
   entry-said (entry.Member j) g l = other (entry.Member j) refl refl refl g
   entry-said entry.Open g l = other entry.Open refl refl refl g
   entry-said entry.Close g l = other entry.Close refl refl refl g
@@ -106,10 +114,6 @@ step-grows place next e g = go e g
     stays : At place ≡ At next → place ≤ next
     stays h = omega (arith, at-same place next h)
 
-    text-on : (b : Bool) (long : ℕ) → cond b (At (place + long)) Broken ≡ At next → place ≤ next
-    text-on true long h = omega (arith, at-same (place + long) next h)
-    text-on false long h = absurd (true≢false (ap (λ (r : Step). onStep r (λ q. true)) (sym h)))
-
     go : (d : Entry) → entryStep d place ≡ At next → place ≤ next
     go entry.Null h = stays h
     go (entry.Bool b) h = stays h
@@ -117,7 +121,7 @@ step-grows place next e g = go e g
     go (entry.Unsigned x) h = stays h
     go (entry.Real x) h = stays h
     go (entry.LReal x) h = stays h
-    go (entry.Text at long) h = text-on (eqb at place) long h
+    go (entry.Text at long) h = omega (arith, text-moved at long place next h .after)
     go (entry.Member j) h = stays h
     go entry.Open h = stays h
     go entry.Close h = stays h
@@ -125,6 +129,15 @@ step-grows place next e g = go e g
     go entry.ArrayClose h = stays h
 
 -- ---- entries in order
+
+-- entry k, where its text begins if it is one, and where the next begins
+pub record There (s : List ℕ) (base k : ℕ) : Type 0 where
+  pub entry : Entry
+  pub place : ℕ
+  pub next : ℕ
+  pub is : entryIn s (4 + 12 * k) ≡ Is entry
+  pub step : entryStep entry place ≡ At next
+  pub within : base + next ≤ length s
 
 module _ (s : List ℕ) (base : ℕ) where
   -- the texts end where the stream does
@@ -138,7 +151,25 @@ module _ (s : List ℕ) (base : ℕ) where
           → Goes (entryIn s (4 + 12 * k)) place (λ p. formed s base (k + 1) n p) → base + place ≤ length s
       go ends (goes e next is g rest) = omega (arith, ends next rest, step-grows place next e g)
 
-  tokens-long : (k n : ℕ) → length (tokensFrom s base k n) ≡ n
+  -- entry i of them is there, and its text lies in the stream
+  pub entry-there : (k n place i : ℕ) → formed s base k n place ≡ true → i < n → There s base (k + i)
+  unfolding formed
+  entry-there k zero place i h l = absurd (let z : ⊥ = omega arith in z)
+  entry-there k (suc n) place i h l =
+      go i l (λ next j. entry-there (k + 1) n next j)
+      (goes-on (entryIn s (4 + 12 * k)) place (λ p. formed s base (k + 1) n p) h)
+    where
+      go : (j : ℕ) → j < suc n
+          → ((next m : ℕ) → formed s base (k + 1) n next ≡ true → m < n → There s base (k + 1 + m))
+          → Goes (entryIn s (4 + 12 * k)) place (λ p. formed s base (k + 1) n p) → There s base (k + j)
+      go zero l later (goes e next is g rest) =
+          rw add-zero
+          (record { entry = e; place = place; next = next; is = is; step = g; within = form-end (k + 1) n next rest })
+      go (suc j) l later (goes e next is g rest) =
+          let same : k + suc j ≡ k + 1 + j = omega arith in
+          rw same (later next j rest (omega arith))
+
+  pub tokens-long : (k n : ℕ) → length (tokensFrom s base k n) ≡ n
   unfolding tokensFrom
   tokens-long k zero = refl
   tokens-long k (suc n) = ap suc (tokens-long (k + 1) n)
@@ -194,23 +225,29 @@ module _ (s : List ℕ) (base : ℕ) where
 -- ---- the whole
 
 -- what a well-formed stream has passed
-record Whole (s : List ℕ) : Type 0 where
-  counted : 4 ≤ length s
-  inside : baseIn s ≤ length s
-  entries : formed s (baseIn s) 0 (countIn s) 0 ≡ true
+pub record Whole (s : List ℕ) : Type 0 where
+  pub counted : 4 ≤ length s
+  pub short : length s ≤ mostBytes
+  pub inside : baseIn s ≤ length s
+  pub entries : formed s (baseIn s) 0 (countIn s) 0 ≡ true
 
-whole : (s : List ℕ) → streamOk s ≡ true → Whole s
+pub whole : (s : List ℕ) → streamOk s ≡ true → Whole s
 unfolding streamOk
 whole s h =
-    go (leb 4 (length s)) (leb (length s) mostBytes) (leb (baseIn s) (length s)) refl refl h
+    go (leb 4 (length s)) (leb (length s) mostBytes) (leb (baseIn s) (length s)) refl refl refl h
   where
-    go : (a b c : Bool) → leb 4 (length s) ≡ a → leb (baseIn s) (length s) ≡ c
+    go : (a b c : Bool) → leb 4 (length s) ≡ a → leb (length s) mostBytes ≡ b → leb (baseIn s) (length s) ≡ c
         → cond a (cond b (cond c (formed s (baseIn s) 0 (countIn s) 0) false) false) false ≡ true → Whole s
-    go true true true p q h =
-        record { counted = leb-true 4 (length s) p; inside = leb-true (baseIn s) (length s) q; entries = h }
-    go true true false p q h = absurd (true≢false (sym h))
-    go true false c p q h = absurd (true≢false (sym h))
-    go false b c p q h = absurd (true≢false (sym h))
+    go true true true p o q h =
+        record {
+          counted = leb-true 4 (length s) p;
+          short = leb-true (length s) mostBytes o;
+          inside = leb-true (baseIn s) (length s) q;
+          entries = h;
+        }
+    go true true false p o q h = absurd (true≢false (sym h))
+    go true false c p o q h = absurd (true≢false (sym h))
+    go false b c p o q h = absurd (true≢false (sym h))
 
 -- a stream is the stream of what it says
 pub decode-only : (s : List ℕ) → Bytes s → streamOk s ≡ true → streamBytes (tokensIn s) ≡ s

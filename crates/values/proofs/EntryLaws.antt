@@ -348,11 +348,18 @@ passed : (b : Bool) (r : Loaded) (e : Entry) → cond b r Malformed ≡ Is e →
 passed true r e h = refl
 passed false r e h = absurd (let z : _≡_ {A = ℕ} 0 1 = cc in let y : ⊥ = omega arith in y)
 
--- bytes that say an entry are that entry's bytes
-pub entry-only : (s : List ℕ) (at : ℕ) (e : Entry) → Bytes s → at + 12 ≤ length s → entryIn s at ≡ Is e
-    → part s at 12 ≡ bytesOfEntry e
-unfolding entryBytes entryIn threeZeros
-entry-only s at e b h r =
+-- what the twelve bytes of an entry are
+pub record Read (s : List ℕ) (at : ℕ) (e : Entry) : Type 0 where
+  pub first : getD s (at + 1) 0 ≡ 0
+  pub second : getD s (at + 2) 0 ≡ 0
+  pub third : getD s (at + 3) 0 ≡ 0
+  pub loaded : loadedOf (getD s at 0) (wordAt 8 s (at + 4)) ≡ Is e
+  pub kind : entryKind e ≡ getD s at 0
+  pub payload : entryPayload e ≡ wordAt 8 s (at + 4)
+
+pub entry-read : (s : List ℕ) (at : ℕ) (e : Entry) → entryIn s at ≡ Is e → Read s at e
+unfolding entryIn threeZeros
+entry-read s at e r =
     let x : ℕ = wordAt 8 s (at + 4) in
     let one : Bool = eqb (getD s (at + 1) 0) 0 in
     let two : Bool = eqb (getD s (at + 2) 0) 0 in
@@ -362,5 +369,14 @@ entry-only s at e b h r =
     let p : getD s (at + 1) 0 ≡ 0 = eqb-true _ 0 (and-left one two u) in
     let q : getD s (at + 2) 0 ≡ 0 = eqb-true _ 0 (and-right one two u) in
     let z : getD s (at + 3) 0 ≡ 0 = eqb-true _ 0 (and-right (one && two) three t) in
-    let l = loaded-is (getD s at 0) x e (sym (zeros-read s at p q z) ∙ r) in
-    twelve s at b h ∙ rw (p, q, z, l .0, l .1)
+    let is : loadedOf (getD s at 0) x ≡ Is e = sym (zeros-read s at p q z) ∙ r in
+    let l = loaded-is (getD s at 0) x e is in
+    record { first = p; second = q; third = z; loaded = is; kind = l .0; payload = l .1 }
+
+-- bytes that say an entry are that entry's bytes
+pub entry-only : (s : List ℕ) (at : ℕ) (e : Entry) → Bytes s → at + 12 ≤ length s → entryIn s at ≡ Is e
+    → part s at 12 ≡ bytesOfEntry e
+unfolding entryBytes
+entry-only s at e b h r =
+    let l = entry-read s at e r in
+    twelve s at b h ∙ rw (l .first, l .second, l .third, l .kind, l .payload)

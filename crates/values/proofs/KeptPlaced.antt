@@ -1,5 +1,5 @@
--- Every type's tree has branches that share no bit (document 01, "Layout", "Normal image"): what the layouts promise,
--- carried over to trees, for tables as our own calls left them.
+-- Every type's tree has branches that share no bit and no number (document 01, "Layout", "Normal image"): what the
+-- layouts promise, carried over to trees, for tables as our own calls left them.
 use Prim.Native.Nat.{ℕ, zero, suc, _+_, _*_, _<_, _≤_}
 use native.Mathlib.Decide.{decLt}
 use native.Mathlib.Omega.{arith}
@@ -30,7 +30,7 @@ use Rattle.values.specs.Trees.{isString, membersAt, knownIn, secondCount
 use Rattle.values.specs.Trees.{bitTree, seen, branchesFrom, structTree, treeWithin, treeOf, treeOfValue}
 use Rattle.values.proofs.KeptWalkable.{kept-walkable}
 use Rattle.values.proofs.NormalLaws.{Good}
-use Rattle.values.proofs.PlacedLaws.{Clear, Placed, AllPlaced}
+use Rattle.values.proofs.PlacedLaws.{Clear, Numbered, Placed, AllPlaced}
 use Rattle.values.proofs.SpanLaws.{Sound, sound-below, sound-within, bit-span}
 
 -- ---- atomics
@@ -41,16 +41,16 @@ leaf-good atomic.SInt = (omega arith, omega arith)
 leaf-good atomic.Int = (omega arith, omega arith)
 leaf-good atomic.DInt = (omega arith, omega arith)
 leaf-good atomic.LInt = (omega arith, omega arith)
-leaf-good atomic.USInt = tt
-leaf-good atomic.UInt = tt
-leaf-good atomic.UDInt = tt
-leaf-good atomic.ULInt = tt
-leaf-good atomic.Real = tt
-leaf-good atomic.LReal = tt
-leaf-good atomic.Byte = tt
-leaf-good atomic.Word = tt
-leaf-good atomic.DWord = tt
-leaf-good atomic.LWord = tt
+leaf-good atomic.USInt = (omega arith, omega arith)
+leaf-good atomic.UInt = (omega arith, omega arith)
+leaf-good atomic.UDInt = (omega arith, omega arith)
+leaf-good atomic.ULInt = (omega arith, omega arith)
+leaf-good atomic.Real = (omega arith, omega arith)
+leaf-good atomic.LReal = (omega arith, omega arith)
+leaf-good atomic.Byte = (omega arith, omega arith)
+leaf-good atomic.Word = (omega arith, omega arith)
+leaf-good atomic.DWord = (omega arith, omega arith)
+leaf-good atomic.LWord = (omega arith, omega arith)
 
 atomics-placed : (a : Atomic) (n : ℕ) → Placed (atomicsTree a n)
 unfolding atomicsTree Placed
@@ -140,6 +140,18 @@ module _ (types members names : List ℕ) (trees : ℕ → Tree) (i : ℕ) (soun
         ),
       )
 
+  -- members are numbered in their order
+  rows-numbered : (low j : ℕ) (ms : List Member) → low ≤ j → Numbered low (branchesFrom trees j ms)
+  unfolding branchesFrom
+  rows-numbered low j [] l = tt
+  rows-numbered low j (m ∷ ms) l =
+      go (m .hidden) (rows-numbered low (suc j) ms (omega arith)) (rows-numbered (suc j) (suc j) ms (omega arith))
+    where
+      go : (h : Bool) → Numbered low (branchesFrom trees (suc j) ms) → Numbered (suc j) (branchesFrom trees (suc j) ms)
+          → Numbered low (seen h j (firstBit m) (tree m) (branchesFrom trees (suc j) ms))
+      go true skipped next = skipped
+      go false skipped next = (l, next)
+
   struct-placed : Laid (sizesIn types) i (typeAt types i .size)
       (partsAt members names (typeAt types i .first) (typeAt types i .count))
       → Placed (structTree trees (knownIn types members i))
@@ -152,7 +164,10 @@ module _ (types members names : List ℕ) (trees : ℕ → Tree) (i : ℕ) (soun
           (struct (8 * typeAt types i .size)
           (branchesFrom trees 0 (membersAt members (typeAt types i .first) (typeAt types i .count)))))
       go true = tt
-      go false = rows-placed (typeAt types i .size) 0 (typeAt types i .first) (typeAt types i .count) d
+      go false = (
+        rows-placed (typeAt types i .size) 0 (typeAt types i .first) (typeAt types i .count) d,
+        rows-numbered 0 0 (membersAt members (typeAt types i .first) (typeAt types i .count)) (omega arith),
+      )
 
 -- ---- tables as our own calls left them
 

@@ -110,7 +110,7 @@ bit-low : (b : Bool) (n k : ℕ) → cond b None (At (n % 8)) ≡ At k → k < 8
 bit-low true n k e = let z : _≡_ {A = ℕ} 0 1 = cc in absurd (let y : ⊥ = omega arith in y)
 bit-low false n k e = let q : n % 8 ≡ k = cc in omega arith
 
-row-bit : (members : List ℕ) (row k : ℕ) → memberAt members row .bit ≡ At k → k < 8
+pub row-bit : (members : List ℕ) (row k : ℕ) → memberAt members row .bit ≡ At k → k < 8
 unfolding memberAt bitOf
 row-bit members row k e =
     bit-low (eqb (getD members (8 * row + 5) 0) 0) (getD members (8 * row + 5) 0 - 1) k e

@@ -63,7 +63,7 @@ abbrev pub Good : Leaf → Type 0
 Good flag = Unit {0}
 Good byte = Unit {0}
 Good (int n) = (1 ≤ n) × (n ≤ 64)
-Good (word kind n) = Unit {0}
+Good (word kind n) = (3 ≤ kind) × (kind ≤ 5)
 Good (str c) = Unit {0}
 
 signed-tells : (n x y : ℕ) → 1 ≤ n → n ≤ 64 → x < 2 ^ n → y < 2 ^ n → signed n x ≡ signed n y → x ≡ y

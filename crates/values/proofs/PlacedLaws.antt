@@ -23,12 +23,17 @@ abbrev pub Clear : ℕ → ℕ → Branches → Type 0
 Clear o n none = Unit {0}
 Clear o n (branch j q t bs) = ((o + n ≤ q) ⊎ (q + span t ≤ o)) × Clear o n bs
 
+-- each branch's number is larger than that of the one before
+abbrev pub Numbered : ℕ → Branches → Type 0
+Numbered low none = Unit {0}
+Numbered low (branch j o t bs) = (low ≤ j) × Numbered (suc j) bs
+
 unfoldable mutual
   pub Placed : Tree → Type 0
   Placed (leaf l) = Good l
   Placed (bits w n) = Unit {0}
   Placed (array n t) = Placed t
-  Placed (struct size bs) = AllPlaced size bs
+  Placed (struct size bs) = AllPlaced size bs × Numbered 0 bs
 
   -- the branches lie inside the size and share no bit
   pub AllPlaced : ℕ → Branches → Type 0
@@ -167,7 +172,7 @@ mutual
       around-between p (p + n * span t) 10 11 (each n (items t) (span t) p)
       (each-between n (items t) (span t) p (λ q. tree-between t q a))
   tree-between (struct size bs) p a =
-      around-between p (p + size) 8 9 (branchItems bs p) (branches-between bs size p a)
+      around-between p (p + size) 8 9 (branchItems bs p) (branches-between bs size p (a .0))
 
   branches-between : (bs : Branches) (size p : ℕ) → AllPlaced size bs → Between p (p + size) (branchItems bs p)
   branches-between none size p a = λ k e. never e
@@ -205,7 +210,7 @@ mutual
   tree-apart (array n t) p a =
       around-apart 11 (each n (items t) (span t) p)
       (each-apart n (items t) (span t) p (λ q. tree-between t q a) (λ q. tree-apart t q a))
-  tree-apart (struct size bs) p a = around-apart 9 (branchItems bs p) (branches-apart bs size p a)
+  tree-apart (struct size bs) p a = around-apart 9 (branchItems bs p) (branches-apart bs size p (a .0))
 
   branches-apart : (bs : Branches) (size p : ℕ) → AllPlaced size bs → Apart (branchItems bs p)
   branches-apart none size p a = tt
@@ -225,7 +230,7 @@ mutual
       around-good 11 (each (allBits w n) oneFlag 1 p) (each-good (allBits w n) oneFlag 1 p (λ q. (tt, tt)))
   tree-good (array n t) p a =
       around-good 11 (each n (items t) (span t) p) (each-good n (items t) (span t) p (λ q. tree-good t q a))
-  tree-good (struct size bs) p a = around-good 9 (branchItems bs p) (branches-good bs size p a)
+  tree-good (struct size bs) p a = around-good 9 (branchItems bs p) (branches-good bs size p (a .0))
 
   branches-good : (bs : Branches) (size p : ℕ) → AllPlaced size bs → AllGood (branchItems bs p)
   branches-good none size p a = tt

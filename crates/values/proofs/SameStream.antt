@@ -19,6 +19,7 @@ use Rattle.types.specs.Waste.{sizeIn, sizesIn}
 use Rattle.types.specs.declared.member.Ty.{Ty}
 use Rattle.types.proofs.KeptLaws.{kept-listed, kept-unused}
 use Rattle.values.specs.Decode.{tokensIn}
+use Rattle.values.specs.Form.{streamOk}
 use Rattle.values.specs.Leaf.{chars}
 use Rattle.values.specs.Normal.{held, normal, normalImage}
 use Rattle.values.specs.Reading.{streamOf, valueStream}
@@ -28,6 +29,7 @@ use Rattle.values.specs.Trees.{knownIn, treeOfValue}
 use Rattle.values.specs.Walk.{valueOut}
 use Rattle.values.specs.Walkable.{ValueImage, Walkable}
 use Rattle.values.proofs.CharLaws.{flat-chars, length-chars}
+use Rattle.values.proofs.DecodeBack.{Back}
 use Rattle.values.proofs.ItemLaws.{Apart, AllGood, normal-unheld, same-normal, same-read, normal-twice}
 use Rattle.values.proofs.KeptPlaced.{kept-placed}
 use Rattle.values.proofs.KeptWalkable.{kept-walkable}
@@ -94,17 +96,19 @@ module _ {types members names : List ℕ} (k : Kept types members names) (t : Ty
     entries-are : valueOut types members t n x ≡ read is (flat x)
     entries-are = meaning types members walkable t n x (v .fits) (v .long) b
 
-    -- the stream says the entries
-    tokens-are : length (valueStream types members t n x) ≤ mostBytes
-        → tokensIn (valueStream types members t n x) ≡ read is (flat x)
-    tokens-are room =
-        let e = stream-is types members walkable t n x v b in
-        ap tokensIn e
-        ∙ reading-back types members few t n x (rw e at room) .tokens
-        ∙ entries-are
+    -- the stream's form is good, and it says the entries
+    module _ (room : length (valueStream types members t n x) ≤ mostBytes) where
+      said : Back (valueOut types members t n x)
+      said = reading-back types members few t n x (rw (stream-is types members walkable t n x v b) at room)
+
+      pub stream-ok : streamOk (valueStream types members t n x) ≡ true
+      stream-ok = ap streamOk (stream-is types members walkable t n x v b) ∙ said .ok
+
+      pub tokens-are : tokensIn (valueStream types members t n x) ≡ read is (flat x)
+      tokens-are = ap tokensIn (stream-is types members walkable t n x v b) ∙ said .tokens ∙ entries-are
 
     -- the normal image's bits are the normal bits
-    normal-bits : flat (normalImage tree x) ≡ normal is (flat x)
+    pub normal-bits : flat (normalImage tree x) ≡ normal is (flat x)
     unfolding normalImage
     normal-bits =
         flat-chars (length x) (normal is (flat x)) (λ j l. none-past (flat x) j (omega (arith, l, v .long)))

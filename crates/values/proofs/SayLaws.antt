@@ -27,7 +27,7 @@ use Rattle.types.specs.declared.member.Ty.{Ty}
 use Rattle.types.specs.declared.member.Ty.the-variants as ty
 use Rattle.values.specs.Decode.{tokenOf}
 use Rattle.values.specs.Entry.{EntryFits, entryKind, entryPayload}
-use Rattle.values.specs.Form.{entryStep}
+use Rattle.values.specs.Form.{At, entryStep}
 use Rattle.values.specs.Leaf.{emit, leafOf, signed}
 use Rattle.values.specs.Stream.{Token, null, bool, number, text, member, mark, kindOf, payloadOf, bodyOf, bodies}
 use Rattle.values.specs.Stream.{streamBytes, mostBytes}
@@ -38,7 +38,6 @@ use Rattle.values.specs.Walk.{elementBy, elementsBy, structsBy, valueBy,
 use Rattle.values.specs.Walk.{structWithin, structOut, valueOut, textOut, bytesBy}
 use Rattle.values.specs.declared.entries.Entry.{Entry}
 use Rattle.values.specs.declared.entries.Entry.the-variants as entry
-use Rattle.values.specs.declared.form.Step.the-variants.{At}
 use Rattle.values.proofs.DecodeBack.{Says, Saying, Back, decode-back}
 use Rattle.values.proofs.StreamLaws.{stream-long}
 

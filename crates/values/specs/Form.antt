@@ -1,7 +1,6 @@
 -- The form of a value stream (document 01, "Value stream"; refusal 17): the number of entries, that many entries, and
 -- the text bodies, gapless, in entry order, to the stream's end; at most 2^31 bytes.
-use Prim.Native.Nat.{ℕ, zero, suc, _+_, _*_, _^_, _≤_}
-use mathlib.Core.Path.{_≡_}
+use Prim.Native.Nat.{ℕ, zero, suc, _+_, _*_}
 use mathlib.Core.Bool.{Bool, true, false, cond}
 use mathlib.Core.List.{List}
 use lib.Dec.{eqb, leb}
@@ -13,8 +12,11 @@ use Rattle.values.specs.declared.entries.Entry.{Entry}
 use Rattle.values.specs.declared.entries.Entry.the-variants as entry
 use Rattle.values.specs.declared.entries.Loaded.{Loaded}
 use Rattle.values.specs.declared.entries.Loaded.the-variants.{Is, Malformed}
-use Rattle.values.specs.declared.form.Step.{Step}
-use Rattle.values.specs.declared.form.Step.the-variants.{At, Broken}
+
+-- where the next text must begin, counted from the bodies' start; or that the stream is malformed
+pub data Step : Type 0 where
+  At : ℕ → Step
+  Broken : Step
 
 -- a text must begin at the place where the one before it ended, and moves that place on; no other entry does
 abbrev pub textStep : ℕ → ℕ → ℕ → Step
@@ -37,11 +39,6 @@ entryStep entry.ArrayClose place = At place
 abbrev pub loadedStep : Loaded → ℕ → Step
 loadedStep (Is e) place = entryStep e place
 loadedStep Malformed place = Broken
-
--- a step, and that it moves the place by at most 2^32
-pub record Stepped (place : ℕ) (step r : Step) : Type 0 where
-  pub is : r ≡ step
-  pub near : (next : ℕ) → r ≡ At next → next ≤ place + 2 ^ 32
 
 abbrev pub onStep : Step → (ℕ → Bool) → Bool
 onStep (At place) go = go place

@@ -2,6 +2,7 @@
 pub mod Stream
 pub mod Entry
 pub mod Form
+pub mod Steps
 pub mod Decode
 pub mod Leaf
 pub mod Tree
@@ -12,6 +13,13 @@ pub mod Numbers
 pub mod Counting
 pub mod Laying
 pub mod Reading
+pub mod Effects
+pub mod Writing
+pub mod Limits
+pub mod Passes
+pub mod Bools
+pub mod Rows
+pub mod Written
 pub mod Normal
 pub mod Texts
 pub mod ReadingCases

@@ -8,6 +8,8 @@ ghost use Rattle.values.specs.Entry.{bytesOfEntry, entryIn, entryKind, e
 ghost use Rattle.values.specs.Entry.{bareIn, lowIn, textIn, truthIn};
 use crate::entry::put_entry;
 use crate::numbers::truth_of;
+use crate::tokens::high;
+use crate::tokens::low;
 use words::load64;
 use words::wide64;
 
@@ -81,19 +83,6 @@ pub fn store_entry(out: &mut [u8], at: usize, e: Entry)
     ensures { λ _. ⌜ now (out .exit) ≡ sets (now (out .entry)) at (bytesOfEntry e) ⌝ }
 {
     put_entry(out, at, e.kind(), e.payload());
-}
-
-// The four low bytes of a payload, and the four high ones.
-fn low(x: u64) -> u32
-    ensures { λ r. ⌜ r ≡ x % 2 ^ 32 ⌝ }
-{
-    (x % 0x1_0000_0000) as u32
-}
-
-fn high(x: u64) -> u32
-    ensures { λ r. ⌜ r ≡ x / 2 ^ 32 ⌝ }
-{
-    (x / 0x1_0000_0000) as u32
 }
 
 // An entry without a payload.

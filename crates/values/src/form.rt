@@ -3,61 +3,55 @@
 ghost use mathlib.Core.Path.{_≡_};
 ghost use Prim.Native.Nat.{_+_, _*_, _≤_};
 ghost use lib.ListN.{length};
-ghost use Rattle.values.specs.Form.{Stepped, entryStep, formed, loadedStep, streamOk, textStep};
-use crate::entries::Entry;
-use crate::entries::Loaded;
-use crate::entries::entry_at;
+ghost use Rattle.values.specs.Entry.{loadedOf};
+ghost use Rattle.values.specs.Form.{formed, loadedStep, streamOk};
+ghost use Rattle.values.specs.Steps.{Moved, mostOf};
+use crate::tokens::high;
+use crate::tokens::low;
 use words::load32;
+use words::load64;
 use words::wide;
 
 // The longest stream.
 const MOST: usize = 2147483648;
 
-// Where the next text must begin, counted from the bodies' start; or that the stream is malformed.
-pub enum Step {
-    At(usize),
-    Broken,
-}
+// Above every place: that the stream is malformed.
+const NOWHERE: usize = 0x4000_0000_0000_0000;
 
-// A text must begin where the one before it ended.
-fn after_text(at: u32, long: u32, place: usize) -> Step
-    requires { ⌜ place ≤ 1152921504606846976 ⌝ }
-    ensures { λ r. ⌜ Stepped place (textStep at long place) r ⌝ }
+// The greatest payload of a kind that is no text: a bool, 32 bits, 64 bits, or none.
+fn most_of(kind: u32) -> u64
+    ensures { λ r. ⌜ r ≡ mostOf kind ⌝ }
 {
-    if wide(at) == place {
-        return Step::At(place + wide(long));
-    }
-    Step::Broken
-}
-
-fn after_entry(e: Entry, place: usize) -> Step
-    requires { ⌜ place ≤ 1152921504606846976 ⌝ }
-    ensures { λ r. ⌜ Stepped place (entryStep e place) r ⌝ }
-{
-    match e {
-        Entry::Null => Step::At(place),
-        Entry::Bool(_) => Step::At(place),
-        Entry::Signed(_) => Step::At(place),
-        Entry::Unsigned(_) => Step::At(place),
-        Entry::Real(_) => Step::At(place),
-        Entry::LReal(_) => Step::At(place),
-        Entry::Text(at, long) => after_text(at, long, place),
-        Entry::Member(_) => Step::At(place),
-        Entry::Open => Step::At(place),
-        Entry::Close => Step::At(place),
-        Entry::ArrayOpen => Step::At(place),
-        Entry::ArrayClose => Step::At(place),
+    match kind {
+        1 => 1,
+        2 => 0xFFFF_FFFF_FFFF_FFFF,
+        3 => 0xFFFF_FFFF_FFFF_FFFF,
+        4 => 0xFFFF_FFFF,
+        5 => 0xFFFF_FFFF_FFFF_FFFF,
+        7 => 0xFFFF_FFFF,
+        _ => 0,
     }
 }
 
-fn after_loaded(l: Loaded, place: usize) -> Step
+// Where the text after an entry must begin, counted from the bodies' start: a text begins where the one before it
+// ended. The first four bytes are the kind if the three after it are zeros, else a number above every kind.
+fn next_place(head: u32, x: u64, place: usize) -> usize
     requires { ⌜ place ≤ 1152921504606846976 ⌝ }
-    ensures { λ r. ⌜ Stepped place (loadedStep l place) r ⌝ }
+    ensures { λ r. ⌜ Moved place (loadedStep (loadedOf head x) place) r ⌝ }
 {
-    match l {
-        Loaded::Is(e) => after_entry(e, place),
-        Loaded::Malformed => Step::Broken,
+    if 12 <= head {
+        return NOWHERE;
     }
+    if head == 6 {
+        if wide(low(x)) == place {
+            return place + wide(high(x));
+        }
+        return NOWHERE;
+    }
+    if x <= most_of(head) {
+        return place;
+    }
+    NOWHERE
 }
 
 // The n entries of a stream whose bodies begin at a place.
@@ -68,17 +62,13 @@ fn entries_ok(s: &[u8], base: usize, n: usize) -> bool
     let mut place: usize = 0;
     let mut k: usize = 0;
     while k < n {
-        let l = entry_at(s, 4 + 12 * k);
-        let step = after_loaded(l, place);
-        match step {
-            Step::At(next) => {
-                place = next;
-                k += 1;
-            }
-            Step::Broken => {
-                return false;
-            }
+        let at = 4 + 12 * k;
+        let next = next_place(load32(s, at), load64(s, at + 4), place);
+        if NOWHERE <= next {
+            return false;
         }
+        place = next;
+        k += 1;
     }
     base + place == s.len()
 }

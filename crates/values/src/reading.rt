@@ -24,6 +24,7 @@ use crate::numbers::size_of;
 use crate::place::Place;
 use crate::rows::struct_size;
 use crate::rows::times_of;
+use crate::tokens::as_size;
 use crate::walk::read_elements;
 use crate::walk::read_struct;
 use types::MemberTable;
@@ -42,7 +43,7 @@ pub enum Streamed {
     Refused(Refusal),
 }
 
-fn size_of_ty(types: &TypeTable, ty: Ty) -> usize
+pub fn size_of_ty(types: &TypeTable, ty: Ty) -> usize
     requires { ⌜ TyFits ty ⌝ }
     ensures { λ r. ⌜ r ≡ sizeIn (sizesIn (now (types .entry))) ty ⌝ }
 {
@@ -53,7 +54,7 @@ fn size_of_ty(types: &TypeTable, ty: Ty) -> usize
 }
 
 // A product, compared without being made: it may be too large.
-fn is_product(long: usize, size: usize, n: usize) -> bool
+pub fn is_product(long: usize, size: usize, n: usize) -> bool
     ensures { λ r. ⌜ r ≡ eqb long (size * n) ⌝ }
 {
     if size == 0 {
@@ -72,13 +73,6 @@ fn least(a: usize, b: usize) -> usize
         return a;
     }
     b
-}
-
-// The same number: a usize has 64 bits.
-fn as_size(n: u64) -> usize
-    ensures { λ r. ⌜ r ≡ n ⌝ }
-{
-    n as usize
 }
 
 // How many entries a value has, and whether one is a text.

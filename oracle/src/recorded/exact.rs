@@ -25,6 +25,11 @@ impl Asked {
         self.cases.push(Case { question, expect, aim: None });
     }
 
+    /// A refusal of a write: the image, as it was, stands after it.
+    pub fn kept(&mut self, number: u8, place: u32, question: Vec<u8>, image: Vec<u8>) {
+        self.cases.push(Case { question, expect: Expect::Exactly { number, place, image }, aim: None });
+    }
+
     /// An answer that the document decides.
     pub fn given(&mut self, question: Vec<u8>, bytes: &[u8]) {
         self.cases.push(Case { question, expect: Expect::Bytes(bytes.to_vec()), aim: None });

@@ -1,16 +1,12 @@
 -- `values::entries_ok` meets its contract, by what is left of the entries.
-use Prim.Native.Nat.{_-_}
+use Prim.Native.Nat.{_+_, _*_, _-_}
 use native.Mathlib.Omega.{arith}
-use mathlib.Core.Path.{ap}
+use Rattle.values.specs.Entry.{entryIn}
 use Rattle.values.specs.Form.{loadedStep}
-use borrow.Author.Needs.{needs}
-use Rattle.values.proofs.FormLaws.{Left, carried, left-start, left-on, left-broken, left-done}
+use Rattle.values.specs.Steps.{Moved}
+use Rattle.values.proofs.FormLaws.{Left, left-start, left-on, left-broken, left-done, words-moved}
 use Rattle.values.proofs.form.entries_ok.Statement.{statement}
 use Rattle.values.proofs.form.entries_ok.Tie as tie
-use Rattle.values.proofs.form.entries_ok.Reads as reads
-use Rattle.values.proofs.form.entries_ok.Lts as lts
-use Rattle.values.proofs.entries.entry_at.Reads as entry-at-reads
-use Rattle.values.proofs.form.after_loaded.Reads as after-loaded-reads
 
 abbrev Inv-loop : tie.InvT-loop
 Inv-loop s base n place₀ k₀ place k = Left s base n place k
@@ -18,56 +14,60 @@ Inv-loop s base n place₀ k₀ place k = Left s base n place k
 abbrev μ-loop : tie.MeasureT-loop
 μ-loop s base n place₀ k₀ place k = n - k
 
+-- the entry's step
+moved : (c : tie.After-next-place Inv-loop μ-loop)
+    → Moved (c .before .before .before .before .loop .place)
+    (loadedStep (entryIn (c .before .before .before .before .before .before .args .s .now)
+    (4 + 12 * c .before .before .before .before .loop .k)) (c .before .before .before .before .loop .place))
+    (c .next-place .result)
+moved c =
+    let at-64 = c .before in
+    let at-32 = at-64 .before in
+    words-moved _ _ (at-32 .load32 .ensures) (at-64 .load64 .ensures) (c .next-place .ensures)
+
 loop-holds : tie.Need-loop-holds Inv-loop μ-loop
 loop-holds c = left-start _ _ _
 
-mul-entry-at : tie.Need-mul-entry-at Inv-loop μ-loop
-mul-entry-at c = omega (arith, c .before .before .before .pre, c .loop-test .taken)
+mul-at : tie.Need-mul-at Inv-loop μ-loop
+mul-at c = omega (arith, c .before .before .before .pre, c .loop-test .taken)
 
-add-entry-at : tie.Need-add-entry-at Inv-loop μ-loop
-add-entry-at c = omega (arith, c .before .before .before .pre, c .loop-test .taken)
+add-at : tie.Need-add-at Inv-loop μ-loop
+add-at c = omega (arith, c .before .before .before .pre, c .loop-test .taken)
 
-entry-at-requires : tie.Need-entry-at-requires Inv-loop μ-loop
-entry-at-requires c κs = omega (arith, c .before .before .before .pre, c .loop-test .taken)
+load32-requires : tie.Need-load32-requires Inv-loop μ-loop
+load32-requires c κs = omega (arith, c .before .before .before .pre, c .loop-test .taken)
 
-after-loaded-requires : tie.Need-after-loaded-requires Inv-loop μ-loop
-after-loaded-requires c κs =
-    let at-loop = c .before .before in
-    omega (arith, at-loop .loop .inv .small, at-loop .before .before .pre, c .before .loop-test .taken)
+add-load64 : tie.Need-add-load64 Inv-loop μ-loop
+add-load64 c = let in-loop = c .before in omega (arith, in-loop .before .before .before .pre, in-loop .loop-test .taken)
 
-enum-known-step : tie.Need-enum-known-step Inv-loop μ-loop
-enum-known-step c = search needs
-
-add-k : tie.Need-add-k Inv-loop μ-loop
-add-k c =
-    let in-loop = c .before .before .before .before .before in
+load64-requires : tie.Need-load64-requires Inv-loop μ-loop
+load64-requires c κs =
+    let in-loop = c .before in
     omega (arith, in-loop .before .before .before .pre, in-loop .loop-test .taken)
 
-loop-less : tie.Need-loop-less Inv-loop μ-loop
-loop-less c = omega (arith, c .before .before .before .before .before .loop-test .taken)
-
-loop-again : tie.Need-loop-again Inv-loop μ-loop
-loop-again c =
-    let at-after = c .before .before .before in
-    let at-entry = at-after .before in
-    let in-loop = at-entry .before in
-    left-on (in-loop .before .loop .inv) (in-loop .loop-test .taken)
-    (carried (ap (λ l. loadedStep l (in-loop .before .loop .place)) (at-entry .entry-at .ensures))
-    (at-after .after-loaded .ensures))
-    (c .before .step .given .1)
-
-enum-told : tie.Need-enum-told Inv-loop μ-loop
-enum-told c = search needs
+next-place-requires : tie.Need-next-place-requires Inv-loop μ-loop
+next-place-requires c κs =
+    let in-loop = c .before .before in
+    let at-loop = in-loop .before in
+    omega (arith, at-loop .loop .inv .small, at-loop .before .before .pre, in-loop .loop-test .taken)
 
 returns : tie.Need-returns Inv-loop μ-loop
 returns c =
-    let at-after = c .before .before in
-    let at-entry = at-after .before in
-    let in-loop = at-entry .before in
-    left-broken (in-loop .before .loop .inv) (in-loop .loop-test .taken)
-    (carried (ap (λ l. loadedStep l (in-loop .before .loop .place)) (at-entry .entry-at .ensures))
-    (at-after .after-loaded .ensures))
-    (c .enum-told .given .1)
+    let in-loop = c .before .before .before .before in
+    left-broken (in-loop .before .loop .inv) (in-loop .loop-test .taken) (moved (c .before)) (c .if1 .taken)
+
+add-k : tie.Need-add-k Inv-loop μ-loop
+add-k c =
+    let in-loop = c .before .before .before .before in
+    omega (arith, in-loop .before .before .before .pre, in-loop .loop-test .taken)
+
+loop-less : tie.Need-loop-less Inv-loop μ-loop
+loop-less c = omega (arith, c .before .before .before .before .loop-test .taken)
+
+loop-again : tie.Need-loop-again Inv-loop μ-loop
+loop-again c =
+    let in-loop = c .before .before .before .before in
+    left-on (in-loop .before .loop .inv) (in-loop .loop-test .taken) (moved (c .before)) (c .if1 .left)
 
 add-result : tie.Need-add-result Inv-loop μ-loop
 add-result c =
@@ -84,15 +84,15 @@ entries-ok-spec =
     Inv-loop
     μ-loop
     loop-holds
-    mul-entry-at
-    add-entry-at
-    entry-at-requires
-    after-loaded-requires
-    enum-known-step
+    mul-at
+    add-at
+    load32-requires
+    add-load64
+    load64-requires
+    next-place-requires
+    returns
     add-k
     loop-less
     loop-again
-    enum-told
-    returns
     add-result
     returns-2)

@@ -18,7 +18,7 @@ use Rattle.values.proofs.reading.read.Tie as tie
 use Rattle.values.proofs.reading.read.Reads as reads
 use Rattle.values.proofs.reading.read.Lts as lts
 use Rattle.types.proofs.is_there.Reads as is-there-reads
-use Rattle.values.proofs.reading.as_size.Reads as as-size-reads
+use Rattle.values.proofs.tokens.as_size.Reads as as-size-reads
 use Rattle.values.proofs.reading.is_product.Reads as is-product-reads
 use Rattle.values.proofs.reading.least.Reads as least-reads
 use Rattle.values.proofs.reading.read_within.Reads as read-within-reads

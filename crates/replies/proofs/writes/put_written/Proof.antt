@@ -1,0 +1,103 @@
+-- `replies::put_written` is safe and ends.
+use Rattle.values.proofs.KeptWalkable.{kept-walkable}
+use borrow.Author.Needs.{needs}
+use Rattle.replies.proofs.writes.put_written.Statement.{statement}
+use Rattle.replies.proofs.writes.put_written.Tie as tie
+use Rattle.replies.proofs.writes.put_written.Reads as reads
+use Rattle.replies.proofs.writes.put_written.Lts as lts
+use Rattle.replies.proofs.puts.accept.Reads as accept-reads
+use Rattle.replies.proofs.puts.malformed.Reads as malformed-reads
+use Rattle.replies.proofs.puts.put_bytes.Reads as put-bytes-reads
+use Rattle.replies.proofs.puts.refuse.Reads as refuse-reads
+use Rattle.values.proofs.write.Reads as write-reads
+
+malformed-requires : tie.Need-malformed-requires
+malformed-requires c κs = search needs
+
+same-length : tie.Need-same-length
+same-length c = search needs
+
+returns : tie.Need-returns
+returns c = search needs
+
+sub-if2 : tie.Need-sub-if2
+sub-if2 c = search needs
+
+malformed-requires-2 : tie.Need-malformed-requires-2
+malformed-requires-2 c κs = search needs
+
+same-length-2 : tie.Need-same-length-2
+same-length-2 c = search needs
+
+returns-2 : tie.Need-returns-2
+returns-2 c = search needs
+
+add-end : tie.Need-add-end
+add-end c = search needs
+
+put-bytes-requires : tie.Need-put-bytes-requires
+put-bytes-requires c κs = search needs
+
+sub-write : tie.Need-sub-write
+sub-write c = search needs
+
+part-write-start : tie.Need-part-write-start
+part-write-start c = search needs
+
+part-write-end : tie.Need-part-write-end
+part-write-end c = search needs
+
+write-requires : tie.Need-write-requires
+write-requires c κs =
+    let start = c .before .before .before .before .before .before .before .before .before .before in
+    kept-walkable (start .pre)
+
+enum-told : tie.Need-enum-told
+enum-told c = search needs
+
+accept-requires : tie.Need-accept-requires
+accept-requires c κs = search needs
+
+same-length-3 : tie.Need-same-length-3
+same-length-3 c = search needs
+
+returns-3 : tie.Need-returns-3
+returns-3 c = search needs
+
+enum-known-r : tie.Need-enum-known-r
+enum-known-r c = search needs
+
+refuse-requires : tie.Need-refuse-requires
+refuse-requires c κs = search needs
+
+same-length-4 : tie.Need-same-length-4
+same-length-4 c = search needs
+
+returns-4 : tie.Need-returns-4
+returns-4 c = search needs
+
+pub put-written-spec : {M : Type 1} → statement M
+put-written-spec =
+    tie.close
+    (tie.spec
+    malformed-requires
+    same-length
+    returns
+    sub-if2
+    malformed-requires-2
+    same-length-2
+    returns-2
+    add-end
+    put-bytes-requires
+    sub-write
+    part-write-start
+    part-write-end
+    write-requires
+    enum-told
+    accept-requires
+    same-length-3
+    returns-3
+    enum-known-r
+    refuse-requires
+    same-length-4
+    returns-4)

@@ -1,0 +1,282 @@
+-- Which entries an atomic takes (document 01, "Writing"): the code's limits say what `Effects` says, by one law over
+-- the width; and what is taken sets the payload's bits. The same for a text.
+use Prim.Native.Nat.{ℕ, _+_, _-_, _*_, _^_, _<_, _≤_}
+use native.Mathlib.Decide.{decLe, decLt, ℕ-discrete}
+use native.Mathlib.Omega.{arith}
+use mathlib.Core.Path.{_≡_, refl, sym, ap, _∙_}
+use mathlib.Core.Bool.{Bool, true, false, cond, true≢false}
+use mathlib.Core.List.{List}
+use lib.Dec.{eqb, leb, ltb}
+use lib.ListN.{length}
+use lib.Pow.{pow-pos, pow-mono}
+use borrow.Author.Tests.{eq-eqb, ne-eqb, le-leb, lt-leb, lt-ltb, le-ltb}
+use Rattle.words.specs.Bits.{Bits, bitOf}
+use Rattle.words.specs.Words.{Bytes}
+use Rattle.words.proofs.WordLaws.{word-below}
+use Rattle.types.specs.Atomic.{bitString, sizeOf}
+use Rattle.types.specs.declared.atomic.Atomic.{Atomic}
+use Rattle.types.specs.declared.atomic.Atomic.the-variants as atomic
+use Rattle.values.specs.Effects.{Effect, keep, put, refuse, Judged, kept, set, refused}
+use Rattle.values.specs.Effects.{payloadBits, textBits, isWhole, ofKind, inRange, whole, taken, atomicTakes}
+use Rattle.values.specs.Effects.{orNull, asText}
+use Rattle.values.specs.Leaf.{flag}
+use Rattle.values.specs.Limits.{aboveMisfit, signedMisfit, wholeMisfit, limitsOf, misfit, oneKind, wholes}
+use Rattle.values.specs.Form.{countIn, streamOk}
+use Rattle.values.specs.Passes.{Checked, accepted, firstKind, leftAt}
+use Rattle.values.specs.Stream.{Token, kindOf, payloadOf, bodyOf}
+use Rattle.values.specs.Writing.{onEffect, writeOne}
+use Rattle.values.specs.declared.limits.Limits.{Limits}
+use Rattle.values.proofs.LeftLaws.{There, kind-there, payloadAt, there}
+use Rattle.values.proofs.StepLaws.{one-missing, one-refused}
+
+-- ---- null
+
+-- null keeps what stands
+pub null-keeps : (takes : Token → Effect) (t : Token) → kindOf t ≡ 0 → orNull takes t ≡ keep
+unfolding orNull
+null-keeps takes t e = rw (eq-eqb (kindOf t) 0 e) refl
+
+pub not-null : (takes : Token → Effect) (t : Token) → (kindOf t ≡ 0 → ⊥) → orNull takes t ≡ takes t
+unfolding orNull
+not-null takes t e = rw (ne-eqb (kindOf t) 0 e) refl
+
+-- ---- one kind
+
+-- what is set, or a refusal
+judged-by : (b : Bits) (number : ℕ) → 1 ≤ number → (fits : Bool)
+    → Judged (cond fits (put b) (refuse number)) (cond fits 0 number)
+judged-by b number l true = set refl b refl
+judged-by b number l false = refused l refl
+
+kind-judged : (kind : ℕ) (t : Token) (x : ℕ) → (kind ≡ 2 → ⊥) → (kindOf t ≡ 0 → ⊥)
+    → Judged (ofKind kind t) (misfit (oneKind kind) (kindOf t) x)
+unfolding ofKind misfit
+kind-judged kind t x a n =
+    rw (ne-eqb (kindOf t) 0 n, ne-eqb kind 2 a) (judged-by (payloadBits t) 18 (omega arith) (eqb (kindOf t) kind))
+
+-- ---- whole numbers in a range
+
+-- one that is too low, and one that is not too high
+low-test : (low under x : ℕ) → x < 2 ^ 64 → under + low + 1 ≡ 2 ^ 64 → leb (2 ^ 64 - x) low ≡ ltb under x
+low-test low under x l e = go (decLt under x)
+  where
+    go : Dec (under < x) → leb (2 ^ 64 - x) low ≡ ltb under x
+    go (yes h) = le-leb (2 ^ 64 - x) low (omega arith) ∙ sym (lt-ltb under x h)
+    go (no h) = lt-leb (2 ^ 64 - x) low (omega arith) ∙ sym (le-ltb under x (omega arith))
+
+high-test : (high most x : ℕ) → most + 1 ≡ high → ltb x high ≡ leb x most
+high-test high most x e = go (decLe x most)
+  where
+    go : Dec (x ≤ most) → ltb x high ≡ leb x most
+    go (yes h) = lt-ltb x high (omega arith) ∙ sym (le-leb x most h)
+    go (no h) = le-ltb x high (omega arith) ∙ sym (lt-leb x most (omega arith))
+
+-- the numbers below zero, and the others
+two-tests : (b : Bits) (below low high : Bool) → Judged (cond (cond below low high) (put b) (refuse 19))
+    (cond below (cond low 0 19) (cond high 0 19))
+two-tests b true low high = judged-by b 19 (omega arith) low
+two-tests b false low high = judged-by b 19 (omega arith) high
+
+module _ (low high under most : ℕ) (t : Token) (x : ℕ) (l : x < 2 ^ 64) (e : under + low + 1 ≡ 2 ^ 64)
+    (f : most + 1 ≡ high) (p : (kindOf t ≡ 6 → ⊥) → payloadOf 0 t ≡ x) where
+  signed-judged : kindOf t ≡ 2 → Judged (whole low high t) (wholeMisfit (wholes under most) (kindOf t) x)
+  unfolding whole inRange wholeMisfit signedMisfit aboveMisfit
+  signed-judged k =
+      let same = p (λ h. let z : ⊥ = omega arith in z) in
+      rw (eq-eqb (kindOf t) 2 k, same, low-test low under x l e, high-test high most x f)
+      (two-tests (bitOf x) (leb (2 ^ 63) x) (ltb under x) (leb x most))
+
+  unsigned-judged : (kindOf t ≡ 2 → ⊥) → kindOf t ≡ 3
+      → Judged (whole low high t) (wholeMisfit (wholes under most) (kindOf t) x)
+  unfolding whole inRange wholeMisfit signedMisfit aboveMisfit
+  unsigned-judged n k =
+      let same = p (λ h. let z : ⊥ = omega arith in z) in
+      rw (ne-eqb (kindOf t) 2 n, eq-eqb (kindOf t) 3 k, same, high-test high most x f)
+      (judged-by (bitOf x) 19 (omega arith) (leb x most))
+
+  other-judged : (kindOf t ≡ 2 → ⊥) → (kindOf t ≡ 3 → ⊥)
+      → Judged (whole low high t) (wholeMisfit (wholes under most) (kindOf t) x)
+  unfolding whole inRange wholeMisfit signedMisfit aboveMisfit
+  other-judged n k = rw (ne-eqb (kindOf t) 2 n, ne-eqb (kindOf t) 3 k) (refused (omega arith) refl)
+
+  whole-judged : (kindOf t ≡ 0 → ⊥) → Judged (whole low high t) (misfit (wholes under most) (kindOf t) x)
+  unfolding misfit
+  whole-judged z = rw (ne-eqb (kindOf t) 0 z) (go (ℕ-discrete (kindOf t) 2) (ℕ-discrete (kindOf t) 3))
+    where
+      go : Dec (kindOf t ≡ 2) → Dec (kindOf t ≡ 3)
+          → Judged (whole low high t) (wholeMisfit (wholes under most) (kindOf t) x)
+      go (yes k) d = signed-judged k
+      go (no n) (yes k) = unsigned-judged n k
+      go (no n) (no k) = other-judged n k
+
+-- ---- the atomics
+
+-- an atomic takes one kind, or the whole numbers of a range
+data Shape (takes : Token → Effect) (f : Limits) : Type 0 where
+  one : (kind : ℕ) → (kind ≡ 2 → ⊥) → ((t : Token) → takes t ≡ ofKind kind t) → f ≡ oneKind kind → Shape takes f
+  range : (low high under most : ℕ) → under + low + 1 ≡ 2 ^ 64 → most + 1 ≡ high
+      → ((t : Token) → takes t ≡ whole low high t) → f ≡ wholes under most → Shape takes f
+
+-- THE LAWS over the width: signed, unsigned, a bit string
+signed-shape : (n : ℕ) → n ≤ 64
+    → Shape (whole (2 ^ (n - 1)) (2 ^ (n - 1))) (wholes (2 ^ 64 - 2 ^ (n - 1) - 1) (2 ^ (n - 1) - 1))
+signed-shape n l =
+    let pos = pow-pos (n - 1) in
+    let low = pow-mono {i = n - 1} {j = 63} (omega arith) in
+    range (2 ^ (n - 1)) (2 ^ (n - 1)) (2 ^ 64 - 2 ^ (n - 1) - 1) (2 ^ (n - 1) - 1) (omega arith) (omega arith)
+    (λ t. refl) refl
+
+unsigned-shape : (n : ℕ) → Shape (whole 0 (2 ^ n)) (wholes (2 ^ 64 - 1) (2 ^ n - 1))
+unsigned-shape n =
+    let pos = pow-pos n in
+    range 0 (2 ^ n) (2 ^ 64 - 1) (2 ^ n - 1) (omega arith) (omega arith) (λ t. refl) refl
+
+bits-shape : (n : ℕ) → n ≤ 64
+    → Shape (whole (2 ^ (n - 1)) (2 ^ n)) (wholes (2 ^ 64 - 2 ^ (n - 1) - 1) (2 ^ n - 1))
+bits-shape n l =
+    let pos = pow-pos (n - 1) in
+    let most = pow-pos n in
+    let low = pow-mono {i = n - 1} {j = 63} (omega arith) in
+    range (2 ^ (n - 1)) (2 ^ n) (2 ^ 64 - 2 ^ (n - 1) - 1) (2 ^ n - 1) (omega arith) (omega arith) (λ t. refl) refl
+
+one-shape : (kind : ℕ) → (kind ≡ 2 → ⊥) → Shape (ofKind kind) (oneKind kind)
+one-shape kind n = one kind n (λ t. refl) refl
+
+shape : (a : Atomic) → Shape (atomicTakes a) (limitsOf a)
+unfolding atomicTakes bitString sizeOf
+shape atomic.Bool = one-shape 1 (λ h. omega arith)
+shape atomic.SInt = signed-shape 8 (omega arith)
+shape atomic.Int = signed-shape 16 (omega arith)
+shape atomic.DInt = signed-shape 32 (omega arith)
+shape atomic.LInt = signed-shape 64 (omega arith)
+shape atomic.USInt = unsigned-shape 8
+shape atomic.UInt = unsigned-shape 16
+shape atomic.UDInt = unsigned-shape 32
+shape atomic.ULInt = unsigned-shape 64
+shape atomic.Real = one-shape 4 (λ h. omega arith)
+shape atomic.LReal = one-shape 5 (λ h. omega arith)
+shape atomic.Byte = bits-shape 8 (omega arith)
+shape atomic.Word = bits-shape 16 (omega arith)
+shape atomic.DWord = bits-shape 32 (omega arith)
+shape atomic.LWord = bits-shape 64 (omega arith)
+
+-- ---- what is taken
+
+shape-judged : {takes : Token → Effect} {f : Limits} → Shape takes f → (t : Token) (x : ℕ) → x < 2 ^ 64
+    → ((kindOf t ≡ 6 → ⊥) → payloadOf 0 t ≡ x) → (kindOf t ≡ 0 → ⊥) → Judged (takes t) (misfit f (kindOf t) x)
+shape-judged (one kind n e g) t x l p z = rw (e t, g) (kind-judged kind t x n z)
+shape-judged (range low high under most a b e g) t x l p z =
+    rw (e t, g) (whole-judged low high under most t x l a b p z)
+
+misfit-null : (f : Limits) (kind x : ℕ) → kind ≡ 0 → misfit f kind x ≡ 0
+unfolding misfit
+misfit-null f kind x e = rw (eq-eqb kind 0 e) refl
+
+-- the limits tell which entries are taken
+pub atomic-judged : (a : Atomic) (t : Token) (x : ℕ) → x < 2 ^ 64 → ((kindOf t ≡ 6 → ⊥) → payloadOf 0 t ≡ x)
+    → Judged (orNull (atomicTakes a) t) (misfit (limitsOf a) (kindOf t) x)
+atomic-judged a t x l e = go (ℕ-discrete (kindOf t) 0)
+  where
+    go : Dec (kindOf t ≡ 0) → Judged (orNull (atomicTakes a) t) (misfit (limitsOf a) (kindOf t) x)
+    go (yes z) = kept (misfit-null (limitsOf a) (kindOf t) x z) (null-keeps (atomicTakes a) t z)
+    go (no n) = rw (not-null (atomicTakes a) t n) (shape-judged (shape a) t x l e n)
+
+-- the same of entry k, by what the code reads of it
+pub atomic-here : {s : List ℕ} {k : ℕ} → Bytes s → (a : Atomic) (t : There s k) {f : Limits} {kind x number : ℕ}
+    → f ≡ limitsOf a → kind ≡ firstKind (leftAt s k) → x ≡ payloadAt s k → number ≡ misfit f kind x
+    → Judged (orNull (atomicTakes a) (t .token)) number
+atomic-here {s} {k} bytes a t e g h i =
+    rw (i, e, g, kind-there t, h)
+    (atomic-judged a (t .token) (payloadAt s k) (word-below 8 s (8 + 12 * k) bytes) (t .payload))
+
+-- the refusals' numbers are small
+small-if : (b : Bool) {x y : ℕ} → x < 20 → y < 20 → cond b x y < 20
+small-if true l h = l
+small-if false l h = h
+
+pub misfit-small : (f : Limits) (kind x : ℕ) {number : ℕ} → number ≡ misfit f kind x → number < 20
+unfolding misfit wholeMisfit signedMisfit aboveMisfit
+misfit-small f kind x e =
+    let above = small-if (leb x (f .most)) {x = 0} {y = 19} (omega arith) (omega arith) in
+    let below = small-if (ltb (f .under) x) {x = 0} {y = 19} (omega arith) (omega arith) in
+    rw e
+    (small-if (eqb kind 0) (omega arith)
+    (small-if (eqb (f .kind) 2)
+    (small-if (eqb kind 2) (small-if (leb 0x8000000000000000 x) below above)
+    (small-if (eqb kind 3) above (omega arith)))
+    (small-if (eqb kind (f .kind)) (omega arith) (omega arith))))
+
+-- what is set is the payload's bits
+data Sets (b : Bits) (e : Effect) : Type 0 where
+  puts : e ≡ put b → Sets b e
+  refuses : (number : ℕ) → e ≡ refuse number → Sets b e
+
+sets-by : (b : Bits) (number : ℕ) (fits : Bool) → Sets b (cond fits (put b) (refuse number))
+sets-by b number true = puts refl
+sets-by b number false = refuses number refl
+
+whole-sets : (b : Bits) (number fits : Bool) → Sets b (cond number (cond fits (put b) (refuse 19)) (refuse 18))
+whole-sets b true fits = sets-by b 19 fits
+whole-sets b false fits = refuses 18 refl
+
+shape-sets : {takes : Token → Effect} {f : Limits} → Shape takes f → (t : Token) → Sets (payloadBits t) (takes t)
+unfolding ofKind whole
+shape-sets (one kind n e g) t = rw (e t) (sets-by (payloadBits t) 18 (eqb (kindOf t) kind))
+shape-sets (range low high under most a b e g) t =
+    rw (e t) (whole-sets (payloadBits t) (isWhole (kindOf t)) (inRange low high (kindOf t) (payloadOf 0 t)))
+
+accepted-sets : {b : Bits} {e : Effect} (w p : ℕ) (t : Token) (ts : List Token) (z : Bits) → Sets b e
+    → accepted (onEffect e w p t ts z) ≡ true → e ≡ put b
+accepted-sets w p t ts z (puts h) a = h
+accepted-sets w p t ts z (refuses number h) a =
+    absurd (true≢false (sym a ∙ ap (λ e. accepted (onEffect e w p t ts z)) h))
+
+-- an entry that is accepted and no null sets its payload's bits
+pub atomic-sets : (a : Atomic) (w p : ℕ) (t : Token) (ts : List Token) (z : Bits) → (kindOf t ≡ 0 → ⊥)
+    → accepted (onEffect (orNull (atomicTakes a) t) w p t ts z) ≡ true
+    → orNull (atomicTakes a) t ≡ put (payloadBits t)
+atomic-sets a w p t ts z n h =
+    accepted-sets w p t ts z (rw (not-null (atomicTakes a) t n) (shape-sets (shape a) t)) h
+
+-- a BOOL of a structure takes what a BOOL takes
+pub flag-takes : (t : Token) → atomicTakes atomic.Bool t ≡ taken flag t
+unfolding atomicTakes bitString
+flag-takes t = refl
+
+-- ---- texts
+
+module _ (capacity : ℕ) (t : Token) where
+  -- null, a text that is not too long, one that is, and another entry
+  pub text-null : kindOf t ≡ 0 → Judged (orNull (asText capacity) t) 0
+  text-null k = kept refl (null-keeps (asText capacity) t k)
+
+  pub text-fits : kindOf t ≡ 6 → length (bodyOf t) ≤ capacity → Judged (orNull (asText capacity) t) 0
+  unfolding asText
+  text-fits k l =
+      rw (not-null (asText capacity) t (λ h. let z : ⊥ = omega arith in z))
+      (set refl (textBits (bodyOf t))
+      (rw (eq-eqb (kindOf t) 6 k, le-leb (length (bodyOf t)) capacity l) refl))
+
+  pub text-long : kindOf t ≡ 6 → capacity < length (bodyOf t) → Judged (orNull (asText capacity) t) 21
+  unfolding asText
+  text-long k l =
+      rw (not-null (asText capacity) t (λ h. let z : ⊥ = omega arith in z))
+      (refused (omega arith) (rw (eq-eqb (kindOf t) 6 k, lt-leb (length (bodyOf t)) capacity l) refl))
+
+  pub text-other : (kindOf t ≡ 0 → ⊥) → (kindOf t ≡ 6 → ⊥) → Judged (orNull (asText capacity) t) 18
+  unfolding asText
+  text-other n k = rw (not-null (asText capacity) t n) (refused (omega arith) (rw (ne-eqb (kindOf t) 6 k) refl))
+
+-- no text and no null stands at entry k
+pub no-text : {s : List ℕ} {k r : ℕ} (capacity w p : ℕ) → streamOk s ≡ true → k ≤ countIn s
+    → (firstKind (leftAt s k) ≡ 0 → ⊥) → (firstKind (leftAt s k) ≡ 6 → ⊥) → r ≡ 2 ^ 32 * 18 + k
+    → Checked s k r (writeOne (orNull (asText capacity)) w p (leftAt s k))
+no-text {s} {k} {r} capacity w p form l a b e = go (decLt k (countIn s))
+  where
+    go : Dec (k < countIn s) → Checked s k r (writeOne (orNull (asText capacity)) w p (leftAt s k))
+    go (yes h) =
+        let t = there s k form h in
+        let kind = kind-there t in
+        one-refused form (orNull (asText capacity)) w p t
+        (text-other capacity (t .token) (λ q. a (kind ∙ q)) (λ q. b (kind ∙ q))) (λ q. omega arith) e
+    go (no h) = one-missing form (orNull (asText capacity)) w p (omega arith) e

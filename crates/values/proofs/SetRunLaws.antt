@@ -1,0 +1,290 @@
+-- Atomics and runs of them set in an image (document 01, "Writing"), where the check accepted: one entry, the loop over
+-- the entries of an array, and the ways of a bit string.
+use Prim.Native.Nat.{ℕ, suc, _+_, _-_, _*_, _<_, _≤_}
+use native.Mathlib.Decide.{decLt}
+use native.Mathlib.Nat.{add-zero, mul-le-mul-left, mul-one, mul-suc, mul-zero, sub-zero}
+use native.Mathlib.Omega.{arith}
+use mathlib.Core.Path.{_≡_, refl, sym, ap, _∙_, subst}
+use mathlib.Core.Bool.{Bool, true}
+use mathlib.Core.List.{List}
+use mathlib.Core.Logic.{inl, inr}
+use lib.ListN.{length}
+use lib.Seq.{sets, length-sets}
+use Rattle.words.specs.Bits.{Bits, bitOf, flat, stamp}
+use Rattle.words.specs.Words.{bytesOf}
+use Rattle.words.proofs.BitLaws.{bit-none}
+use Rattle.types.specs.Atomic.{bitString, sizeOf}
+use Rattle.types.specs.Layout.{times}
+use Rattle.types.specs.declared.atomic.Atomic.{Atomic}
+use Rattle.types.specs.declared.atomic.Atomic.the-variants as atomic
+use Rattle.types.proofs.LayoutLaws.{times-one, times-same}
+use Rattle.values.specs.Bools.{Bools}
+use Rattle.values.specs.Effects.{Effect, put, refuse, atomicTakes, ofKind, orNull, whole}
+use Rattle.values.specs.Form.{countIn, streamOk}
+use Rattle.values.specs.Passes.{Applied, accepted, firstKind, leftAt}
+use Rattle.values.specs.Rows.{Width, runIn}
+use Rattle.values.specs.Stream.{Token, kindOf}
+use Rattle.values.specs.Trees.{atomicsTree}
+use Rattle.values.specs.Writing.{Outcome, andThen, onEffect, writeOne, elements, boolsIn}
+use Rattle.values.specs.Writing.{noBits, write}
+use Rattle.values.proofs.ApplyLaws.{Setting, accepted-as, accepted-first, applied-keeps, applied-one}
+use Rattle.values.proofs.ApplyLaws.{elements-closed, elements-end, elements-step, elements-there, not-accepted}
+use Rattle.values.proofs.ApplyLaws.{setting-from, setting-on}
+use Rattle.values.proofs.ApplyLaws.{setting-start, setting-then}
+use Rattle.values.proofs.FitLaws.{atomic-sets, not-null, null-keeps}
+use Rattle.values.proofs.LeftLaws.{There, kind-none, kind-there, none-left, payloadAt, there}
+use Rattle.values.proofs.OutcomeLaws.{elements-none, one-is, one-none}
+use Rattle.values.proofs.RunInLaws.{bits-bools, bits-number, run-wholes}
+use Rattle.values.proofs.StampLaws.{flat-word, stamp-ext}
+
+pub width-of : (a : Atomic) → Width (sizeOf a)
+unfolding sizeOf
+width-of atomic.Bool = inl refl
+width-of atomic.SInt = inl refl
+width-of atomic.Int = inr (inl refl)
+width-of atomic.DInt = inr (inr (inl refl))
+width-of atomic.LInt = inr (inr (inr refl))
+width-of atomic.USInt = inl refl
+width-of atomic.UInt = inr (inl refl)
+width-of atomic.UDInt = inr (inr (inl refl))
+width-of atomic.ULInt = inr (inr (inr refl))
+width-of atomic.Real = inr (inr (inl refl))
+width-of atomic.LReal = inr (inr (inr refl))
+width-of atomic.Byte = inl refl
+width-of atomic.Word = inr (inl refl)
+width-of atomic.DWord = inr (inr (inl refl))
+width-of atomic.LWord = inr (inr (inr refl))
+
+-- a text is no number
+text-refused : (a : Atomic) (t : Token) → kindOf t ≡ 6 → atomicTakes a t ≡ refuse 18
+unfolding atomicTakes bitString sizeOf ofKind whole
+text-refused atomic.Bool t e = rw e refl
+text-refused atomic.SInt t e = rw e refl
+text-refused atomic.Int t e = rw e refl
+text-refused atomic.DInt t e = rw e refl
+text-refused atomic.LInt t e = rw e refl
+text-refused atomic.USInt t e = rw e refl
+text-refused atomic.UInt t e = rw e refl
+text-refused atomic.UDInt t e = rw e refl
+text-refused atomic.ULInt t e = rw e refl
+text-refused atomic.Real t e = rw e refl
+text-refused atomic.LReal t e = rw e refl
+text-refused atomic.Byte t e = rw e refl
+text-refused atomic.Word t e = rw e refl
+text-refused atomic.DWord t e = rw e refl
+text-refused atomic.LWord t e = rw e refl
+
+-- ---- one entry
+
+abbrev pub oneOf : Atomic → ℕ → List Token → Bits → Outcome
+oneOf a = writeOne (orNull (atomicTakes a)) (8 * sizeOf a)
+
+module _ {s : List ℕ} {k : ℕ} (a : Atomic) (base : ℕ) (t : There s k) where
+  -- null keeps what stands
+  pub one-kept : {image : List ℕ} → firstKind (leftAt s k) ≡ 0
+      → Applied s k (k + 1) image image (oneOf a (8 * base) (leftAt s k))
+  one-kept {image} e =
+      applied-keeps (t .inside)
+      (one-is (orNull (atomicTakes a)) (8 * sizeOf a) (8 * base) (t .token) (leftAt s (k + 1)) (flat image) (t .left)
+      ∙ ap (λ (x : Effect). onEffect x (8 * sizeOf a) (8 * base) (t .token) (leftAt s (k + 1)) (flat image))
+      (null-keeps (atomicTakes a) (t .token) (sym (kind-there t) ∙ e)))
+
+  -- any other sets its payload's low bytes
+  pub one-put : {image new : List ℕ} → (firstKind (leftAt s k) ≡ 0 → ⊥)
+      → accepted (oneOf a (8 * base) (leftAt s k) (flat image)) ≡ true → base + sizeOf a ≤ length image
+      → new ≡ sets image base (bytesOf (sizeOf a) (payloadAt s k))
+      → Applied s k (k + 1) image new (oneOf a (8 * base) (leftAt s k))
+  one-put {image} {new} n h l e =
+      let is = one-is (orNull (atomicTakes a)) (8 * sizeOf a) (8 * base) (t .token) (leftAt s (k + 1)) (flat image)
+      (t .left) in
+      let null-not : kindOf (t .token) ≡ 0 → ⊥ = λ q. n (kind-there t ∙ q) in
+      let puts = atomic-sets a (8 * sizeOf a) (8 * base) (t .token) (leftAt s (k + 1)) (flat image) null-not
+      (accepted-as is h) in
+      let text-not : kindOf (t .token) ≡ 6 → ⊥ = λ q. refused-not (sym puts ∙ not-null _ _ null-not
+      ∙ text-refused a (t .token) q) in
+      applied-one (t .inside) (ap length e ∙ length-sets image base (bytesOf (sizeOf a) (payloadAt s k)))
+      (is ∙ ap (λ (x : Effect). onEffect x (8 * sizeOf a) (8 * base) (t .token) (leftAt s (k + 1)) (flat image)) puts)
+      (ap flat e ∙ flat-word image base (sizeOf a) (payloadAt s k) l
+      ∙ ap (λ (x : ℕ). stamp (8 * base) (8 * sizeOf a) (bitOf x) (flat image)) (sym (t .payload text-not)))
+    where
+      refused-not : {b : Bits} → put b ≡ refuse 18 → ⊥
+      refused-not {b} q = let z : _≡_ {A = ℕ} 0 1 = cc in let y : ⊥ = omega arith in y
+
+-- ---- the entries of an array
+
+abbrev pub numbersIn : Atomic → ℕ → ℕ → List Token → Bits → Outcome
+numbersIn a n base ts z = elements n (oneOf a) (8 * sizeOf a) (8 * base) ts z
+
+-- what the loop counts on, where its atomics have a size
+pub record Asked (a : Atomic) (n : ℕ) (s : List ℕ) (k : ℕ) (image : List ℕ) (base size : ℕ) : Type 0 where
+  pub long : size ≡ sizeOf a
+  pub form : streamOk s ≡ true
+  pub room : base + sizeOf a * n ≤ length image
+  pub taken : accepted (numbersIn a n base (leftAt s k) (flat image)) ≡ true
+
+-- what is left of n: the loop knows no more of the atomic than its size
+pub record Numbers (n : ℕ) (s : List ℕ) (k : ℕ) (image : List ℕ) (base size : ℕ) (now : List ℕ) (p : ℕ)
+    : Type 0 where
+  pub further : k ≤ p
+  pub bounded : p - k ≤ n
+  pub each : (a : Atomic) → Asked a n s k image base size
+      → Setting s k image (numbersIn a n base (leftAt s k)) p now
+      (numbersIn a (n - (p - k)) (base + sizeOf a * (p - k)) (leftAt s p))
+
+pub numbers-start : (n : ℕ) (s : List ℕ) (k : ℕ) (image : List ℕ) (base size : ℕ)
+    → Numbers n s k image base size image k
+numbers-start n s k image base size =
+    record {
+      further = omega arith;
+      bounded = omega arith;
+      each = λ a w.
+          (let none : k - k ≡ 0 = omega arith in
+          rw (none, sub-zero, mul-zero, add-zero) (setting-start (w .taken)));
+    }
+
+-- one element more
+pub element-room : (size i n base long : ℕ) → i < n → base + size * n ≤ long → base + size * i + size ≤ long
+element-room size i n base long l h =
+    omega (arith, mul-suc size i, mul-le-mul-left {m = suc i} {n = n} size (omega arith))
+
+module _ {n : ℕ} {s : List ℕ} {k : ℕ} {image : List ℕ} {base size : ℕ} {now : List ℕ} {p : ℕ}
+    (v : Numbers n s k image base size now p) where
+  module _ {a : Atomic} (w : Asked a n s k image base size) where
+    pub numbers-there : There s p
+    numbers-there =
+        elements-there (w .form) (n - (p - k)) (oneOf a) (8 * sizeOf a) (8 * (base + sizeOf a * (p - k))) (flat now)
+        (v .each a w .taken)
+
+    pub numbers-long : length now ≡ length image
+    numbers-long = v .each a w .long
+
+    pub numbers-room : p - k < n → base + size * (p - k) + size ≤ length now
+    numbers-room l =
+        rw (w .long, numbers-long) (element-room (sizeOf a) (p - k) n base (length image) l (w .room))
+
+    -- the close
+    pub numbers-closed : firstKind (leftAt s p) ≡ 11 → Applied s k (p + 1) image now (numbersIn a n base (leftAt s k))
+    numbers-closed e =
+        v .each a w .onward (p + 1) now
+        (elements-closed (w .form) (oneOf a) (8 * sizeOf a) numbers-there (n - (p - k))
+        (8 * (base + sizeOf a * (p - k))) e)
+
+    -- past the last place there is nothing else
+    pub numbers-end : n ≤ p - k → Applied s k (p + 1) image now (numbersIn a n base (leftAt s k))
+    numbers-end l =
+        let none : n - (p - k) ≡ 0 = omega arith in
+        numbers-closed (elements-end (w .form) (oneOf a) (8 * sizeOf a) numbers-there
+        (8 * (base + sizeOf a * (p - k))) now (rw none at (v .each a w .taken)))
+
+    next-is : p - k < n → (firstKind (leftAt s p) ≡ 11 → ⊥)
+        → numbersIn a (n - (p - k)) (base + sizeOf a * (p - k)) (leftAt s p) (flat now)
+        ≡ andThen (oneOf a (8 * (base + sizeOf a * (p - k))) (leftAt s p) (flat now))
+        (elements (n - (p + 1 - k)) (oneOf a) (8 * sizeOf a) (8 * (base + sizeOf a * (p - k)) + 8 * sizeOf a))
+    next-is l e =
+        let more : n - (p - k) ≡ suc (n - (p + 1 - k)) = (let f = v .further in omega arith) in
+        rw more (elements-step (w .form) (oneOf a) (8 * sizeOf a) numbers-there (n - (p + 1 - k))
+        (8 * (base + sizeOf a * (p - k))) (flat now) e)
+
+    one-taken : p - k < n → (firstKind (leftAt s p) ≡ 11 → ⊥)
+        → accepted (oneOf a (8 * (base + sizeOf a * (p - k))) (leftAt s p) (flat now)) ≡ true
+    one-taken l e =
+        accepted-first (oneOf a (8 * (base + sizeOf a * (p - k))) (leftAt s p) (flat now))
+        (elements (n - (p + 1 - k)) (oneOf a) (8 * sizeOf a) (8 * (base + sizeOf a * (p - k)) + 8 * sizeOf a))
+        (accepted-as (next-is l e) (v .each a w .taken))
+
+  -- an entry that was set, and the rest
+  numbers-on : {new : List ℕ} → p - k < n → (firstKind (leftAt s p) ≡ 11 → ⊥)
+      → ((a : Atomic) → Asked a n s k image base size
+      → Applied s p (p + 1) now new (oneOf a (8 * (base + sizeOf a * (p - k))) (leftAt s p)))
+      → Numbers n s k image base size new (p + 1)
+  numbers-on {new} l e one =
+      record {
+        further = (let f = v .further in omega arith);
+        bounded = (let f = v .further in omega arith);
+        each = λ a w.
+            (let f = v .further in
+            let count : p + 1 - k ≡ suc (p - k) = omega arith in
+            let far : 8 * (base + sizeOf a * (p - k)) + 8 * sizeOf a ≡ 8 * (base + sizeOf a * (p + 1 - k)) =
+            rw count (omega (arith, mul-suc (sizeOf a) (p - k))) in
+            setting-on (v .each a w)
+            (subst (λ (q : ℕ). Setting s p now (numbersIn a (n - (p - k)) (base + sizeOf a * (p - k)) (leftAt s p))
+            (p + 1) new (elements (n - (p + 1 - k)) (oneOf a) (8 * sizeOf a) q (leftAt s (p + 1)))) far
+            (setting-then
+            (elements (n - (p + 1 - k)) (oneOf a) (8 * sizeOf a) (8 * (base + sizeOf a * (p - k)) + 8 * sizeOf a))
+            (next-is w l e) (v .each a w .taken) (one a w))));
+      }
+
+  -- a null
+  pub numbers-null : p - k < n → firstKind (leftAt s p) ≡ 0 → Numbers n s k image base size now (p + 1)
+  numbers-null l e =
+      numbers-on l (λ h. let z : ⊥ = omega arith in z)
+      (λ a w. one-kept a (base + sizeOf a * (p - k)) (numbers-there w) e)
+
+  -- a number
+  pub numbers-put : {x : ℕ} {new : List ℕ} → p - k < n → (firstKind (leftAt s p) ≡ 11 → ⊥)
+      → (firstKind (leftAt s p) ≡ 0 → ⊥) → x ≡ payloadAt s p
+      → new ≡ sets now (base + size * (p - k)) (bytesOf size x) → Numbers n s k image base size new (p + 1)
+  numbers-put {x} {new} l c e d b =
+      numbers-on l c
+      (λ a w. one-put a (base + sizeOf a * (p - k)) (numbers-there w) e (one-taken w l c)
+      (subst (λ (m : ℕ). base + m * (p - k) + m ≤ length now) (w .long) (numbers-room w l))
+      (b ∙ rw (w .long, d) refl))
+
+-- ---- one bit string
+
+module _ {s : List ℕ} {k : ℕ} (form : streamOk s ≡ true) (a : Atomic) (base : ℕ) (bits : bitString a ≡ true) where
+  -- its entry is there
+  pub bits-there : (z : Bits) → accepted (write (atomicsTree a 0) (8 * base) (leftAt s k) z) ≡ true → There s k
+  bits-there z h = go (decLt k (countIn s))
+    where
+      go : Dec (k < countIn s) → There s k
+      go (yes l) = there s k form l
+      go (no l) =
+          let past : countIn s ≤ k = omega arith in
+          not-accepted
+          (bits-number a (8 * base) (leftAt s k) z bits (λ e. let y : ⊥ = omega (arith, kind-none s k past) in y)
+          ∙ one-none (orNull (atomicTakes a)) (8 * sizeOf a) (8 * base) z (none-left s k past)) h
+
+  -- all its bits are cleared, and then bools follow
+  pub bits-cleared : {size : ℕ} {image mid : List ℕ} → There s k → firstKind (leftAt s k) ≡ 10
+      → accepted (write (atomicsTree a 0) (8 * base) (leftAt s k) (flat image)) ≡ true
+      → base + sizeOf a ≤ length image → size ≡ sizeOf a → mid ≡ sets image base (bytesOf size 0)
+      → Setting s k image (write (atomicsTree a 0) (8 * base) (leftAt s k)) (k + 1) mid
+      (boolsIn (8 * sizeOf a) (8 * base) (leftAt s (k + 1)))
+  bits-cleared {size} {image} {mid} t e h l w q =
+      let m : mid ≡ sets image base (bytesOf (sizeOf a) 0) = q ∙ rw w refl in
+      let zeros : flat mid ≡ stamp (8 * base) (8 * sizeOf a) noBits (flat image) =
+      ap flat m ∙ flat-word image base (sizeOf a) 0 l
+      ∙ stamp-ext (8 * base) (8 * sizeOf a) (bitOf 0) noBits (flat image) (λ i j. bit-none i) in
+      setting-from (omega arith) (ap length m ∙ length-sets image base (bytesOf (sizeOf a) 0))
+      (bits-bools a (8 * base) (leftAt s k) (flat image) bits e
+      ∙ rw (zeros, t .left) refl) h
+
+-- bools that are accepted in so many bytes
+pub bools-asked : {s : List ℕ} {k : ℕ} {image : List ℕ} {base : ℕ} (bytes : ℕ) → streamOk s ≡ true
+    → base + bytes ≤ length image → accepted (boolsIn (8 * bytes) (8 * base) (leftAt s k) (flat image)) ≡ true
+    → Bools s k image base
+bools-asked bytes form room taken = record { form = form; bytes = bytes; room = room; taken = taken }
+
+-- ---- the inside of an array
+
+pub run-there : {s : List ℕ} {k : ℕ} → streamOk s ≡ true → (a : Atomic) (n p : ℕ) (z : Bits) → bitString a ≡ true
+    → accepted (runIn a n p (leftAt s k) z) ≡ true → There s k
+run-there {s} {k} form a n p z bits h = go (decLt k (countIn s))
+  where
+    go : Dec (k < countIn s) → There s k
+    go (yes l) = there s k form l
+    go (no l) =
+        let past : countIn s ≤ k = omega arith in
+        not-accepted
+        (run-wholes a n p (leftAt s k) z bits (λ e. let y : ⊥ = omega (arith, kind-none s k past) in y)
+        ∙ elements-none (oneOf a) (8 * sizeOf a) n p z (none-left s k past)) h
+
+-- ---- one, or many
+
+module _ (a : Atomic) (n base long : ℕ) (h : base + sizeOf a * times n ≤ long) where
+  pub room-one : n ≡ 0 → base + sizeOf a ≤ long
+  room-one e = rw (← times-one n e, mul-one) at h
+
+  pub room-some : (n ≡ 0 → ⊥) → base + sizeOf a * n ≤ long
+  room-some e = rw (← times-same n e) at h

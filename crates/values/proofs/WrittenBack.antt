@@ -1,0 +1,97 @@
+-- The second half of demand 3 (document 01, "Writing", "Normal image"), over byte images and byte streams, for tables
+-- as our own calls left them: the stream of an image of a value, written over any image of that value, is accepted,
+-- sets every bit that the value holds to the normal image's, and keeps every other bit.
+use Prim.Native.Nat.{ℕ, _*_, _<_, _≤_}
+use mathlib.Core.Path.{_≡_, refl, sym, ap, _∙_}
+use mathlib.Core.Bool.{true, cond, _&&_}
+use mathlib.Core.List.{List, [], append-nil}
+use lib.ListN.{length}
+use borrow.Author.Tests.{eq-eqb, lt-ltb}
+use Rattle.words.specs.Bits.{Bits, flat}
+use Rattle.words.specs.Words.{Bytes}
+use Rattle.types.specs.Kept.{Kept}
+use Rattle.types.specs.Layout.{times}
+use Rattle.types.specs.Shape.{isThere}
+use Rattle.types.specs.Waste.{sizeIn, sizesIn}
+use Rattle.types.specs.declared.member.Ty.{Ty}
+use Rattle.values.specs.Form.{countIn}
+use Rattle.values.specs.Leaf.{chars}
+use Rattle.values.specs.Normal.{held, normalImage}
+use Rattle.values.specs.Reading.{valueStream}
+use Rattle.values.specs.Stream.{Token, mostBytes}
+use Rattle.values.specs.Tree.{Item, Tree, items, read}
+use Rattle.values.specs.Trees.{knownIn, treeOfValue}
+use Rattle.values.specs.Walkable.{ValueImage}
+use Rattle.values.specs.Writing.{Outcome, ok, ended, write, written}
+use Rattle.values.specs.Written.{Result, taking, valueWritten, writeResult}
+use Rattle.values.specs.declared.writing.Taken.the-variants.{Whole}
+use Rattle.values.proofs.CharLaws.{length-chars}
+use Rattle.values.proofs.KeptPlaced.{kept-placed}
+use Rattle.values.proofs.OverLaws.{over, over-bit}
+use Rattle.values.proofs.PlacedLaws.{Placed, tree-apart}
+use Rattle.values.proofs.PutBack.{flat-clip}
+use Rattle.values.proofs.SameStream.{stream-ok, tokens-are, normal-bits}
+use Rattle.values.proofs.WriteBack.{tree-back}
+
+-- what a write of the stream of x over z answers and leaves
+pub record WrittenBack (tree : Tree) (x z : List ℕ) (r : Result) : Type 0 where
+  pub accepted : r .answer ≡ Whole
+  pub long : length (r .image) ≡ length z
+  pub bits : (k : ℕ) → k < 8 * length z
+      → flat (r .image) k ≡ cond (held (items tree 0) k) (flat (normalImage tree x) k) (flat z k)
+
+-- of a tree whose branches share no bit
+whole-back : (tree : Tree) (x z : Bits) → Placed tree
+    → written tree (read (items tree 0) x) z ≡ ok [] (over (items tree 0) x z)
+unfolding written
+whole-back tree x z a =
+    ap ended (ap (λ (ts : List Token). write tree 0 ts z) (sym (append-nil (read (items tree 0) x)))
+    ∙ tree-back tree 0 x a z [])
+
+-- n bytes of some bits
+bytes-bit : (n : ℕ) (b : Bits) (k : ℕ) → k < 8 * n → flat (chars n b) k ≡ b k
+bytes-bit n b k l = flat-clip n b k ∙ ap (_&& b k) (lt-ltb k (8 * n) l)
+
+module _ {types members names : List ℕ} (kept : Kept types members names) (t : Ty) (n : ℕ)
+    (there : isThere types t ≡ true) (x z : List ℕ) (v : ValueImage types t n x) (u : ValueImage types t n z)
+    (b : Bytes x) (room : length (valueStream types members t n x) ≤ mostBytes) where
+  abbrev tree : Tree
+  tree = treeOfValue (knownIn types members) t n
+
+  abbrev is : List Item
+  is = items tree 0
+
+  abbrev stream : List ℕ
+  stream = valueStream types members t n x
+
+  placed : Placed tree
+  placed = kept-placed kept t n (v .fits)
+
+  outcome : valueWritten types members t n stream z ≡ ok [] (over is (flat x) (flat z))
+  unfolding valueWritten
+  outcome =
+      ap (λ (ts : List Token). written tree ts (flat z)) (tokens-are kept t n (v .fits) x v b room)
+      ∙ whole-back tree (flat x) (flat z) placed
+
+  result : writeResult types members t n stream z ≡ taking (countIn stream) (ok [] (over is (flat x) (flat z))) z
+  unfolding writeResult
+  result =
+      rw (
+        there,
+        eq-eqb (length z) (sizeIn (sizesIn types) t * times n) (u .long),
+        stream-ok kept t n (v .fits) x v b room,
+      )
+      (ap (λ (w : Outcome). taking (countIn stream) w z) outcome)
+
+  left-bit : (k : ℕ) → k < 8 * length z
+      → flat (chars (length z) (over is (flat x) (flat z))) k
+      ≡ cond (held is k) (flat (normalImage tree x) k) (flat z k)
+  left-bit k l =
+      bytes-bit (length z) (over is (flat x) (flat z)) k l
+      ∙ over-bit is (flat x) (flat z) (tree-apart tree 0 placed) k
+      ∙ ap (λ (y : Bits). cond (held is k) (y k) (flat z k)) (sym (normal-bits kept t n (v .fits) x v b))
+
+  pub written-back : WrittenBack tree x z (writeResult types members t n stream z)
+  written-back =
+      let long = length-chars (length z) (over is (flat x) (flat z)) in
+      rw result (record { accepted = refl; long = long; bits = left-bit })

@@ -1,0 +1,133 @@
+-- The whole of a write (document 01, "Writing", "Refusal numbers"): 15, 14 and 17 leave the image as it was; so does the
+-- first bad entry, whose number in the stream is its place; else the image is what the entries make of it.
+use Prim.Native.Nat.{ℕ, _-_, _/_, _%_, _^_, _<_, _≤_}
+use native.Mathlib.Nat.{mod-eq-of-lt, sub-zero, zero-add}
+use native.Mathlib.Omega.{arith}
+use mathlib.Core.Path.{_≡_, refl, sym, ap, _∙_, fun-ext}
+use mathlib.Core.Bool.{true, false}
+use mathlib.Core.List.{List, [], _∷_}
+use lib.ListN.{length}
+use lib.Seq.{take-length}
+use Rattle.words.specs.Bits.{Bits, flat}
+use Rattle.words.specs.Words.{Bytes, part}
+use Rattle.types.specs.Shape.{isThere}
+use Rattle.types.specs.declared.member.Ty.{Ty}
+use Rattle.types.specs.declared.refusal.Refusal.the-variants.{ImageLength, NoSuchType, StreamMalformed, EntryMisfit}
+use Rattle.values.specs.Decode.{tokensIn}
+use Rattle.values.specs.Form.{countIn, streamOk}
+use Rattle.values.specs.Leaf.{chars}
+use Rattle.values.specs.Passes.{Applied, Checked, accepted, leftAt}
+use Rattle.values.specs.Reading.{imageFits}
+use Rattle.values.specs.Stream.{Token}
+use Rattle.values.specs.Tree.{Tree}
+use Rattle.values.specs.Trees.{knownIn, treeOfValue}
+use Rattle.values.specs.Writing.{Outcome, ok, bad, ended, write, written}
+use Rattle.values.specs.Written.{Done, Entered, bytesAfter, entryRefusal, takenOf, valueWritten, writeResult}
+use Rattle.values.specs.declared.writing.Taken.{Taken}
+use Rattle.values.specs.declared.writing.Taken.the-variants.{Whole, Refused}
+use Rattle.values.proofs.LeftLaws.{left-long, none-left, there}
+use Rattle.values.proofs.TreeLaws.{chars-part}
+
+-- ---- all entries
+
+pub left-all : (s : List ℕ) → leftAt s 0 ≡ tokensIn s
+unfolding leftAt tokensIn
+left-all s = rw sub-zero refl
+
+abbrev rest-of : Outcome → List Token
+rest-of (ok ts z) = ts
+rest-of (bad number ts) = ts
+
+-- an image is its bits
+pub bytes-bits : (image : List ℕ) → Bytes image → chars (length image) (flat image) ≡ image
+unfolding part
+bytes-bits image b =
+    ap (chars (length image)) (fun-ext (λ k. ap (flat image) (sym (zero-add k))))
+    ∙ chars-part (length image) image 0 b (omega arith) ∙ take-length image
+
+-- ---- the entries of a value
+
+module _ (types members : List ℕ) (t : Ty) (n : ℕ) (s image : List ℕ) (form : streamOk s ≡ true) where
+  abbrev tree : Tree
+  tree = treeOfValue (knownIn types members) t n
+
+  abbrev entries : Bits → Outcome
+  entries = write tree 0 (leftAt s 0)
+
+  all-written : valueWritten types members t n s image ≡ ended (entries (flat image))
+  unfolding valueWritten written
+  all-written = rw left-all refl
+
+  -- where the entries from q on are left, q is their place
+  place-of : (q : ℕ) → q ≤ countIn s → countIn s - length (leftAt s q) ≡ q
+  place-of q l = rw (left-long s q) (omega arith)
+
+  at-bad : {number : ℕ} {q : ℕ} → q ≤ countIn s → ended (entries (flat image)) ≡ bad number (leftAt s q)
+      → Entered types members t n s image (Refused (entryRefusal number q)) image
+  at-bad {number} {q} l e =
+      record {
+        answer = sym (ap (takenOf (countIn s)) (all-written ∙ e)
+            ∙ ap (λ (k : ℕ). Refused (entryRefusal number k)) (place-of q l));
+        leaves = sym (ap (λ (o : Outcome). bytesAfter o image) (all-written ∙ e));
+      }
+
+  -- a refused entry
+  pub refused-entered : {r number place : ℕ} → Checked s 0 r entries → 2 ^ 32 ≤ r → number ≡ r / 2 ^ 32
+      → place ≡ r % 2 ^ 32 → Entered types members t n s image (Refused (entryRefusal number place)) image
+  refused-entered {r} c l e f =
+      let w = c .refuses l in
+      rw (e, f) (at-bad (w .inside) (ap ended (w .gives (flat image))))
+
+  -- an entry that is left over
+  pub left-over : {r place : ℕ} → Checked s 0 r entries → r < 2 ^ 32 → r < countIn s → place ≡ r % 2 ^ 32
+      → Entered types members t n s image (Refused (EntryMisfit place)) image
+  unfolding entryRefusal
+  left-over {r} {place} c l m e =
+      let w = c .goes l in
+      let first = there s r form m in
+      let low : place ≡ r = e ∙ mod-eq-of-lt l in
+      let over : ended (entries (flat image)) ≡ bad 18 (leftAt s r)
+      = ap ended (w .gives (flat image) .1 ∙ ap (λ (ts : List Token). ok ts (w .gives (flat image) .0)) (first .left))
+      ∙ ap (bad 18) (sym (first .left)) in
+      rw low (at-bad {number = 18} {q = r} (omega arith) over)
+
+  module _ {r : ℕ} (c : Checked s 0 r entries) (l : r < 2 ^ 32) (all : countIn s ≤ r) where
+    pub all-accepted : accepted (entries (flat image)) ≡ true
+    all-accepted = ap accepted (c .goes l .gives (flat image) .1)
+
+    -- and set
+    pub entered-whole : {k : ℕ} {new : List ℕ} → Applied s 0 k image new entries → Bytes new
+        → Entered types members t n s image Whole new
+    entered-whole {k} {new} a b =
+        let none = none-left s r all in
+        let same : leftAt s k ≡ []
+        = sym (ap rest-of (a .gives)) ∙ ap rest-of (c .goes l .gives (flat image) .1) ∙ none in
+        let done : ended (entries (flat image)) ≡ ok [] (flat new)
+        = ap ended (a .gives ∙ ap (λ (ts : List Token). ok ts (flat new)) same) in
+        record {
+          answer = sym (ap (takenOf (countIn s)) (all-written ∙ done));
+          leaves = sym (ap (λ (o : Outcome). bytesAfter o image) (all-written ∙ done)
+              ∙ ap (λ (m : ℕ). chars m (flat new)) (sym (a .long)) ∙ bytes-bits new b);
+        }
+
+-- ---- the call
+
+module _ (types members : List ℕ) (t : Ty) (n : ℕ) (s image : List ℕ) where
+  pub no-type : isThere types t ≡ false → Done types members t n s image (Refused NoSuchType) image
+  unfolding writeResult
+  no-type e = record { answer = rw e refl; leaves = rw e refl }
+
+  module _ (there-is : isThere types t ≡ true) where
+    pub no-image : imageFits types t n image ≡ false → Done types members t n s image (Refused ImageLength) image
+    unfolding writeResult
+    no-image e = record { answer = rw (there-is, e) refl; leaves = rw (there-is, e) refl }
+
+    pub no-stream : imageFits types t n image ≡ true → streamOk s ≡ false
+        → Done types members t n s image (Refused StreamMalformed) image
+    unfolding writeResult
+    no-stream e f = record { answer = rw (there-is, e, f) refl; leaves = rw (there-is, e, f) refl }
+
+    pub entered-done : {r : Taken} {new : List ℕ} → imageFits types t n image ≡ true → streamOk s ≡ true
+        → Entered types members t n s image r new → Done types members t n s image r new
+    unfolding writeResult
+    entered-done e f w = record { answer = w .answer ∙ rw (there-is, e, f) refl; leaves = w .leaves ∙ rw (there-is, e, f) refl }

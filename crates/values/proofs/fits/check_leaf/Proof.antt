@@ -1,0 +1,88 @@
+-- `values::fits::check_leaf` meets its contract: a BOOL's bit takes what a BOOL takes, an atomic member what its type
+-- and count say (document 01, "Writing").
+use borrow.Author.Needs.{needs}
+use native.Mathlib.Omega.{arith}
+use mathlib.Core.Path.{_∙_, ap}
+use Rattle.types.specs.declared.member.Member.{Member}
+use Rattle.values.specs.Walk.{isNested}
+use Rattle.values.proofs.FitLeafLaws.{bytes-low, member-atomic, member-bit, member-struct}
+use Rattle.values.proofs.FitRunLaws.{few}
+use Rattle.values.proofs.fits.check_leaf.Statement.{statement}
+use Rattle.values.proofs.fits.check_leaf.Tie as tie
+
+member-at-requires : tie.Need-member-at-requires
+member-at-requires c κs = search needs
+
+wide-requires : tie.Need-wide-requires
+wide-requires c κs = search needs
+
+enum-told : tie.Need-enum-told
+enum-told c = search needs
+
+check-atomic-requires : tie.Need-check-atomic-requires
+check-atomic-requires c κs = search needs
+
+returns : tie.Need-returns
+returns c =
+    let at-bit = c .before in
+    let m = at-bit .before .before .before .member-at in
+    rw (← m .ensures) (member-bit (m .result) (at-bit .enum-told .given .1) (c .check-atomic .ensures))
+
+enum-told-2 : tie.Need-enum-told-2
+enum-told-2 c = search needs
+
+enum-known-ty : tie.Need-enum-known-ty
+enum-known-ty c = search needs
+
+check-atomics-requires : tie.Need-check-atomics-requires
+check-atomics-requires c κs =
+    let at-ty = c .before in
+    let at-wide = at-ty .before .before .before .before in
+    let start = at-wide .before .before .before in
+    (start .pre .0, bytes-low (at-ty .ty .given .0 .0) (at-wide .wide .result) (omega (arith, start .good)))
+
+returns-2 : tie.Need-returns-2
+returns-2 c =
+    let at-ty = c .before .before in
+    let at-none = at-ty .before .before in
+    let at-wide = at-none .before .before in
+    let m = at-wide .before .member-at in
+    rw (← m .ensures)
+    (member-atomic (m .result) (at-none .enum-told2 .given .1) (at-ty .ty .given .1) (at-wide .wide .ensures)
+    (c .check-atomics .ensures))
+
+enum-told-3 : tie.Need-enum-told-3
+enum-told-3 c = search needs
+
+refused-requires : tie.Need-refused-requires
+refused-requires c κs =
+    let start = c .before .before .before .before .before .before .before in
+    (omega arith, omega (arith, few (start .pre .0 .0), start .pre .0 .1))
+
+returns-3 : tie.Need-returns-3
+returns-3 c =
+    let at-struct = c .before in
+    let at-none = at-struct .before .before in
+    let known = at-none .before .before .before in
+    let row = known .before .before .pre .1 in
+    let m = known .member-at in
+    absurd
+    (member-struct (m .result) (ap (λ (x : Member). x .hidden) (m .ensures) ∙ row .visible)
+    (ap isNested (m .ensures) ∙ row .flat) (at-none .enum-told2 .given .1) (at-struct .enum-told3 .given .1))
+
+pub check-leaf-spec : {M : Type 1} → statement M
+check-leaf-spec =
+    tie.close
+    (tie.spec
+    member-at-requires
+    wide-requires
+    enum-told
+    check-atomic-requires
+    returns
+    enum-told-2
+    enum-known-ty
+    check-atomics-requires
+    returns-2
+    enum-told-3
+    refused-requires
+    returns-3)

@@ -1,0 +1,73 @@
+-- Writing (document 01, "Writing", "Refusal numbers"): what the call answers and leaves: 15, 14, 17 in that order, then
+-- the first bad entry with its number in the stream, the entry count where one is missing; and after a refusal the image
+-- is as it was.
+use Prim.Native.Nat.{ℕ, _-_}
+use mathlib.Core.Path.{_≡_}
+use mathlib.Core.Bool.{cond}
+use mathlib.Core.List.{List}
+use lib.Dec.{eqb}
+use lib.ListN.{length}
+use Rattle.words.specs.Bits.{flat}
+use Rattle.types.specs.Shape.{isThere}
+use Rattle.types.specs.declared.member.Ty.{Ty}
+use Rattle.types.specs.declared.refusal.Refusal.{Refusal}
+use Rattle.types.specs.declared.refusal.Refusal.the-variants.{ImageLength, NoSuchType, StreamMalformed, EntryMisfit}
+use Rattle.types.specs.declared.refusal.Refusal.the-variants.{NumberOutOfRange, PastLastPlace, TextTooLong}
+use Rattle.values.specs.Decode.{tokensIn}
+use Rattle.values.specs.Form.{countIn, streamOk}
+use Rattle.values.specs.Leaf.{chars}
+use Rattle.values.specs.Reading.{imageFits}
+use Rattle.values.specs.Trees.{knownIn, treeOfValue}
+use Rattle.values.specs.Writing.{Outcome, ok, bad, written}
+use Rattle.values.specs.declared.writing.Taken.{Taken}
+use Rattle.values.specs.declared.writing.Taken.the-variants.{Whole, Refused}
+
+-- the refusals of entries by their numbers
+unfoldable pub entryRefusal : ℕ → ℕ → Refusal
+entryRefusal number k =
+    cond (eqb number 19) (NumberOutOfRange k)
+    (cond (eqb number 20) (PastLastPlace k) (cond (eqb number 21) (TextTooLong k) (EntryMisfit k)))
+
+-- of n entries, the first of those that are left is number n less how many are left
+abbrev pub takenOf : ℕ → Outcome → Taken
+takenOf n (ok ts z) = Whole
+takenOf n (bad number ts) = Refused (entryRefusal number (n - length ts))
+
+-- the image's bytes afterwards
+abbrev pub bytesAfter : Outcome → List ℕ → List ℕ
+bytesAfter (ok ts z) image = chars (length image) z
+bytesAfter (bad number ts) image = image
+
+-- what the entries of a stream do to an image of a value
+unfoldable pub valueWritten : List ℕ → List ℕ → Ty → ℕ → List ℕ → List ℕ → Outcome
+valueWritten types members t n s image = written (treeOfValue (knownIn types members) t n) (tokensIn s) (flat image)
+
+-- a call's answer, and the image it leaves
+pub record Result : Type 0 where
+  pub answer : Taken
+  pub image : List ℕ
+
+abbrev pub refusing : Refusal → List ℕ → Result
+refusing why image = record { answer = Refused why; image = image }
+
+abbrev pub taking : ℕ → Outcome → List ℕ → Result
+taking n w image = record { answer = takenOf n w; image = bytesAfter w image }
+
+unfoldable pub writeResult : List ℕ → List ℕ → Ty → ℕ → List ℕ → List ℕ → Result
+writeResult types members t n s image =
+    cond (isThere types t)
+    (cond (imageFits types t n image)
+    (cond (streamOk s) (taking (countIn s) (valueWritten types members t n s image) image)
+    (refusing StreamMalformed image))
+    (refusing ImageLength image))
+    (refusing NoSuchType image)
+
+pub record Done (types members : List ℕ) (t : Ty) (n : ℕ) (s image : List ℕ) (r : Taken) (new : List ℕ) : Type 0 where
+  pub answer : r ≡ writeResult types members t n s image .answer
+  pub leaves : new ≡ writeResult types members t n s image .image
+
+-- the same of a value whose type is there, whose image fits, and of a stream whose form is good
+pub record Entered (types members : List ℕ) (t : Ty) (n : ℕ) (s image : List ℕ) (r : Taken) (new : List ℕ)
+    : Type 0 where
+  pub answer : r ≡ takenOf (countIn s) (valueWritten types members t n s image)
+  pub leaves : new ≡ bytesAfter (valueWritten types members t n s image) image

@@ -1,0 +1,201 @@
+// The check of structures and their arrays (document 01, "Writing"): it touches no image. Structures call arrays and
+// arrays structures; a structure holds only earlier ones, so the number falls, and each loop consumes entries.
+ghost use mathlib.Core.Path.{_≡_};
+ghost use Prim.Native.Nat.{ℕ, _+_, _*_, _<_, _≤_};
+ghost use Rattle.types.specs.Tables.{memberAt, typeAt};
+ghost use Rattle.types.specs.Waste.{sizesIn};
+ghost use Rattle.values.specs.Passes.{Checked, Told, leftAt};
+ghost use Rattle.values.specs.Rows.{branchesIn, memberTree, treeIn, visibleRow};
+ghost use Rattle.values.specs.Tree.{array, struct};
+ghost use Rattle.values.specs.Walkable.{NestedRow, Walkable};
+ghost use Rattle.values.specs.Writing.{write};
+use crate::fits::check_leaf;
+use crate::fits::check_text;
+use crate::rows::capacity_at;
+use crate::rows::is_nested;
+use crate::rows::is_string;
+use crate::tokens::REFUSED;
+use crate::tokens::as_size;
+use crate::tokens::kind_at;
+use crate::tokens::kind_of;
+use crate::tokens::payload_of;
+use crate::tokens::refused;
+use types::MemberTable;
+use types::Ty;
+use types::TypeTable;
+use types::member_at;
+use types::type_at;
+use words::wide;
+
+// No row: the table has 2,000.
+const NO_ROW: usize = 2000;
+
+// The row of the visible member of a number, among `count` from row `first` on.
+fn visible_row(members: &MemberTable, first: usize, count: usize, j: usize) -> usize
+    requires { ⌜ first + count ≤ 2000 ⌝ }
+    ensures { λ r. ⌜ r ≡ visibleRow (now (members .entry)) first count j ⌝ }
+{
+    if j < count {
+        let m = member_at(members, first + j);
+        let hidden = m.hidden;
+        if hidden {
+            return NO_ROW;
+        }
+        return first + j;
+    }
+    NO_ROW
+}
+
+// Structure i.
+pub fn check_struct(
+    types: &TypeTable,
+    members: &MemberTable,
+    i: usize,
+    s: &[u8],
+    n: usize,
+    k: usize,
+) -> usize
+    requires { ⌜ Walkable (now types) (now members) × (i < 200) ⌝ }
+    requires { ⌜ Told (now s) n × (k ≤ n) ⌝ }
+    ensures { λ r. ⌜ ((p : ℕ) → Checked (now (s .entry)) k r
+        (write (treeIn (now (types .entry)) (now (members .entry)) i) p (leftAt (now (s .entry)) k))) ⌝ }
+{
+    let d = type_at(types, i);
+    let kind = d.kind;
+    let string = is_string(kind);
+    if string {
+        let capacity = capacity_at(members, wide(d.first));
+        return check_text(capacity, s, n, k);
+    }
+    check_members(types, members, i, s, n, k)
+}
+
+// Its members, in any order, or null.
+fn check_members(
+    types: &TypeTable,
+    members: &MemberTable,
+    i: usize,
+    s: &[u8],
+    n: usize,
+    k: usize,
+) -> usize
+    requires { ⌜ Walkable (now types) (now members) × (i < 200) ⌝ }
+    requires { ⌜ Told (now s) n × (k ≤ n) ⌝ }
+    ensures { λ r. ⌜ ((p : ℕ) → Checked (now (s .entry)) k r
+        (write (struct (8 * sizesIn (now (types .entry)) i)
+        (branchesIn (now (types .entry)) (now (members .entry)) i)) p (leftAt (now (s .entry)) k))) ⌝ }
+{
+    let start = kind_at(s, n, k);
+    if start == 0 {
+        return k + 1;
+    }
+    if start != 8 {
+        return refused(18, k);
+    }
+    let d = type_at(types, i);
+    let first = wide(d.first);
+    let count = wide(d.count);
+    let mut p = k + 1;
+    while p < n {
+        let kind = kind_of(s, p);
+        if kind == 9 {
+            return p + 1;
+        }
+        if kind != 7 {
+            return refused(18, p);
+        }
+        let row = visible_row(members, first, count, as_size(payload_of(s, p)));
+        if row == NO_ROW {
+            return refused(18, p);
+        }
+        let nested = is_nested(members, row);
+        if nested {
+            let r = check_nested(types, members, i, row, s, n, p + 1);
+            if REFUSED <= r {
+                return r;
+            }
+            p = r;
+        } else {
+            let r = check_leaf(members, row, s, n, p + 1);
+            if REFUSED <= r {
+                return r;
+            }
+            p = r;
+        }
+    }
+    refused(18, p)
+}
+
+// The structure, or the array of structures, in a row of structure i.
+fn check_nested(
+    types: &TypeTable,
+    members: &MemberTable,
+    i: usize,
+    row: usize,
+    s: &[u8],
+    n: usize,
+    k: usize,
+) -> usize
+    requires { ⌜ Walkable (now types) (now members) × NestedRow (now types) (now members) i row ⌝ }
+    requires { ⌜ Told (now s) n × (k ≤ n) ⌝ }
+    ensures { λ r. ⌜ ((p : ℕ) → Checked (now (s .entry)) k r
+        (write (memberTree (treeIn (now (types .entry)) (now (members .entry))) (memberAt (now (members .entry)) row)) p
+        (leftAt (now (s .entry)) k))) ⌝ }
+{
+    let m = member_at(members, row);
+    let count = wide(m.count);
+    let ty = m.ty;
+    match ty {
+        Ty::Atomic(_) => {
+            return refused(18, k);
+        }
+        Ty::Struct(t) => {
+            if count == 0 {
+                return check_struct(types, members, t, s, n, k);
+            }
+            return check_elements(types, members, t, count, s, n, k);
+        }
+    }
+}
+
+// An array of structures i, or null.
+pub fn check_elements(
+    types: &TypeTable,
+    members: &MemberTable,
+    i: usize,
+    count: usize,
+    s: &[u8],
+    n: usize,
+    k: usize,
+) -> usize
+    requires { ⌜ Walkable (now types) (now members) × (i < 200) ⌝ }
+    requires { ⌜ Told (now s) n × (k ≤ n) ⌝ }
+    ensures { λ r. ⌜ ((p : ℕ) → Checked (now (s .entry)) k r
+        (write (array count (treeIn (now (types .entry)) (now (members .entry)) i)) p (leftAt (now (s .entry)) k))) ⌝ }
+{
+    let start = kind_at(s, n, k);
+    if start == 0 {
+        return k + 1;
+    }
+    if start != 10 {
+        return refused(18, k);
+    }
+    let mut p = k + 1;
+    let mut e: usize = 0;
+    while p < n {
+        let kind = kind_of(s, p);
+        if kind == 11 {
+            return p + 1;
+        }
+        if e == count {
+            return refused(20, p);
+        }
+        let r = check_struct(types, members, i, s, n, p);
+        if REFUSED <= r {
+            return r;
+        }
+        p = r;
+        e += 1;
+    }
+    refused(18, p)
+}

@@ -1,0 +1,67 @@
+// One entry of a stream whose form is good (document 01, "Value stream"), by its number: its kind and its payload.
+// Refusals here are one number: the refusal's above 32 bits, and the place.
+ghost use mathlib.Core.Path.{_≡_};
+ghost use mathlib.Core.Bool.{true};
+ghost use Prim.Native.Nat.{_+_, _*_, _/_, _%_, _^_, _<_, _≤_};
+ghost use Rattle.words.specs.Words.{wordAt};
+ghost use Rattle.values.specs.Form.{countIn, streamOk};
+ghost use Rattle.values.specs.Passes.{Told, firstKind, leftAt};
+use words::load64;
+
+// The first number that is a refusal.
+pub const REFUSED: usize = 0x1_0000_0000;
+
+// A refusal at an entry.
+pub fn refused(number: usize, k: usize) -> usize
+    requires { ⌜ (number < 2 ^ 31) × (k < 2 ^ 32) ⌝ }
+    ensures { λ r. ⌜ r ≡ 2 ^ 32 * number + k ⌝ }
+{
+    REFUSED * number + k
+}
+
+// The kind of entry k.
+pub fn kind_of(s: &[u8], k: usize) -> u8
+    requires { ⌜ (streamOk (now s) ≡ true) × (k < countIn (now s)) ⌝ }
+    ensures { λ r. ⌜ r ≡ firstKind (leftAt (now (s .entry)) k) ⌝ }
+{
+    s[4 + 12 * k]
+}
+
+// The same of n entries; 12 where there is none.
+pub fn kind_at(s: &[u8], n: usize, k: usize) -> u8
+    requires { ⌜ Told (now s) n ⌝ }
+    ensures { λ r. ⌜ r ≡ firstKind (leftAt (now (s .entry)) k) ⌝ }
+{
+    if n <= k {
+        return 12;
+    }
+    kind_of(s, k)
+}
+
+// The payload of entry k.
+pub fn payload_of(s: &[u8], k: usize) -> u64
+    requires { ⌜ (streamOk (now s) ≡ true) × (k < countIn (now s)) ⌝ }
+    ensures { λ r. ⌜ r ≡ wordAt 8 (now (s .entry)) (8 + 12 * k) ⌝ }
+{
+    load64(s, 8 + 12 * k)
+}
+
+// The two halves of a payload: a text has its place and its length there.
+pub fn low(x: u64) -> u32
+    ensures { λ r. ⌜ r ≡ x % 2 ^ 32 ⌝ }
+{
+    (x % 0x1_0000_0000) as u32
+}
+
+pub fn high(x: u64) -> u32
+    ensures { λ r. ⌜ r ≡ x / 2 ^ 32 ⌝ }
+{
+    (x / 0x1_0000_0000) as u32
+}
+
+// The same number: a usize has 64 bits.
+pub fn as_size(n: u64) -> usize
+    ensures { λ r. ⌜ r ≡ n ⌝ }
+{
+    n as usize
+}
