@@ -8,9 +8,9 @@ use std::collections::BTreeSet;
 use std::path::Path;
 
 /// The kinds that the port answers today.
-const KINDS: &str = "1,2,3,4,5,7,8,10";
+const KINDS: &str = "1,2,3,4,5,6,7,8,10";
 /// The most bytes that the list may have.
-const MOST: usize = 250_000;
+const MOST: usize = 320_000;
 
 fn options(kinds: &str) -> Options {
     let arguments = ["--recorded", "--kinds", kinds].map(str::to_owned);
@@ -47,7 +47,7 @@ fn every_refusal_is_in_it_by_its_number() {
         _ => None,
     };
     let numbers: BTreeSet<u8> = recorded().iter().filter_map(number).collect();
-    let expected = (1..=13).filter(|n| *n != 6).chain([14, 15, 16, 22, 23, 24, 255]);
+    let expected = (1..=24).filter(|n| *n != 6).chain([255]);
     assert_eq!(numbers, expected.collect());
 }
 

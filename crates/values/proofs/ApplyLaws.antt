@@ -189,7 +189,8 @@ module _ {s : List ℕ} {k : ℕ} (form : streamOk s ≡ true) where
         go : Dec (kindOf (t .token) ≡ 7) → kindOf (t .token) ≡ 7
         go (yes e) = e
         go (no e) =
-            not-accepted (members-other one most (t .token) (leftAt s (k + 1)) z (t .left) (λ q. n (kind-there t ∙ q)) e) h
+            not-accepted
+            (members-other one most (t .token) (leftAt s (k + 1)) z (t .left) (λ q. n (kind-there t ∙ q)) e) h
 
     pub members-step : (most : ℕ) (z : Bits) → kindOf (t .token) ≡ 7
         → membersIn (suc most) one (leftAt s k) z

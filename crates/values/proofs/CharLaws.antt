@@ -1,5 +1,5 @@
--- Bytes of bits (document 01, "Value stream": the text of a string): so many bytes are told by their bits, tell them, and
--- are these bits again.
+-- Bytes of bits (document 01, "Value stream": the text of a string): so many bytes are told by their bits, tell them,
+-- and are these bits again.
 use Prim.Native.Nat.{ℕ, zero, suc, _+_, _-_, _*_, _/_, _%_, _<_, _≤_}
 use native.Mathlib.Decide.{decLt}
 use native.Mathlib.Omega.{arith}

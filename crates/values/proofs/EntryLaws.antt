@@ -1,6 +1,6 @@
 -- Laws of entries (document 01, "Value stream"): the twelve bytes of one, as they are stored; the bytes of entries one
 -- after the other, and their texts; entries by value: what was stored is loaded again, and only its bytes say an entry.
-use Prim.Native.Nat.{ℕ, zero, suc, _+_, _*_, _/_, _%_, _^_, _≤_, _<_}
+use Prim.Native.Nat.{ℕ, zero, suc, _+_, _-_, _*_, _/_, _%_, _^_, _≤_, _<_}
 use native.Mathlib.Nat.{add-zero, zero-add, add-assoc, mod-eq-of-lt}
 use native.Mathlib.Decide.{ℕ-discrete, decLt}
 use native.Mathlib.Omega.{arith}
@@ -8,18 +8,18 @@ use mathlib.Core.Path.{_≡_, refl, sym, ap, ap₂, _∙_, subst}
 use mathlib.Core.Bool.{Bool, true, false, cond, _&&_}
 use mathlib.Core.List.{List, [], _∷_, _++_, append-assoc, append-nil}
 use lib.Arith.{lt-of-le-ne}
-use lib.Dec.{eqb, ltb}
+use lib.Dec.{eqb, leb, ltb}
 use lib.ListN.{length, getD, length-append, List·getD-eq-default}
 use lib.Seq.{sets, length-sets}
 use Rattle.words.specs.Words.{bytesOf, part, wordAt, Bytes}
 use Rattle.words.proofs.Lists.{sets-append, getD-sets, part-cons}
 use Rattle.words.proofs.WordLaws.{length-bytes, word-back, bytes-back}
-use borrow.Author.Tests.{eq-eqb, ne-eqb, eqb-true, lt-ltb, le-ltb}
+use borrow.Author.Tests.{eq-eqb, ne-eqb, eqb-true, lt-ltb, le-ltb, le-leb, lt-leb, leb-true, leb-false}
 use Rattle.types.proofs.TestLaws.{and-left, and-right}
-use Rattle.values.specs.Stream.{Token, null, bool, number, member, mark, kindOf, payloadOf, bodyOf, entryBytes}
+use Rattle.values.specs.Stream.{Token, bool, number, member, mark, kindOf, payloadOf, bodyOf, entryBytes}
 use Rattle.values.specs.Stream.{heads, bodies}
 use Rattle.values.specs.Entry.{entryKind, entryPayload, EntryFits, bytesOfEntry, bareIn, truthIn, lowIn, textIn}
-use Rattle.values.specs.Entry.{payloadsIn, loadedOf, threeZeros, entryIn}
+use Rattle.values.specs.Entry.{payloadsIn, loadedOf, threeZeros, entryIn, entrySet, EntryStored}
 use Rattle.values.specs.declared.entries.Entry.{Entry}
 use Rattle.values.specs.declared.entries.Entry.the-variants as entry
 use Rattle.values.specs.declared.entries.Loaded.{Loaded}
@@ -107,9 +107,6 @@ textless-one t a b =
       none = bodies-one t ∙ a;
       anywhere = λ place. heads-one place t ∙ ap (entryBytes (kindOf t)) (b place) ∙ sym (heads-one 0 t);
     }
-
-pub textless-null : Textless (null ∷ [])
-textless-null = textless-one null refl (λ place. refl)
 
 pub textless-bool : (b : Bool) → Textless (bool b ∷ [])
 textless-bool b = textless-one (bool b) refl (λ place. refl)
@@ -380,3 +377,22 @@ unfolding entryBytes
 entry-only s at e b h r =
     let l = entry-read s at e r in
     twelve s at b h ∙ rw (l .first, l .second, l .third, l .kind, l .payload)
+
+-- ---- at any place
+
+pub inside-test : (at long : ℕ) → 12 ≤ long → leb at (long - 12) ≡ leb (at + 12) long
+inside-test at long l = go (leb at (long - 12)) refl
+  where
+    go : (b : Bool) → leb at (long - 12) ≡ b → b ≡ leb (at + 12) long
+    go true e = sym (le-leb (at + 12) long (let a = leb-true at (long - 12) e in omega arith))
+    go false e = sym (lt-leb (at + 12) long (let a = leb-false at (long - 12) e in omega arith))
+
+module _ (out : List ℕ) (at : ℕ) (e : Entry) where
+  pub stored-there : {new : List ℕ} → leb (at + 12) (length out) ≡ true → new ≡ sets out at (bytesOfEntry e)
+      → EntryStored out at e true new
+  unfolding entrySet
+  stored-there t n = record { answer = sym t; leaves = n ∙ rw t refl }
+
+  pub stored-nowhere : leb (at + 12) (length out) ≡ false → EntryStored out at e false out
+  unfolding entrySet
+  stored-nowhere t = record { answer = sym t; leaves = rw t refl }

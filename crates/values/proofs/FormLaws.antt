@@ -106,6 +106,10 @@ kind-tested x place l =
     then (λ n. bare-tested entry.ArrayClose x place refl)
     then none
 
+not-zero : (x : ℕ) → (x ≡ 0 → ⊥) → 0 < x
+not-zero zero n = absurd (n refl)
+not-zero (suc x) n = omega arith
+
 module _ (kind x place : ℕ) where
   tested : x < 2 ^ 64 → kind < 12 → (kind ≡ 6 → ⊥) → Tested (mostOf kind) x place (loadedOf kind x)
   tested l k n =
@@ -119,6 +123,46 @@ module _ (kind x place : ℕ) where
   pub plain-broken : x < 2 ^ 64 → kind < 12 → (kind ≡ 6 → ⊥) → mostOf kind < x
       → loadedStep (loadedOf kind x) place ≡ Broken
   plain-broken l k n h = tested l k n ∙ rw (lt-leb x (mostOf kind) h) refl
+
+  -- the kinds that are tested first
+  module _ (l : x < 2 ^ 64) where
+    pub bool-fits : kind ≡ 1 → x < 2 → loadedStep (loadedOf kind x) place ≡ At place
+    unfolding mostOf
+    bool-fits e h = plain-fits l (omega arith) (λ q. let z : ⊥ = omega arith in z) (rw e (omega arith))
+
+    pub bool-broken : kind ≡ 1 → 2 ≤ x → loadedStep (loadedOf kind x) place ≡ Broken
+    unfolding mostOf
+    bool-broken e h = plain-broken l (omega arith) (λ q. let z : ⊥ = omega arith in z) (rw e (omega arith))
+
+    pub signed-fits : kind ≡ 2 → loadedStep (loadedOf kind x) place ≡ At place
+    unfolding mostOf
+    signed-fits e = plain-fits l (omega arith) (λ q. let z : ⊥ = omega arith in z) (rw e (omega arith))
+
+    pub member-fits : kind ≡ 7 → x < 2 ^ 32 → loadedStep (loadedOf kind x) place ≡ At place
+    unfolding mostOf
+    member-fits e h = plain-fits l (omega arith) (λ q. let z : ⊥ = omega arith in z) (rw e (omega arith))
+
+    pub member-broken : kind ≡ 7 → 2 ^ 32 ≤ x → loadedStep (loadedOf kind x) place ≡ Broken
+    unfolding mostOf
+    member-broken e h = plain-broken l (omega arith) (λ q. let z : ⊥ = omega arith in z) (rw e (omega arith))
+
+    pub mark-fits : 8 ≤ kind → kind < 12 → x ≡ 0 → loadedStep (loadedOf kind x) place ≡ At place
+    mark-fits a b e = plain-fits l b (λ q. let z : ⊥ = omega arith in z) (omega arith)
+
+    pub mark-broken : 8 ≤ kind → kind < 12 → (x ≡ 0 → ⊥) → loadedStep (loadedOf kind x) place ≡ Broken
+    unfolding mostOf
+    mark-broken a b n =
+        let not : (j : ℕ) → j < 8 → eqb kind j ≡ false = λ j h. ne-eqb kind j (λ q. let z : ⊥ = omega arith in z) in
+        let none : mostOf kind ≡ 0 =
+        rw (
+          not 1 (omega arith),
+          not 2 (omega arith),
+          not 3 (omega arith),
+          not 4 (omega arith),
+          not 5 (omega arith),
+          not 7 (omega arith),
+        ) refl in
+        plain-broken l b (λ q. let z : ⊥ = omega arith in z) (let p = not-zero x n in omega arith)
 
   -- a text
   text-step : kind ≡ 6 → loadedStep (loadedOf kind x) place ≡ textStep (x % 2 ^ 32) (x / 2 ^ 32) place

@@ -31,7 +31,7 @@ use Rattle.values.specs.Trees.{bitTree, seen, branchesFrom, structTree, 
 use Rattle.values.proofs.KeptWalkable.{kept-walkable}
 use Rattle.values.proofs.NormalLaws.{Good}
 use Rattle.values.proofs.PlacedLaws.{Clear, Numbered, Placed, AllPlaced}
-use Rattle.values.proofs.SpanLaws.{Sound, sound-below, sound-within, bit-span}
+use Rattle.values.proofs.SpanLaws.{Sized, sound-below, sound-within, bit-span}
 
 -- ---- atomics
 
@@ -63,7 +63,7 @@ atomics-placed a n = go (bitString a) (eqb n 0)
 
 -- ---- a structure whose earlier ones are placed
 
-module _ (types members names : List ℕ) (trees : ℕ → Tree) (i : ℕ) (sound : Sound types trees i)
+module _ (types members names : List ℕ) (trees : ℕ → Tree) (i : ℕ) (sound : Sized types trees i)
     (placed : (s : ℕ) → s < i → Placed (trees s)) where
   abbrev tree : Member → Tree
   tree m = bitTree (m .bit) (valueTree trees (m .ty) (m .count))

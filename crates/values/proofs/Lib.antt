@@ -60,4 +60,5 @@ pub mod UpLaws
 pub mod WalkLaws
 pub mod WriteBack
 pub mod WrittenBack
+pub mod WrittenHeld
 pub mod WrittenLaws

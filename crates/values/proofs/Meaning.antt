@@ -34,7 +34,7 @@ use Rattle.values.specs.Walk.{upTo, wrap, bitToken, bitsOut, numberOut, 
 use Rattle.values.specs.Walk.{textOut, capacityAt, bitOut, elementBy, elementsBy, structsBy, valueBy}
 use Rattle.values.specs.Walk.{bytesBy, memberBy, rowBy, membersBy, structBy, structWithin, structOut, valueOut}
 use Rattle.values.specs.Walkable.{Within, IsString, WalkableType, Walkable}
-use Rattle.values.proofs.SpanLaws.{Many, one, some, many, leaf-room, all-bits, Sound, value-span, value-inside}
+use Rattle.values.proofs.SpanLaws.{Many, one, some, many, leaf-room, all-bits, Sized, value-span, value-inside}
 use Rattle.values.proofs.SpanLaws.{sound-below, capacity-is, earlier, sound-within, sound-all}
 use Rattle.values.proofs.TreeLaws.{Inside, read-append, read-between, part-read, chars-part, each-up}
 use Rattle.values.proofs.UpLaws.{up-cons, up-ext}
@@ -122,7 +122,7 @@ text-read capacity image b h =
 
 -- ---- structures whose earlier ones are read
 
-module _ (types members : List ℕ) (trees : ℕ → Tree) (i : ℕ) (sound : Sound types trees i)
+module _ (types members : List ℕ) (trees : ℕ → Tree) (i : ℕ) (sound : Sized types trees i)
     (rec : ℕ → List ℕ → List Token)
     (same : (s : ℕ) (image : List ℕ) → s < i → length image ≡ sizesIn types s → Bytes image
     → rec s image ≡ read (items (trees s) 0) (flat image)) where

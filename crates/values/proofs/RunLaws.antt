@@ -21,7 +21,6 @@ use Rattle.values.specs.Stream.{Token, bool, number, kindOf, payloadOf, 
 use Rattle.values.specs.Walk.{elementOut, upTo}
 use Rattle.values.specs.declared.numbers.Form.{Form}
 use Rattle.values.proofs.EntryLaws.{bodies-one, plain-append, Textless, textless-bool, textless-number}
-use Rattle.values.proofs.EntryLaws.{textless-up}
 use Rattle.values.proofs.NumberLaws.{number-form, truth-form, fill-fits}
 use Rattle.values.proofs.PutLaws.{put-length, put-none, put-next}
 use Rattle.values.proofs.UpLaws.{up-ext}
@@ -156,6 +155,3 @@ textless-leaf atomic.Byte b = textless-number 3 (val 8 b)
 textless-leaf atomic.Word b = textless-number 3 (val 16 b)
 textless-leaf atomic.DWord b = textless-number 3 (val 32 b)
 textless-leaf atomic.LWord b = textless-number 3 (val 64 b)
-
-pub textless-run : (a : Atomic) (s : List ℕ) (n : ℕ) → Textless (upTo (elementOut a s) n)
-textless-run a s n = textless-up (elementOut a s) n (λ k. textless-leaf a (flat (part s (sizeOf a * k) (sizeOf a))))

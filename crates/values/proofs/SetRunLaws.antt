@@ -1,5 +1,5 @@
--- Atomics and runs of them set in an image (document 01, "Writing"), where the check accepted: one entry, the loop over
--- the entries of an array, and the ways of a bit string.
+-- Runs of atomics set in an image (document 01, "Writing"), where the check accepted: the loop over the entries of an
+-- array, and the ways of a bit string.
 use Prim.Native.Nat.{ℕ, suc, _+_, _-_, _*_, _<_, _≤_}
 use native.Mathlib.Decide.{decLt}
 use native.Mathlib.Nat.{add-zero, mul-le-mul-left, mul-one, mul-suc, mul-zero, sub-zero}
@@ -7,7 +7,6 @@ use native.Mathlib.Omega.{arith}
 use mathlib.Core.Path.{_≡_, refl, sym, ap, _∙_, subst}
 use mathlib.Core.Bool.{Bool, true}
 use mathlib.Core.List.{List}
-use mathlib.Core.Logic.{inl, inr}
 use lib.ListN.{length}
 use lib.Seq.{sets, length-sets}
 use Rattle.words.specs.Bits.{Bits, bitOf, flat, stamp}
@@ -16,99 +15,30 @@ use Rattle.words.proofs.BitLaws.{bit-none}
 use Rattle.types.specs.Atomic.{bitString, sizeOf}
 use Rattle.types.specs.Layout.{times}
 use Rattle.types.specs.declared.atomic.Atomic.{Atomic}
-use Rattle.types.specs.declared.atomic.Atomic.the-variants as atomic
 use Rattle.types.proofs.LayoutLaws.{times-one, times-same}
 use Rattle.values.specs.Bools.{Bools}
-use Rattle.values.specs.Effects.{Effect, put, refuse, atomicTakes, ofKind, orNull, whole}
+use Rattle.values.specs.Effects.{atomicTakes, orNull}
 use Rattle.values.specs.Form.{countIn, streamOk}
 use Rattle.values.specs.Passes.{Applied, accepted, firstKind, leftAt}
-use Rattle.values.specs.Rows.{Width, runIn}
-use Rattle.values.specs.Stream.{Token, kindOf}
+use Rattle.values.specs.Rows.{runIn}
+use Rattle.values.specs.Stream.{Token}
 use Rattle.values.specs.Trees.{atomicsTree}
-use Rattle.values.specs.Writing.{Outcome, andThen, onEffect, writeOne, elements, boolsIn}
+use Rattle.values.specs.Writing.{Outcome, andThen, writeOne, elements, boolsIn}
 use Rattle.values.specs.Writing.{noBits, write}
-use Rattle.values.proofs.ApplyLaws.{Setting, accepted-as, accepted-first, applied-keeps, applied-one}
+use Rattle.values.proofs.ApplyLaws.{Setting, accepted-as, accepted-first}
 use Rattle.values.proofs.ApplyLaws.{elements-closed, elements-end, elements-step, elements-there, not-accepted}
 use Rattle.values.proofs.ApplyLaws.{setting-from, setting-on}
 use Rattle.values.proofs.ApplyLaws.{setting-start, setting-then}
-use Rattle.values.proofs.FitLaws.{atomic-sets, not-null, null-keeps}
-use Rattle.values.proofs.LeftLaws.{There, kind-none, kind-there, none-left, payloadAt, there}
-use Rattle.values.proofs.OutcomeLaws.{elements-none, one-is, one-none}
+use Rattle.values.proofs.LeftLaws.{There, kind-none, none-left, payloadAt, there}
+use Rattle.values.proofs.OutcomeLaws.{elements-none, one-none}
 use Rattle.values.proofs.RunInLaws.{bits-bools, bits-number, run-wholes}
+use Rattle.values.proofs.SetLaws.{atomic-set, one-kept}
 use Rattle.values.proofs.StampLaws.{flat-word, stamp-ext}
-
-pub width-of : (a : Atomic) → Width (sizeOf a)
-unfolding sizeOf
-width-of atomic.Bool = inl refl
-width-of atomic.SInt = inl refl
-width-of atomic.Int = inr (inl refl)
-width-of atomic.DInt = inr (inr (inl refl))
-width-of atomic.LInt = inr (inr (inr refl))
-width-of atomic.USInt = inl refl
-width-of atomic.UInt = inr (inl refl)
-width-of atomic.UDInt = inr (inr (inl refl))
-width-of atomic.ULInt = inr (inr (inr refl))
-width-of atomic.Real = inr (inr (inl refl))
-width-of atomic.LReal = inr (inr (inr refl))
-width-of atomic.Byte = inl refl
-width-of atomic.Word = inr (inl refl)
-width-of atomic.DWord = inr (inr (inl refl))
-width-of atomic.LWord = inr (inr (inr refl))
-
--- a text is no number
-text-refused : (a : Atomic) (t : Token) → kindOf t ≡ 6 → atomicTakes a t ≡ refuse 18
-unfolding atomicTakes bitString sizeOf ofKind whole
-text-refused atomic.Bool t e = rw e refl
-text-refused atomic.SInt t e = rw e refl
-text-refused atomic.Int t e = rw e refl
-text-refused atomic.DInt t e = rw e refl
-text-refused atomic.LInt t e = rw e refl
-text-refused atomic.USInt t e = rw e refl
-text-refused atomic.UInt t e = rw e refl
-text-refused atomic.UDInt t e = rw e refl
-text-refused atomic.ULInt t e = rw e refl
-text-refused atomic.Real t e = rw e refl
-text-refused atomic.LReal t e = rw e refl
-text-refused atomic.Byte t e = rw e refl
-text-refused atomic.Word t e = rw e refl
-text-refused atomic.DWord t e = rw e refl
-text-refused atomic.LWord t e = rw e refl
 
 -- ---- one entry
 
 abbrev pub oneOf : Atomic → ℕ → List Token → Bits → Outcome
 oneOf a = writeOne (orNull (atomicTakes a)) (8 * sizeOf a)
-
-module _ {s : List ℕ} {k : ℕ} (a : Atomic) (base : ℕ) (t : There s k) where
-  -- null keeps what stands
-  pub one-kept : {image : List ℕ} → firstKind (leftAt s k) ≡ 0
-      → Applied s k (k + 1) image image (oneOf a (8 * base) (leftAt s k))
-  one-kept {image} e =
-      applied-keeps (t .inside)
-      (one-is (orNull (atomicTakes a)) (8 * sizeOf a) (8 * base) (t .token) (leftAt s (k + 1)) (flat image) (t .left)
-      ∙ ap (λ (x : Effect). onEffect x (8 * sizeOf a) (8 * base) (t .token) (leftAt s (k + 1)) (flat image))
-      (null-keeps (atomicTakes a) (t .token) (sym (kind-there t) ∙ e)))
-
-  -- any other sets its payload's low bytes
-  pub one-put : {image new : List ℕ} → (firstKind (leftAt s k) ≡ 0 → ⊥)
-      → accepted (oneOf a (8 * base) (leftAt s k) (flat image)) ≡ true → base + sizeOf a ≤ length image
-      → new ≡ sets image base (bytesOf (sizeOf a) (payloadAt s k))
-      → Applied s k (k + 1) image new (oneOf a (8 * base) (leftAt s k))
-  one-put {image} {new} n h l e =
-      let is = one-is (orNull (atomicTakes a)) (8 * sizeOf a) (8 * base) (t .token) (leftAt s (k + 1)) (flat image)
-      (t .left) in
-      let null-not : kindOf (t .token) ≡ 0 → ⊥ = λ q. n (kind-there t ∙ q) in
-      let puts = atomic-sets a (8 * sizeOf a) (8 * base) (t .token) (leftAt s (k + 1)) (flat image) null-not
-      (accepted-as is h) in
-      let text-not : kindOf (t .token) ≡ 6 → ⊥ = λ q. refused-not (sym puts ∙ not-null _ _ null-not
-      ∙ text-refused a (t .token) q) in
-      applied-one (t .inside) (ap length e ∙ length-sets image base (bytesOf (sizeOf a) (payloadAt s k)))
-      (is ∙ ap (λ (x : Effect). onEffect x (8 * sizeOf a) (8 * base) (t .token) (leftAt s (k + 1)) (flat image)) puts)
-      (ap flat e ∙ flat-word image base (sizeOf a) (payloadAt s k) l
-      ∙ ap (λ (x : ℕ). stamp (8 * base) (8 * sizeOf a) (bitOf x) (flat image)) (sym (t .payload text-not)))
-    where
-      refused-not : {b : Bits} → put b ≡ refuse 18 → ⊥
-      refused-not {b} q = let z : _≡_ {A = ℕ} 0 1 = cc in let y : ⊥ = omega arith in y
 
 -- ---- the entries of an array
 
@@ -218,7 +148,7 @@ module _ {n : ℕ} {s : List ℕ} {k : ℕ} {image : List ℕ} {base size : ℕ}
   pub numbers-null : p - k < n → firstKind (leftAt s p) ≡ 0 → Numbers n s k image base size now (p + 1)
   numbers-null l e =
       numbers-on l (λ h. let z : ⊥ = omega arith in z)
-      (λ a w. one-kept a (base + sizeOf a * (p - k)) (numbers-there w) e)
+      (λ a w. one-kept (numbers-there w) (atomicTakes a) (8 * sizeOf a) (8 * (base + sizeOf a * (p - k))) e)
 
   -- a number
   pub numbers-put : {x : ℕ} {new : List ℕ} → p - k < n → (firstKind (leftAt s p) ≡ 11 → ⊥)
@@ -226,8 +156,8 @@ module _ {n : ℕ} {s : List ℕ} {k : ℕ} {image : List ℕ} {base size : ℕ}
       → new ≡ sets now (base + size * (p - k)) (bytesOf size x) → Numbers n s k image base size new (p + 1)
   numbers-put {x} {new} l c e d b =
       numbers-on l c
-      (λ a w. one-put a (base + sizeOf a * (p - k)) (numbers-there w) e (one-taken w l c)
-      (subst (λ (m : ℕ). base + m * (p - k) + m ≤ length now) (w .long) (numbers-room w l))
+      (λ a w. atomic-set (numbers-there w) a (base + sizeOf a * (p - k)) e
+      (subst (λ (m : ℕ). base + m * (p - k) + m ≤ length now) (w .long) (numbers-room w l)) (one-taken w l c)
       (b ∙ rw (w .long, d) refl))
 
 -- ---- one bit string

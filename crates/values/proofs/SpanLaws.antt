@@ -95,17 +95,17 @@ atomics-inside a n = go (bitString a) (eqb n 0)
 -- ---- structures whose earlier ones are known
 
 -- the trees of the first i structures have their sizes, and their branches lie inside
-pub record Sound (types : List ℕ) (trees : ℕ → Tree) (i : ℕ) : Type 0 where
+pub record Sized (types : List ℕ) (trees : ℕ → Tree) (i : ℕ) : Type 0 where
   pub spans : (s : ℕ) → s < i → span (trees s) ≡ 8 * sizesIn types s
   pub insides : (s : ℕ) → s < i → Inside (trees s)
 
 -- and so are fewer
-pub sound-below : {types : List ℕ} {trees : ℕ → Tree} {f : ℕ} (i : ℕ) → i ≤ f → Sound types trees f
-    → Sound types trees i
+pub sound-below : {types : List ℕ} {trees : ℕ → Tree} {f : ℕ} (i : ℕ) → i ≤ f → Sized types trees f
+    → Sized types trees i
 sound-below i h sound =
     record { spans = λ s l. sound .spans s (omega arith); insides = λ s l. sound .insides s (omega arith) }
 
-module _ (types members : List ℕ) (trees : ℕ → Tree) (i : ℕ) (sound : Sound types trees i) where
+module _ (types members : List ℕ) (trees : ℕ → Tree) (i : ℕ) (sound : Sized types trees i) where
   structs-span : (s n : ℕ) → s < i → span (structsTree trees s n) ≡ 8 * (sizesIn types s * times n)
   unfolding structsTree span
   structs-span s n l = go (many n)
@@ -209,7 +209,7 @@ earlier (ty.Struct s) l = l
 
 module _ (types members : List ℕ) (w : Walkable types members) where
   -- nested so deep, the first so many are sound
-  pub sound-within : (f : ℕ) → f ≤ 200 → Sound types (treeWithin (knownIn types members) f) f
+  pub sound-within : (f : ℕ) → f ≤ 200 → Sized types (treeWithin (knownIn types members) f) f
   unfolding treeWithin
   sound-within zero h =
       record {
@@ -225,21 +225,14 @@ module _ (types members : List ℕ) (w : Walkable types members) where
             (w .each s (omega arith));
       }
 
-  pub sound-all : Sound types (treeOf (knownIn types members)) 200
+  pub sound-all : Sized types (treeOf (knownIn types members)) 200
   unfolding treeOf
   sound-all = sound-within 200 (omega arith)
 
   pub tree-span : (i : ℕ) → i < 200 → span (treeOf (knownIn types members) i) ≡ 8 * sizesIn types i
   tree-span i l = sound-all .spans i l
 
-  pub tree-inside : (i : ℕ) → i < 200 → Inside (treeOf (knownIn types members) i)
-  tree-inside i l = sound-all .insides i l
-
   pub tree-value-span : (t : Ty) (n : ℕ) → TyFits t
       → span (treeOfValue (knownIn types members) t n) ≡ 8 * (sizeIn (sizesIn types) t * times n)
   unfolding treeOfValue
   tree-value-span t n l = value-span types members (treeOf (knownIn types members)) 200 sound-all t n (earlier t l)
-
-  pub tree-value-inside : (t : Ty) (n : ℕ) → TyFits t → Inside (treeOfValue (knownIn types members) t n)
-  unfolding treeOfValue
-  tree-value-inside t n l = value-inside types members (treeOf (knownIn types members)) 200 sound-all t n (earlier t l)

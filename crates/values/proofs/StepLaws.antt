@@ -89,7 +89,8 @@ onward-from {s} {k} {p} {f} {g} a b e =
       };
     }
 
-pub onward-on : {s : List ℕ} {k p q : ℕ} {f g h : Bits → Outcome} → Onward s k f p g → Onward s p g q h → Onward s k f q h
+pub onward-on : {s : List ℕ} {k p q : ℕ} {f g h : Bits → Outcome} → Onward s k f p g → Onward s p g q h
+    → Onward s k f q h
 onward-on a b =
     record {
       further = let u = a .further in let v = b .further in omega arith;
@@ -180,7 +181,8 @@ module _ {s : List ℕ} {k : ℕ} (form : streamOk s ≡ true) where
           let t = there s k form h in
           let kind = kind-there t in
           refuses-at 18 k form l (omega arith) e
-          (λ z. opened-other start inner (t .token) (leftAt s (k + 1)) z (t .left) (λ q. a (kind ∙ q)) (λ q. b (kind ∙ q)))
+          (λ z. opened-other start inner (t .token) (leftAt s (k + 1)) z (t .left) (λ q. a (kind ∙ q))
+          (λ q. b (kind ∙ q)))
       go (no h) =
           let none = none-left s k (omega arith) in
           refuses-at 18 k form l (omega arith) e (λ z. opened-none start inner z none ∙ ap (bad 18) (sym none))
@@ -195,7 +197,8 @@ module _ {s : List ℕ} {k : ℕ} (form : streamOk s ≡ true) where
         refuses-at 18 k form (omega arith) (omega arith) a
         (λ z. elements-none one w n p z none ∙ ap (bad 18) (sym none))
 
-    pub elements-closes : (n p : ℕ) → firstKind (leftAt s k) ≡ 11 → Checked s k (k + 1) (elements n one w p (leftAt s k))
+    pub elements-closes : (n p : ℕ) → firstKind (leftAt s k) ≡ 11
+        → Checked s k (k + 1) (elements n one w p (leftAt s k))
     elements-closes n p e =
         let t = by-kind s k form (λ h. let z : ⊥ = omega arith in z) in
         let kind = kind-there t in

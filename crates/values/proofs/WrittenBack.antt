@@ -3,10 +3,10 @@
 -- sets every bit that the value holds to the normal image's, and keeps every other bit.
 use Prim.Native.Nat.{ℕ, _*_, _<_, _≤_}
 use mathlib.Core.Path.{_≡_, refl, sym, ap, _∙_}
-use mathlib.Core.Bool.{true, cond, _&&_}
+use mathlib.Core.Bool.{true, cond}
 use mathlib.Core.List.{List, [], append-nil}
 use lib.ListN.{length}
-use borrow.Author.Tests.{eq-eqb, lt-ltb}
+use borrow.Author.Tests.{eq-eqb}
 use Rattle.words.specs.Bits.{Bits, flat}
 use Rattle.words.specs.Words.{Bytes}
 use Rattle.types.specs.Kept.{Kept}
@@ -29,9 +29,9 @@ use Rattle.values.proofs.CharLaws.{length-chars}
 use Rattle.values.proofs.KeptPlaced.{kept-placed}
 use Rattle.values.proofs.OverLaws.{over, over-bit}
 use Rattle.values.proofs.PlacedLaws.{Placed, tree-apart}
-use Rattle.values.proofs.PutBack.{flat-clip}
 use Rattle.values.proofs.SameStream.{stream-ok, tokens-are, normal-bits}
 use Rattle.values.proofs.WriteBack.{tree-back}
+use Rattle.values.proofs.WrittenHeld.{bytes-bit}
 
 -- what a write of the stream of x over z answers and leaves
 pub record WrittenBack (tree : Tree) (x z : List ℕ) (r : Result) : Type 0 where
@@ -47,10 +47,6 @@ unfolding written
 whole-back tree x z a =
     ap ended (ap (λ (ts : List Token). write tree 0 ts z) (sym (append-nil (read (items tree 0) x)))
     ∙ tree-back tree 0 x a z [])
-
--- n bytes of some bits
-bytes-bit : (n : ℕ) (b : Bits) (k : ℕ) → k < 8 * n → flat (chars n b) k ≡ b k
-bytes-bit n b k l = flat-clip n b k ∙ ap (_&& b k) (lt-ltb k (8 * n) l)
 
 module _ {types members names : List ℕ} (kept : Kept types members names) (t : Ty) (n : ℕ)
     (there : isThere types t ≡ true) (x z : List ℕ) (v : ValueImage types t n x) (u : ValueImage types t n z)

@@ -1,5 +1,5 @@
--- The whole of a write (document 01, "Writing", "Refusal numbers"): 15, 14 and 17 leave the image as it was; so does the
--- first bad entry, whose number in the stream is its place; else the image is what the entries make of it.
+-- The whole of a write (document 01, "Writing", "Refusal numbers"): 15, 14 and 17 leave the image as it was; so does
+-- the first bad entry, whose number in the stream is its place; else the image is what the entries make of it.
 use Prim.Native.Nat.{ℕ, _-_, _/_, _%_, _^_, _<_, _≤_}
 use native.Mathlib.Nat.{mod-eq-of-lt, sub-zero, zero-add}
 use native.Mathlib.Omega.{arith}
@@ -130,4 +130,5 @@ module _ (types members : List ℕ) (t : Ty) (n : ℕ) (s image : List ℕ) wher
     pub entered-done : {r : Taken} {new : List ℕ} → imageFits types t n image ≡ true → streamOk s ≡ true
         → Entered types members t n s image r new → Done types members t n s image r new
     unfolding writeResult
-    entered-done e f w = record { answer = w .answer ∙ rw (there-is, e, f) refl; leaves = w .leaves ∙ rw (there-is, e, f) refl }
+    entered-done e f w =
+        record { answer = w .answer ∙ rw (there-is, e, f) refl; leaves = w .leaves ∙ rw (there-is, e, f) refl }

@@ -1,10 +1,12 @@
 -- Entries by value (document 01, "Value stream"): the number of each kind, its payload, its twelve bytes, and what
 -- twelve bytes say.
 use Prim.Native.Nat.{ℕ, _+_, _*_, _/_, _%_, _^_, _<_}
+use mathlib.Core.Path.{_≡_}
 use mathlib.Core.Bool.{true, false, cond, Bool, _&&_}
 use mathlib.Core.List.{List, [], _∷_}
-use lib.Dec.{eqb, ltb}
-use lib.ListN.{getD}
+use lib.Dec.{eqb, leb, ltb}
+use lib.ListN.{getD, length}
+use lib.Seq.{sets}
 use Rattle.words.specs.Bits.{digit}
 use Rattle.words.specs.Words.{wordAt}
 use Rattle.values.specs.Stream.{entryBytes}
@@ -97,3 +99,17 @@ threeZeros s at = eqb (getD s (at + 1) 0) 0 && eqb (getD s (at + 2) 0) 0 && eqb 
 
 unfoldable pub entryIn : List ℕ → ℕ → Loaded
 entryIn s at = cond (threeZeros s at) (loadedOf (getD s at 0) (wordAt 8 s (at + 4))) Malformed
+
+-- ---- in a list of bytes, at any place
+
+-- bytes that are not there say nothing
+unfoldable pub entryAt : List ℕ → ℕ → Loaded
+entryAt s at = cond (leb (at + 12) (length s)) (entryIn s at) Malformed
+
+-- an entry is stored where it has room, and nothing where it has none
+unfoldable pub entrySet : List ℕ → ℕ → Entry → List ℕ
+entrySet out at e = cond (leb (at + 12) (length out)) (sets out at (bytesOfEntry e)) out
+
+pub record EntryStored (out : List ℕ) (at : ℕ) (e : Entry) (r : Bool) (new : List ℕ) : Type 0 where
+  pub answer : r ≡ leb (at + 12) (length out)
+  pub leaves : new ≡ entrySet out at e

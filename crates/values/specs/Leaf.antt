@@ -41,14 +41,6 @@ chars (suc n) b = val 8 b ∷ chars n (from 8 b)
 abbrev pub clipped : ℕ → Bits → ℕ
 clipped capacity b = min (val 32 b) capacity
 
--- the kind of what it gives
-abbrev pub leafKind : Leaf → ℕ
-leafKind flag = 1
-leafKind byte = 1
-leafKind (int n) = 2
-leafKind (word kind n) = kind
-leafKind (str capacity) = 6
-
 -- what a leaf gives of its bits
 abbrev pub emit : Leaf → Bits → Token
 emit flag b = bool (b 0)

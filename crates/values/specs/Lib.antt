@@ -23,5 +23,6 @@ pub mod Written
 pub mod Normal
 pub mod Texts
 pub mod ReadingCases
+pub mod WritingCases
 pub mod NormalCases
 pub mod ValueCases

@@ -1,5 +1,5 @@
 -- What the two passes of a write answer (document 01, "Writing"): the check, which touches no image, and then the pass
--- that sets. Both answer the number of the next entry; the check else a refusal, its number above 32 bits and its place.
+-- that sets. Both answer the number of the next entry; the check else a refusal: its number above 32 bits, its place.
 use Prim.Native.Nat.{ℕ, _-_, _/_, _%_, _^_, _<_, _≤_}
 use mathlib.Core.Path.{_≡_}
 use mathlib.Core.Bool.{Bool, true, false}

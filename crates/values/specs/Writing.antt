@@ -1,6 +1,6 @@
--- Writing (document 01, "Writing"): what the entries of a stream do to a value of a tree. Members come in any order, and
--- later wins; null keeps what stands, also for a whole array or structure, and counts as an element; a short array keeps
--- the rest; any entry but the close after an array's last place is 20; a missing one is 18.
+-- Writing (document 01, "Writing"): what the entries of a stream do to a value of a tree. Members come in any order,
+-- and later wins; null keeps what stands, also for a whole array or structure, and counts as an element; a short array
+-- keeps the rest; any entry but the close after an array's last place is 20; a missing one is 18.
 use Prim.Native.Nat.{ℕ, zero, suc, _+_, _*_}
 use mathlib.Core.Bool.{Bool, false, cond}
 use mathlib.Core.List.{List, [], _∷_}
@@ -91,7 +91,8 @@ unfoldable mutual
   write (leaf l) p ts z = writeOne (orNull (taken l)) (width l) p ts z
   write (bits w n) p ts z = writeBits w n p ts z
   write (array n t) p ts z = opened 10 (λ us y. elements n (λ q vs x. write t q vs x) (span t) p us y) ts z
-  write (struct size bs) p ts z = opened 8 (λ us y. membersIn (suc (length us)) (λ t vs x. writeBranch bs p t vs x) us y) ts z
+  write (struct size bs) p ts z =
+      opened 8 (λ us y. membersIn (suc (length us)) (λ t vs x. writeBranch bs p t vs x) us y) ts z
 
   -- the member whose number stands in an entry; a hidden one or one too large does not fit
   pub writeBranch : Branches → ℕ → Token → List Token → Bits → Outcome

@@ -1,6 +1,6 @@
 -- Writing (document 01, "Writing", "Refusal numbers"): what the call answers and leaves: 15, 14, 17 in that order, then
--- the first bad entry with its number in the stream, the entry count where one is missing; and after a refusal the image
--- is as it was.
+-- the first bad entry with its number in the stream, the entry count where one is missing; and after a refusal the
+-- image is as it was.
 use Prim.Native.Nat.{ℕ, _-_}
 use mathlib.Core.Path.{_≡_}
 use mathlib.Core.Bool.{cond}

@@ -3,8 +3,8 @@
 ghost use mathlib.Core.Path.{_≡_};
 ghost use Prim.Native.Nat.{_+_, _/_, _%_, _^_, _≤_};
 ghost use lib.ListN.{length};
-ghost use lib.Seq.{sets};
-ghost use Rattle.values.specs.Entry.{bytesOfEntry, entryIn, entryKind, entryPayload, loadedOf};
+ghost use lib.Dec.{leb};
+ghost use Rattle.values.specs.Entry.{EntryStored, entryAt, entryIn, entryKind, entryPayload, loadedOf};
 ghost use Rattle.values.specs.Entry.{bareIn, lowIn, textIn, truthIn};
 use crate::entry::put_entry;
 use crate::numbers::truth_of;
@@ -77,12 +77,26 @@ impl Entry {
     }
 }
 
-// Stores an entry at a place; the bytes around it stay.
-pub fn store_entry(out: &mut [u8], at: usize, e: Entry)
-    requires { ⌜ at + 12 ≤ length (now out) ⌝ }
-    ensures { λ _. ⌜ now (out .exit) ≡ sets (now (out .entry)) at (bytesOfEntry e) ⌝ }
+// Whether twelve bytes from a place on lie inside.
+fn is_inside(long: usize, at: usize) -> bool
+    ensures { λ r. ⌜ r ≡ leb (at + 12) long ⌝ }
 {
-    put_entry(out, at, e.kind(), e.payload());
+    if long < 12 {
+        return false;
+    }
+    at <= long - 12
+}
+
+// Stores an entry at a place, the bytes around it stay; or says that it has no room there, and stores nothing.
+pub fn store_entry(out: &mut [u8], at: usize, e: Entry) -> bool
+    ensures { λ r. ⌜ EntryStored (now (out .entry)) at e r (now (out .exit)) ⌝ }
+{
+    let room = is_inside(out.len(), at);
+    if room {
+        put_entry(out, at, e.kind(), e.payload());
+        return true;
+    }
+    false
 }
 
 // An entry without a payload.
@@ -152,8 +166,8 @@ fn loaded_of(kind: u8, x: u64) -> Loaded
     }
 }
 
-// The entry in the twelve bytes at a place.
-pub fn entry_at(s: &[u8], at: usize) -> Loaded
+// The entry in the twelve bytes at a place inside.
+fn load_entry(s: &[u8], at: usize) -> Loaded
     requires { ⌜ at + 12 ≤ length (now s) ⌝ }
     ensures { λ r. ⌜ r ≡ entryIn (now (s .entry)) at ⌝ }
 {
@@ -167,4 +181,15 @@ pub fn entry_at(s: &[u8], at: usize) -> Loaded
         return Loaded::Malformed;
     }
     loaded_of(s[at], load64(s, at + 4))
+}
+
+// The entry in the twelve bytes at a place; bytes that are not there say nothing.
+pub fn entry_at(s: &[u8], at: usize) -> Loaded
+    ensures { λ r. ⌜ r ≡ entryAt (now (s .entry)) at ⌝ }
+{
+    let inside = is_inside(s.len(), at);
+    if inside {
+        return load_entry(s, at);
+    }
+    Loaded::Malformed
 }

@@ -34,8 +34,8 @@ fn most_of(kind: u32) -> u64
 }
 
 // Where the text after an entry must begin, counted from the bodies' start: a text begins where the one before it
-// ended. The first four bytes are the kind if the three after it are zeros, else a number above every kind.
-fn next_place(head: u32, x: u64, place: usize) -> usize
+// ended.
+fn other_place(head: u32, x: u64, place: usize) -> usize
     requires { ⌜ place ≤ 1152921504606846976 ⌝ }
     ensures { λ r. ⌜ Moved place (loadedStep (loadedOf head x) place) r ⌝ }
 {
@@ -52,6 +52,39 @@ fn next_place(head: u32, x: u64, place: usize) -> usize
         return place;
     }
     NOWHERE
+}
+
+// The same with the kinds first that streams are full of: bools, signed numbers, members and brackets. The first four
+// bytes are the kind if the three after it are zeros, else a number above every kind.
+fn next_place(head: u32, x: u64, place: usize) -> usize
+    requires { ⌜ place ≤ 1152921504606846976 ⌝ }
+    ensures { λ r. ⌜ Moved place (loadedStep (loadedOf head x) place) r ⌝ }
+{
+    if head == 1 {
+        if x < 2 {
+            return place;
+        }
+        return NOWHERE;
+    }
+    if head == 2 {
+        return place;
+    }
+    if head == 7 {
+        if x < 0x1_0000_0000 {
+            return place;
+        }
+        return NOWHERE;
+    }
+    if 8 <= head {
+        if head < 12 {
+            if x == 0 {
+                return place;
+            }
+            return NOWHERE;
+        }
+        return NOWHERE;
+    }
+    other_place(head, x, place)
 }
 
 // The n entries of a stream whose bodies begin at a place.

@@ -1,5 +1,5 @@
-// Which entries an atomic takes (document 01, "Writing"): BOOL kind 1, REAL 4, LREAL 5; the others a whole number, signed
-// or unsigned, where its value is in range.
+// Which entries an atomic takes (document 01, "Writing"): BOOL kind 1, REAL 4, LREAL 5; the others a whole number,
+// signed or unsigned, where its value is in range.
 ghost use mathlib.Core.Path.{_≡_};
 ghost use Rattle.values.specs.Limits.{aboveMisfit, limitsOf, misfit as misfitOf, signedMisfit, wholeMisfit};
 use types::Atomic;

@@ -1,12 +1,10 @@
 // How an atomic's bytes become a payload (document 01, "Reading"): its size and kind, and for signed types the sign
 // that fills the bytes above it.
 ghost use mathlib.Core.Path.{_≡_};
-ghost use mathlib.Core.Bool.{cond};
 ghost use Prim.Native.Nat.{_+_, _^_, _<_};
-ghost use lib.Dec.{ltb};
 ghost use Rattle.words.specs.Bits.{digit};
 ghost use Rattle.types.specs.Atomic.{bitString, sizeOf};
-ghost use Rattle.values.specs.Leaf.{isTrue, leafKind, leafOf};
+ghost use Rattle.values.specs.Leaf.{isTrue};
 ghost use Rattle.values.specs.Numbers.{formOf, extended};
 use types::Atomic;
 

@@ -58,6 +58,8 @@ const TEXT: Value = Value(0x8005, 0, 12);
 const TEXTS: Value = Value(0x8005, 2, 24);
 /// Chan, two Chan and the string.
 const NEST: Value = Value(0x8006, 0, 24);
+/// A string of 256, for a text of every byte.
+const LONG: Value = Value(0x8007, 0, 260);
 
 pub(super) fn all() -> Vec<Case> {
     let mut asked = Asked::default();
@@ -70,7 +72,12 @@ pub(super) fn all() -> Vec<Case> {
         MemberConfig::array("two", "Chan", 2),
         MemberConfig::new("text", "Text"),
     ];
-    let types = [TypeConfig::udt("Chan", chan), TypeConfig::string("Text", 5), TypeConfig::udt("Nest", nest)];
+    let types = [
+        TypeConfig::udt("Chan", chan),
+        TypeConfig::string("Text", 5),
+        TypeConfig::udt("Nest", nest),
+        TypeConfig::string("Long", 256),
+    ];
     asked.judged(build_question(&book::encode(&types, Places::Apart).expect("it can be said")));
     before_the_entries(&mut asked);
     malformed(&mut asked);
@@ -87,7 +94,7 @@ pub(super) fn all() -> Vec<Case> {
 
 /// 15 before 14 before 17 before 18, and questions that are none.
 fn before_the_entries(asked: &mut Asked) {
-    for word in [0, 0xC0, 0xD5, declared(3), 0xFFFF] {
+    for word in [0, 0xC0, 0xD5, declared(4), 0xFFFF] {
         Value(word, 0, 3).malformed(asked, 15, 0, &[]);
     }
     for value in [Value(0x8004, 0, 3), Value(0x8004, 0, 5), Value(DINT, 2, 4), Value(SINT, u64::MAX, 0)] {
@@ -261,6 +268,7 @@ fn past_the_last_place(asked: &mut Asked) {
 /// 21, alone and deep in a value.
 fn too_long(asked: &mut Asked) {
     asked.judged(TEXT.question(&stream::encode(&[Text(vec![b'x'; 5])])));
+    asked.judged(LONG.question(&stream::encode(&[Text((0..=255).collect())])));
     TEXT.refused(asked, 21, 0, &[Text(vec![b'x'; 6])]);
     TEXTS.refused(asked, 21, 2, &[ArrayOpen, Text(b"abc".to_vec()), Text(vec![0; 6]), ArrayClose]);
     NEST.refused(asked, 21, 2, &[Open, Member(2), Text(vec![b'x'; 300]), Signed(1)]);

@@ -1,7 +1,13 @@
--- `values::store_entry` meets its contract: an entry is its kind and its payload.
+-- `values::store_entry` meets its contract: an entry is its kind and its payload, and has room or is not stored.
+use mathlib.Core.Path.{sym, _∙_}
 use borrow.Author.Needs.{needs}
+use borrow.Author.Tests.{leb-true}
+use Rattle.values.proofs.EntryLaws.{stored-nowhere, stored-there}
 use Rattle.values.proofs.entries.store_entry.Statement.{statement}
 use Rattle.values.proofs.entries.store_entry.Tie as tie
+
+is-inside-requires : tie.Need-is-inside-requires
+is-inside-requires c κs = search needs
 
 kind-requires : tie.Need-kind-requires
 kind-requires c κs = search needs
@@ -10,7 +16,9 @@ payload-requires : tie.Need-payload-requires
 payload-requires c κs = search needs
 
 put-entry-requires : tie.Need-put-entry-requires
-put-entry-requires c κs = search needs
+put-entry-requires c κs =
+    let then1 = c .before .before .before in
+    leb-true _ _ (sym (then1 .before .is-inside .ensures) ∙ then1 .if1 .taken)
 
 same-length : tie.Need-same-length
 same-length c = search needs
@@ -18,7 +26,21 @@ same-length c = search needs
 returns : tie.Need-returns
 returns c =
     let put = c .before .before in
-    rw (← put .before .before .kind .ensures, ← put .before .payload .ensures) (put .put-entry .ensures)
+    let then1 = put .before .before .before .before in
+    stored-there _ _ _ (sym (then1 .before .is-inside .ensures) ∙ then1 .if1 .taken)
+    (rw (← put .before .before .kind .ensures, ← put .before .payload .ensures) (put .put-entry .ensures))
+
+returns-2 : tie.Need-returns-2
+returns-2 c = stored-nowhere _ _ _ (sym (c .before .is-inside .ensures) ∙ c .if1 .left)
 
 pub store-entry-spec : {M : Type 1} → statement M
-store-entry-spec = tie.close (tie.spec kind-requires payload-requires put-entry-requires same-length returns)
+store-entry-spec =
+    tie.close
+    (tie.spec
+    is-inside-requires
+    kind-requires
+    payload-requires
+    put-entry-requires
+    same-length
+    returns
+    returns-2)

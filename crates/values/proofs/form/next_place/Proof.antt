@@ -1,95 +1,88 @@
--- `values::next_place` meets its contract: no kind, a text, or a payload that is tested by the greatest one.
-use Prim.Native.Nat.{_+_}
+-- `values::next_place` meets its contract: the kinds that streams are full of, and then the others.
 use native.Mathlib.Omega.{arith}
-use mathlib.Core.Path.{sym, ap, _∙_}
 use borrow.Author.Needs.{needs}
-use Rattle.values.specs.Form.{At}
-use Rattle.values.proofs.FormLaws.{kind-none, moved-none, moved-to, plain-broken, plain-fits, text-elsewhere}
-use Rattle.values.proofs.FormLaws.{text-here}
+use Rattle.values.proofs.FormLaws.{bool-broken, bool-fits, kind-none, mark-broken, mark-fits, member-broken}
+use Rattle.values.proofs.FormLaws.{member-fits, moved-none, moved-to, signed-fits}
 use Rattle.values.proofs.form.next_place.Statement.{statement}
 use Rattle.values.proofs.form.next_place.Tie as tie
 
 returns : tie.Need-returns
-returns c = let a = c .before .args in moved-none (kind-none (a .head) (a .x) (a .place) (c .if1 .taken))
-
-low-requires : tie.Need-low-requires
-low-requires c κs = search needs
-
-wide-requires : tie.Need-wide-requires
-wide-requires c κs = search needs
-
-high-requires : tie.Need-high-requires
-high-requires c κs = search needs
-
-wide-requires-2 : tie.Need-wide-requires-2
-wide-requires-2 c κs = search needs
-
-add-result : tie.Need-add-result
-add-result c = search needs
+returns c =
+    let start = c .before .before in
+    let a = start .args in
+    moved-to (bool-fits (a .head) (a .x) (a .place) (omega (arith, start .fits .x)) (c .before .if1 .taken)
+    (c .if2 .taken)) (omega (arith, start .pre)) (omega arith)
 
 returns-2 : tie.Need-returns-2
 returns-2 c =
-    let at-high = c .before in
-    let at-here = at-high .before in
-    let at-wide = at-here .before in
-    let at-low = at-wide .before in
-    let at-text = at-low .before in
-    let at-start = at-text .before .before in
-    let a = at-start .args in
-    let long = c .wide2 .ensures ∙ at-high .high .ensures in
-    moved-to
-    (text-here (a .head) (a .x) (a .place) (at-text .if2 .taken)
-    (sym (at-wide .wide .ensures ∙ at-low .low .ensures) ∙ at-here .if3 .taken)
-    ∙ ap (λ l. At (a .place + l)) (sym long))
-    (omega (arith, long, at-start .fits .x, at-start .pre))
-    (omega (arith, long, at-start .fits .x))
+    let start = c .before .before in
+    let a = start .args in
+    moved-none (bool-broken (a .head) (a .x) (a .place) (omega (arith, start .fits .x)) (c .before .if1 .taken)
+    (c .if2 .left))
 
 returns-3 : tie.Need-returns-3
 returns-3 c =
-    let at-wide = c .before in
-    let at-low = at-wide .before in
-    let at-text = at-low .before in
-    let a = at-text .before .before .args in
-    moved-none
-    (text-elsewhere (a .head) (a .x) (a .place) (at-text .if2 .taken)
-    (λ h. c .if3 .left (at-wide .wide .ensures ∙ at-low .low .ensures ∙ h)))
-
-most-of-requires : tie.Need-most-of-requires
-most-of-requires c κs = search needs
+    let start = c .before .before in
+    let a = start .args in
+    moved-to (signed-fits (a .head) (a .x) (a .place) (omega (arith, start .fits .x)) (c .if3 .taken))
+    (omega (arith, start .pre)) (omega arith)
 
 returns-4 : tie.Need-returns-4
 returns-4 c =
-    let at-most = c .before in
-    let at-other = at-most .before in
-    let at-start = at-other .before .before in
-    let a = at-start .args in
-    moved-to
-    (plain-fits (a .head) (a .x) (a .place) (omega (arith, at-start .fits .x)) (at-other .before .if1 .left)
-    (at-other .if2 .left) (omega (arith, c .if4 .taken, at-most .most-of .ensures)))
-    (omega (arith, at-start .pre)) (omega arith)
+    let then4 = c .before in
+    let start = then4 .before .before .before in
+    let a = start .args in
+    moved-to (member-fits (a .head) (a .x) (a .place) (omega (arith, start .fits .x)) (then4 .if4 .taken)
+    (c .if5 .taken)) (omega (arith, start .pre)) (omega arith)
 
 returns-5 : tie.Need-returns-5
 returns-5 c =
-    let at-most = c .before in
-    let at-other = at-most .before in
-    let at-start = at-other .before .before in
-    let a = at-start .args in
-    moved-none
-    (plain-broken (a .head) (a .x) (a .place) (omega (arith, at-start .fits .x)) (at-other .before .if1 .left)
-    (at-other .if2 .left) (omega (arith, c .if4 .left, at-most .most-of .ensures)))
+    let then4 = c .before in
+    let start = then4 .before .before .before in
+    let a = start .args in
+    moved-none (member-broken (a .head) (a .x) (a .place) (omega (arith, start .fits .x)) (then4 .if4 .taken)
+    (c .if5 .left))
+
+returns-6 : tie.Need-returns-6
+returns-6 c =
+    let then7 = c .before in
+    let then6 = then7 .before in
+    let start = then6 .before .before .before .before in
+    let a = start .args in
+    moved-to (mark-fits (a .head) (a .x) (a .place) (omega (arith, start .fits .x)) (then6 .if6 .taken)
+    (then7 .if7 .taken) (c .if8 .taken)) (omega (arith, start .pre)) (omega arith)
+
+returns-7 : tie.Need-returns-7
+returns-7 c =
+    let then7 = c .before in
+    let then6 = then7 .before in
+    let start = then6 .before .before .before .before in
+    let a = start .args in
+    moved-none (mark-broken (a .head) (a .x) (a .place) (omega (arith, start .fits .x)) (then6 .if6 .taken)
+    (then7 .if7 .taken) (c .if8 .left))
+
+returns-8 : tie.Need-returns-8
+returns-8 c =
+    let a = c .before .before .before .before .before .args in
+    moved-none (kind-none (a .head) (a .x) (a .place) (c .if7 .left))
+
+other-place-requires : tie.Need-other-place-requires
+other-place-requires c κs = search needs
+
+returns-9 : tie.Need-returns-9
+returns-9 c = search needs
 
 pub next-place-spec : {M : Type 1} → statement M
 next-place-spec =
     tie.close
     (tie.spec
     returns
-    low-requires
-    wide-requires
-    high-requires
-    wide-requires-2
-    add-result
     returns-2
     returns-3
-    most-of-requires
     returns-4
-    returns-5)
+    returns-5
+    returns-6
+    returns-7
+    returns-8
+    other-place-requires
+    returns-9)

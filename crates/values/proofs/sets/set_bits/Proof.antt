@@ -12,7 +12,8 @@ use Rattle.values.specs.Writing.{boolsIn, write}
 use Rattle.values.proofs.ApplyLaws.{Setting, accepted-as, applied-as}
 use Rattle.values.proofs.LeftLaws.{There, few-entries}
 use Rattle.values.proofs.RunInLaws.{bits-number}
-use Rattle.values.proofs.SetRunLaws.{bits-cleared, bits-there, bools-asked, oneOf, width-of}
+use Rattle.values.proofs.SetLaws.{width-of}
+use Rattle.values.proofs.SetRunLaws.{bits-cleared, bits-there, bools-asked, oneOf}
 use Rattle.values.proofs.sets.set_bits.Statement.{statement}
 use Rattle.values.proofs.sets.set_bits.Tie as tie
 

@@ -8,7 +8,8 @@ use Rattle.values.specs.Form.{countIn}
 use Rattle.values.specs.Rows.{Width}
 use Rattle.values.proofs.LeftLaws.{few-entries}
 use Rattle.values.proofs.SetRunLaws.{Asked, Numbers, numbers-closed, numbers-end, numbers-long, numbers-null}
-use Rattle.values.proofs.SetRunLaws.{numbers-put, numbers-room, numbers-start, numbers-there, width-of}
+use Rattle.values.proofs.SetLaws.{width-of}
+use Rattle.values.proofs.SetRunLaws.{numbers-put, numbers-room, numbers-start, numbers-there}
 use Rattle.values.proofs.sets.set_numbers.Statement.{statement}
 use Rattle.values.proofs.sets.set_numbers.Tie as tie
 

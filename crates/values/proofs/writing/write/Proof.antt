@@ -37,7 +37,8 @@ product c =
     (at-times .times-of .ensures ∙ ap times same)
 
 -- the image fits
-fits : (c : tie.Else2) → imageFits (c .before .before .before .before .before .before .before .before .before .args .types .now)
+fits : (c : tie.Else2)
+    → imageFits (c .before .before .before .before .before .before .before .before .before .args .types .now)
     (c .before .before .before .before .before .before .before .before .before .args .ty)
     (c .before .before .before .before .before .before .before .before .before .args .count)
     (c .before .before .before .before .before .before .before .before .before .args .image .now) ≡ true
