@@ -141,15 +141,18 @@ impl Judge {
         self.types.decode_elements(ty, count as usize, image)
     }
 
-    /// Writes as the original does; on a refusal it has written a part, so its image counts only on success.
+    /// Writes as the original does; whether it took the value.
+    pub(crate) fn encode_into(&self, ty: Ty, count: u64, json: &Json, out: &mut [u8]) -> bool {
+        if count == 0 {
+            return self.types.encode(ty, json, out).is_ok();
+        }
+        self.types.encode_elements(ty, count as usize, json, out).is_ok()
+    }
+
+    /// The image afterwards; on a refusal the original has written a part, so it counts only on success.
     pub(crate) fn encoded(&self, ty: Ty, count: u64, json: &Json, image: &[u8]) -> Option<Vec<u8>> {
         let mut out = image.to_vec();
-        let done = if count == 0 {
-            self.types.encode(ty, json, &mut out)
-        } else {
-            self.types.encode_elements(ty, count as usize, json, &mut out)
-        };
-        done.ok().map(|()| out)
+        self.encode_into(ty, count, json, &mut out).then_some(out)
     }
 
     /// The stream that reading gives; nothing where a float is not finite.

@@ -21,6 +21,7 @@ pub mod judge;
 pub mod options;
 #[cfg(test)]
 mod outside;
+pub mod pace;
 pub mod recorded;
 mod rng;
 pub mod stream;

@@ -9,6 +9,7 @@ use mathlib.Core.List.{List}
 use lib.Dec.{eqb, leb, ltb}
 use lib.ListN.{length, getD, List·getD-eq-default}
 use borrow.Author.Tests.{eq-eqb, ne-eqb, le-leb, lt-leb, lt-ltb, le-ltb}
+use Rattle.words.proofs.WordLaws.{word-split}
 use Rattle.words.specs.Words.{wordAt}
 use Rattle.values.specs.Entry.{bareIn, truthIn, lowIn, payloadsIn, loadedOf, threeZeros, entryIn}
 use Rattle.values.specs.Form.{Step, At, Broken, textStep, entryStep, loadedStep, onStep, formed}
@@ -211,10 +212,15 @@ module _ (s : List ℕ) (at : ℕ) where
           zeros-read s at a b d ∙ ap (λ k. loadedOf k (wordAt 8 s (at + 4))) e
 
 -- a step by the words that the code loads
-pub words-moved : {place r head x : ℕ} (s : List ℕ) (at : ℕ) → head ≡ wordAt 4 s at → x ≡ wordAt 8 s (at + 4)
-    → Moved place (loadedStep (loadedOf head x) place) r → Moved place (loadedStep (entryIn s at) place) r
-words-moved {place} {r} {head} {x} s at e h w =
-    subst (λ l. Moved place (loadedStep l place) r) (ap₂ loadedOf e h ∙ sym (head-read s at)) w
+pub words-moved : {place r head low high : ℕ} (s : List ℕ) (at : ℕ) → head ≡ wordAt 4 s at
+    → low ≡ wordAt 4 s (at + 4) → high ≡ wordAt 4 s (at + 8)
+    → Moved place (loadedStep (loadedOf head (low + 2 ^ 32 * high)) place) r
+    → Moved place (loadedStep (entryIn s at) place) r
+words-moved {place} {r} {head} {low} {high} s at e f g w =
+    let far : at + 4 + 4 ≡ at + 8 = omega arith in
+    let both : low + 2 ^ 32 * high ≡ wordAt 8 s (at + 4)
+    = ap₂ (λ (x y : ℕ). x + 2 ^ 32 * y) f (g ∙ ap (wordAt 4 s) (sym far)) ∙ sym (word-split 4 4 s (at + 4)) in
+    subst (λ l. Moved place (loadedStep l place) r) (ap₂ loadedOf e both ∙ sym (head-read s at)) w
 
 -- ---- the loop: what is left
 

@@ -1,7 +1,7 @@
 // The form of a value stream (document 01, "Value stream"; refusal 17): the number of entries, the entries, and the
 // text bodies, gapless, in entry order, to the stream's end.
 ghost use mathlib.Core.Path.{_≡_};
-ghost use Prim.Native.Nat.{_+_, _*_, _≤_};
+ghost use Prim.Native.Nat.{_+_, _*_, _^_, _≤_};
 ghost use lib.ListN.{length};
 ghost use Rattle.values.specs.Entry.{loadedOf};
 ghost use Rattle.values.specs.Form.{formed, loadedStep, streamOk};
@@ -9,8 +9,8 @@ ghost use Rattle.values.specs.Steps.{Moved, mostOf};
 use crate::tokens::high;
 use crate::tokens::low;
 use words::load32;
-use words::load64;
 use words::wide;
+use words::wide64;
 
 // The longest stream.
 const MOST: usize = 2147483648;
@@ -55,36 +55,43 @@ fn other_place(head: u32, x: u64, place: usize) -> usize
 }
 
 // The same with the kinds first that streams are full of: bools, signed numbers, members and brackets. The first four
-// bytes are the kind if the three after it are zeros, else a number above every kind.
-fn next_place(head: u32, x: u64, place: usize) -> usize
+// bytes are the kind if the three after it are zeros, else a number above every kind; the payload comes in two halves,
+// since these kinds need no more than a look at each.
+fn next_place(head: u32, low: u32, high: u32, place: usize) -> usize
     requires { ⌜ place ≤ 1152921504606846976 ⌝ }
-    ensures { λ r. ⌜ Moved place (loadedStep (loadedOf head x) place) r ⌝ }
+    ensures { λ r. ⌜ Moved place (loadedStep (loadedOf head (low + 2 ^ 32 * high)) place) r ⌝ }
 {
-    if head == 1 {
-        if x < 2 {
-            return place;
-        }
-        return NOWHERE;
-    }
     if head == 2 {
         return place;
     }
-    if head == 7 {
-        if x < 0x1_0000_0000 {
-            return place;
-        }
-        return NOWHERE;
-    }
-    if 8 <= head {
-        if head < 12 {
-            if x == 0 {
+    if head == 1 {
+        if high == 0 {
+            if low < 2 {
                 return place;
             }
             return NOWHERE;
         }
         return NOWHERE;
     }
-    other_place(head, x, place)
+    if head == 7 {
+        if high == 0 {
+            return place;
+        }
+        return NOWHERE;
+    }
+    if 8 <= head {
+        if head < 12 {
+            if high == 0 {
+                if low == 0 {
+                    return place;
+                }
+                return NOWHERE;
+            }
+            return NOWHERE;
+        }
+        return NOWHERE;
+    }
+    other_place(head, wide64(low) + 0x1_0000_0000 * wide64(high), place)
 }
 
 // The n entries of a stream whose bodies begin at a place.
@@ -96,7 +103,7 @@ fn entries_ok(s: &[u8], base: usize, n: usize) -> bool
     let mut k: usize = 0;
     while k < n {
         let at = 4 + 12 * k;
-        let next = next_place(load32(s, at), load64(s, at + 4), place);
+        let next = next_place(load32(s, at), load32(s, at + 4), load32(s, at + 8), place);
         if NOWHERE <= next {
             return false;
         }

@@ -16,14 +16,16 @@ abbrev μ-loop : tie.MeasureT-loop
 
 -- the entry's step
 moved : (c : tie.After-next-place Inv-loop μ-loop)
-    → Moved (c .before .before .before .before .loop .place)
-    (loadedStep (entryIn (c .before .before .before .before .before .before .args .s .now)
-    (4 + 12 * c .before .before .before .before .loop .k)) (c .before .before .before .before .loop .place))
+    → Moved (c .before .before .before .before .before .loop .place)
+    (loadedStep (entryIn (c .before .before .before .before .before .before .before .args .s .now)
+    (4 + 12 * c .before .before .before .before .before .loop .k))
+    (c .before .before .before .before .before .loop .place))
     (c .next-place .result)
 moved c =
-    let at-64 = c .before in
-    let at-32 = at-64 .before in
-    words-moved _ _ (at-32 .load32 .ensures) (at-64 .load64 .ensures) (c .next-place .ensures)
+    let at-high = c .before in
+    let at-low = at-high .before in
+    words-moved _ _ (at-low .before .load32 .ensures) (at-low .load322 .ensures) (at-high .load323 .ensures)
+    (c .next-place .ensures)
 
 loop-holds : tie.Need-loop-holds Inv-loop μ-loop
 loop-holds c = left-start _ _ _
@@ -37,36 +39,46 @@ add-at c = omega (arith, c .before .before .before .pre, c .loop-test .taken)
 load32-requires : tie.Need-load32-requires Inv-loop μ-loop
 load32-requires c κs = omega (arith, c .before .before .before .pre, c .loop-test .taken)
 
-add-load64 : tie.Need-add-load64 Inv-loop μ-loop
-add-load64 c = let in-loop = c .before in omega (arith, in-loop .before .before .before .pre, in-loop .loop-test .taken)
+add-load32 : tie.Need-add-load32 Inv-loop μ-loop
+add-load32 c = let in-loop = c .before in omega (arith, in-loop .before .before .before .pre, in-loop .loop-test .taken)
 
-load64-requires : tie.Need-load64-requires Inv-loop μ-loop
-load64-requires c κs =
+load32-requires-2 : tie.Need-load32-requires-2 Inv-loop μ-loop
+load32-requires-2 c κs =
     let in-loop = c .before in
+    omega (arith, in-loop .before .before .before .pre, in-loop .loop-test .taken)
+
+add-load32-2 : tie.Need-add-load32-2 Inv-loop μ-loop
+add-load32-2 c =
+    let in-loop = c .before .before in
+    omega (arith, in-loop .before .before .before .pre, in-loop .loop-test .taken)
+
+load32-requires-3 : tie.Need-load32-requires-3 Inv-loop μ-loop
+load32-requires-3 c κs =
+    let in-loop = c .before .before in
     omega (arith, in-loop .before .before .before .pre, in-loop .loop-test .taken)
 
 next-place-requires : tie.Need-next-place-requires Inv-loop μ-loop
 next-place-requires c κs =
-    let in-loop = c .before .before in
+    let in-loop = c .before .before .before in
     let at-loop = in-loop .before in
     omega (arith, at-loop .loop .inv .small, at-loop .before .before .pre, in-loop .loop-test .taken)
 
 returns : tie.Need-returns Inv-loop μ-loop
 returns c =
-    let in-loop = c .before .before .before .before in
+    let in-loop = c .before .before .before .before .before in
     left-broken (in-loop .before .loop .inv) (in-loop .loop-test .taken) (moved (c .before)) (c .if1 .taken)
 
 add-k : tie.Need-add-k Inv-loop μ-loop
 add-k c =
-    let in-loop = c .before .before .before .before in
+    let in-loop = c .before .before .before .before .before in
     omega (arith, in-loop .before .before .before .pre, in-loop .loop-test .taken)
 
 loop-less : tie.Need-loop-less Inv-loop μ-loop
-loop-less c = omega (arith, c .before .before .before .before .loop-test .taken)
+loop-less c = omega (arith, c .before .before .before .before .before .loop-test .taken)
 
 loop-again : tie.Need-loop-again Inv-loop μ-loop
 loop-again c =
-    let in-loop = c .before .before .before .before in
+    let in-loop = c .before .before .before .before .before in
     left-on (in-loop .before .loop .inv) (in-loop .loop-test .taken) (moved (c .before)) (c .if1 .left)
 
 add-result : tie.Need-add-result Inv-loop μ-loop
@@ -87,8 +99,10 @@ entries-ok-spec =
     mul-at
     add-at
     load32-requires
-    add-load64
-    load64-requires
+    add-load32
+    load32-requires-2
+    add-load32-2
+    load32-requires-3
     next-place-requires
     returns
     add-k

@@ -1,76 +1,130 @@
--- `values::next_place` meets its contract: the kinds that streams are full of, and then the others.
+-- `values::next_place` meets its contract: the kinds that streams are full of, by the halves of the payload, and then
+-- the others.
+use Prim.Native.Nat.{ℕ, _+_, _*_, _^_, _<_}
 use native.Mathlib.Omega.{arith}
+use mathlib.Core.Path.{_≡_, ap₂, subst}
 use borrow.Author.Needs.{needs}
+use Rattle.values.specs.Entry.{loadedOf}
+use Rattle.values.specs.Form.{loadedStep}
+use Rattle.values.specs.Steps.{Moved}
 use Rattle.values.proofs.FormLaws.{bool-broken, bool-fits, kind-none, mark-broken, mark-fits, member-broken}
 use Rattle.values.proofs.FormLaws.{member-fits, moved-none, moved-to, signed-fits}
 use Rattle.values.proofs.form.next_place.Statement.{statement}
 use Rattle.values.proofs.form.next_place.Tie as tie
 
+-- the payload
+abbrev payload : tie.Start → ℕ
+payload c = c .args .low + 2 ^ 32 * c .args .high
+
+small : (c : tie.Start) → payload c < 2 ^ 64
+small c = omega (arith, c .fits .low, c .fits .high)
+
 returns : tie.Need-returns
 returns c =
-    let start = c .before .before in
+    let start = c .before in
     let a = start .args in
-    moved-to (bool-fits (a .head) (a .x) (a .place) (omega (arith, start .fits .x)) (c .before .if1 .taken)
-    (c .if2 .taken)) (omega (arith, start .pre)) (omega arith)
+    moved-to (signed-fits (a .head) (payload start) (a .place) (small start) (c .if1 .taken))
+    (omega (arith, start .pre)) (omega arith)
 
 returns-2 : tie.Need-returns-2
 returns-2 c =
-    let start = c .before .before in
+    let then3 = c .before in
+    let then2 = then3 .before in
+    let start = then2 .before .before in
     let a = start .args in
-    moved-none (bool-broken (a .head) (a .x) (a .place) (omega (arith, start .fits .x)) (c .before .if1 .taken)
-    (c .if2 .left))
+    moved-to (bool-fits (a .head) (payload start) (a .place) (small start) (then2 .if2 .taken)
+    (omega (arith, then3 .if3 .taken, c .if4 .taken))) (omega (arith, start .pre)) (omega arith)
 
 returns-3 : tie.Need-returns-3
 returns-3 c =
-    let start = c .before .before in
+    let then2 = c .before .before in
+    let start = then2 .before .before in
     let a = start .args in
-    moved-to (signed-fits (a .head) (a .x) (a .place) (omega (arith, start .fits .x)) (c .if3 .taken))
-    (omega (arith, start .pre)) (omega arith)
+    moved-none (bool-broken (a .head) (payload start) (a .place) (small start) (then2 .if2 .taken)
+    (omega (arith, c .if4 .left)))
 
 returns-4 : tie.Need-returns-4
 returns-4 c =
-    let then4 = c .before in
-    let start = then4 .before .before .before in
+    let then2 = c .before in
+    let start = then2 .before .before in
     let a = start .args in
-    moved-to (member-fits (a .head) (a .x) (a .place) (omega (arith, start .fits .x)) (then4 .if4 .taken)
-    (c .if5 .taken)) (omega (arith, start .pre)) (omega arith)
+    moved-none (bool-broken (a .head) (payload start) (a .place) (small start) (then2 .if2 .taken)
+    (omega (arith, c .if3 .left)))
 
 returns-5 : tie.Need-returns-5
 returns-5 c =
-    let then4 = c .before in
-    let start = then4 .before .before .before in
+    let then5 = c .before in
+    let start = then5 .before .before .before in
     let a = start .args in
-    moved-none (member-broken (a .head) (a .x) (a .place) (omega (arith, start .fits .x)) (then4 .if4 .taken)
-    (c .if5 .left))
+    moved-to (member-fits (a .head) (payload start) (a .place) (small start) (then5 .if5 .taken)
+    (omega (arith, c .if6 .taken, start .fits .low))) (omega (arith, start .pre)) (omega arith)
 
 returns-6 : tie.Need-returns-6
 returns-6 c =
-    let then7 = c .before in
-    let then6 = then7 .before in
-    let start = then6 .before .before .before .before in
+    let then5 = c .before in
+    let start = then5 .before .before .before in
     let a = start .args in
-    moved-to (mark-fits (a .head) (a .x) (a .place) (omega (arith, start .fits .x)) (then6 .if6 .taken)
-    (then7 .if7 .taken) (c .if8 .taken)) (omega (arith, start .pre)) (omega arith)
+    moved-none (member-broken (a .head) (payload start) (a .place) (small start) (then5 .if5 .taken)
+    (omega (arith, c .if6 .left)))
 
 returns-7 : tie.Need-returns-7
 returns-7 c =
-    let then7 = c .before in
-    let then6 = then7 .before in
-    let start = then6 .before .before .before .before in
+    let then9 = c .before in
+    let then8 = then9 .before in
+    let then7 = then8 .before in
+    let start = then7 .before .before .before .before in
     let a = start .args in
-    moved-none (mark-broken (a .head) (a .x) (a .place) (omega (arith, start .fits .x)) (then6 .if6 .taken)
-    (then7 .if7 .taken) (c .if8 .left))
+    moved-to (mark-fits (a .head) (payload start) (a .place) (small start) (then7 .if7 .taken) (then8 .if8 .taken)
+    (omega (arith, then9 .if9 .taken, c .if10 .taken))) (omega (arith, start .pre)) (omega arith)
 
 returns-8 : tie.Need-returns-8
 returns-8 c =
-    let a = c .before .before .before .before .before .args in
-    moved-none (kind-none (a .head) (a .x) (a .place) (c .if7 .left))
+    let then8 = c .before .before in
+    let then7 = then8 .before in
+    let start = then7 .before .before .before .before in
+    let a = start .args in
+    moved-none (mark-broken (a .head) (payload start) (a .place) (small start) (then7 .if7 .taken) (then8 .if8 .taken)
+    (λ e. c .if10 .left (omega (arith, e))))
+
+returns-9 : tie.Need-returns-9
+returns-9 c =
+    let then8 = c .before in
+    let then7 = then8 .before in
+    let start = then7 .before .before .before .before in
+    let a = start .args in
+    moved-none (mark-broken (a .head) (payload start) (a .place) (small start) (then7 .if7 .taken) (then8 .if8 .taken)
+    (λ e. c .if9 .left (omega (arith, e))))
+
+returns-10 : tie.Need-returns-10
+returns-10 c =
+    let start = c .before .before .before .before .before in
+    let a = start .args in
+    moved-none (kind-none (a .head) (payload start) (a .place) (c .if8 .left))
+
+wide64-requires : tie.Need-wide64-requires
+wide64-requires c κs = search needs
+
+wide64-requires-2 : tie.Need-wide64-requires-2
+wide64-requires-2 c κs = search needs
+
+mul-other-place : tie.Need-mul-other-place
+mul-other-place c = search needs
+
+add-other-place : tie.Need-add-other-place
+add-other-place c = search needs
 
 other-place-requires : tie.Need-other-place-requires
 other-place-requires c κs = search needs
 
-returns-9 : tie.Need-returns-9
-returns-9 c = search needs
+returns-11 : tie.Need-returns-11
+returns-11 c =
+    let high = c .before in
+    let low = high .before in
+    let a = low .before .before .before .before .before .args in
+    let same : low .wide64 .result + 2 ^ 32 * high .wide642 .result ≡ a .low + 2 ^ 32 * a .high =
+    ap₂ (λ (x y : ℕ). x + 2 ^ 32 * y) (low .wide64 .ensures) (high .wide642 .ensures) in
+    subst (λ (x : ℕ). Moved (a .place) (loadedStep (loadedOf (a .head) x) (a .place)) (c .other-place .result)) same
+    (c .other-place .ensures)
 
 pub next-place-spec : {M : Type 1} → statement M
 next-place-spec =
@@ -84,5 +138,11 @@ next-place-spec =
     returns-6
     returns-7
     returns-8
+    returns-9
+    returns-10
+    wide64-requires
+    wide64-requires-2
+    mul-other-place
+    add-other-place
     other-place-requires
-    returns-9)
+    returns-11)

@@ -1,0 +1,31 @@
+//! The works whose pace is measured. `pace` lists them with their entries; `pace ask N TIMES` prints the port's
+//! questions of work N; `pace original N TIMES` does it with the original.
+
+use oracle::pace::{WORKS, Work};
+use std::io::{self, Write};
+
+fn number(arguments: &mut impl Iterator<Item = String>) -> Option<usize> {
+    arguments.next()?.parse().ok()
+}
+
+fn done() -> Option<()> {
+    let mut arguments = std::env::args().skip(1);
+    let Some(verb) = arguments.next() else {
+        WORKS.iter().enumerate().for_each(|(i, work)| println!("{i}|{}|{}", work.name, work.entries()));
+        return Some(());
+    };
+    let work: &Work = WORKS.get(number(&mut arguments)?)?;
+    let times = number(&mut arguments)?;
+    match verb.as_str() {
+        "ask" => io::stdout().write_all(&work.questions(times)).ok(),
+        "original" => Some(work.original(times)),
+        _ => None,
+    }
+}
+
+fn main() {
+    if done().is_none() {
+        eprintln!("usage: pace [ask | original WORK TIMES]");
+        std::process::exit(2);
+    }
+}
