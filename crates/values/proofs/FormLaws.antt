@@ -107,6 +107,14 @@ kind-tested x place l =
     then (λ n. bare-tested entry.ArrayClose x place refl)
     then none
 
+-- a kind above that of members
+pub above : {kind : ℕ} → 7 ≤ kind → (kind ≡ 7 → ⊥) → 8 ≤ kind
+above {kind} l n = go (decLt 7 kind)
+  where
+    go : Dec (7 < kind) → 8 ≤ kind
+    go (yes h) = omega arith
+    go (no h) = absurd (n (omega arith))
+
 not-zero : (x : ℕ) → (x ≡ 0 → ⊥) → 0 < x
 not-zero zero n = absurd (n refl)
 not-zero (suc x) n = omega arith
@@ -164,6 +172,14 @@ module _ (kind x place : ℕ) where
           not 7 (omega arith),
         ) refl in
         plain-broken l b (λ q. let z : ⊥ = omega arith in z) (let p = not-zero x n in omega arith)
+
+    -- members and brackets use no high half
+    pub high-broken : 7 ≤ kind → kind < 12 → 2 ^ 32 ≤ x → loadedStep (loadedOf kind x) place ≡ Broken
+    high-broken a b h = go (ℕ-discrete kind 7)
+      where
+        go : Dec (kind ≡ 7) → loadedStep (loadedOf kind x) place ≡ Broken
+        go (yes e) = member-broken e h
+        go (no e) = mark-broken (above a e) b (λ q. let z : ⊥ = omega arith in z)
 
   -- a text
   text-step : kind ≡ 6 → loadedStep (loadedOf kind x) place ≡ textStep (x % 2 ^ 32) (x / 2 ^ 32) place

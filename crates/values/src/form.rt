@@ -73,15 +73,12 @@ fn next_place(head: u32, low: u32, high: u32, place: usize) -> usize
         }
         return NOWHERE;
     }
-    if head == 7 {
-        if high == 0 {
-            return place;
-        }
-        return NOWHERE;
-    }
-    if 8 <= head {
+    if 7 <= head {
         if head < 12 {
             if high == 0 {
+                if head == 7 {
+                    return place;
+                }
                 if low == 0 {
                     return place;
                 }

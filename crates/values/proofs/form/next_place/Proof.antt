@@ -7,7 +7,7 @@ use borrow.Author.Needs.{needs}
 use Rattle.values.specs.Entry.{loadedOf}
 use Rattle.values.specs.Form.{loadedStep}
 use Rattle.values.specs.Steps.{Moved}
-use Rattle.values.proofs.FormLaws.{bool-broken, bool-fits, kind-none, mark-broken, mark-fits, member-broken}
+use Rattle.values.proofs.FormLaws.{above, bool-broken, bool-fits, high-broken, kind-none, mark-broken, mark-fits}
 use Rattle.values.proofs.FormLaws.{member-fits, moved-none, moved-to, signed-fits}
 use Rattle.values.proofs.form.next_place.Statement.{statement}
 use Rattle.values.proofs.form.next_place.Tie as tie
@@ -53,53 +53,48 @@ returns-4 c =
 
 returns-5 : tie.Need-returns-5
 returns-5 c =
-    let then5 = c .before in
-    let start = then5 .before .before .before in
+    let then7 = c .before in
+    let start = then7 .before .before .before .before .before in
     let a = start .args in
-    moved-to (member-fits (a .head) (payload start) (a .place) (small start) (then5 .if5 .taken)
-    (omega (arith, c .if6 .taken, start .fits .low))) (omega (arith, start .pre)) (omega arith)
+    moved-to (member-fits (a .head) (payload start) (a .place) (small start) (c .if8 .taken)
+    (omega (arith, then7 .if7 .taken, start .fits .low))) (omega (arith, start .pre)) (omega arith)
 
 returns-6 : tie.Need-returns-6
 returns-6 c =
-    let then5 = c .before in
+    let else8 = c .before in
+    let then7 = else8 .before in
+    let then6 = then7 .before in
+    let then5 = then6 .before in
     let start = then5 .before .before .before in
     let a = start .args in
-    moved-none (member-broken (a .head) (payload start) (a .place) (small start) (then5 .if5 .taken)
-    (omega (arith, c .if6 .left)))
+    moved-to (mark-fits (a .head) (payload start) (a .place) (small start)
+    (above (then5 .if5 .taken) (else8 .if8 .left)) (then6 .if6 .taken)
+    (omega (arith, then7 .if7 .taken, c .if9 .taken))) (omega (arith, start .pre)) (omega arith)
 
 returns-7 : tie.Need-returns-7
 returns-7 c =
-    let then9 = c .before in
-    let then8 = then9 .before in
-    let then7 = then8 .before in
-    let start = then7 .before .before .before .before in
+    let else8 = c .before in
+    let then6 = else8 .before .before in
+    let then5 = then6 .before in
+    let start = then5 .before .before .before in
     let a = start .args in
-    moved-to (mark-fits (a .head) (payload start) (a .place) (small start) (then7 .if7 .taken) (then8 .if8 .taken)
-    (omega (arith, then9 .if9 .taken, c .if10 .taken))) (omega (arith, start .pre)) (omega arith)
+    moved-none (mark-broken (a .head) (payload start) (a .place) (small start)
+    (above (then5 .if5 .taken) (else8 .if8 .left)) (then6 .if6 .taken) (λ e. c .if9 .left (omega (arith, e))))
 
 returns-8 : tie.Need-returns-8
 returns-8 c =
-    let then8 = c .before .before in
-    let then7 = then8 .before in
-    let start = then7 .before .before .before .before in
+    let then6 = c .before in
+    let then5 = then6 .before in
+    let start = then5 .before .before .before in
     let a = start .args in
-    moved-none (mark-broken (a .head) (payload start) (a .place) (small start) (then7 .if7 .taken) (then8 .if8 .taken)
-    (λ e. c .if10 .left (omega (arith, e))))
+    moved-none (high-broken (a .head) (payload start) (a .place) (small start) (then5 .if5 .taken) (then6 .if6 .taken)
+    (omega (arith, c .if7 .left)))
 
 returns-9 : tie.Need-returns-9
 returns-9 c =
-    let then8 = c .before in
-    let then7 = then8 .before in
-    let start = then7 .before .before .before .before in
+    let start = c .before .before .before .before in
     let a = start .args in
-    moved-none (mark-broken (a .head) (payload start) (a .place) (small start) (then7 .if7 .taken) (then8 .if8 .taken)
-    (λ e. c .if9 .left (omega (arith, e))))
-
-returns-10 : tie.Need-returns-10
-returns-10 c =
-    let start = c .before .before .before .before .before in
-    let a = start .args in
-    moved-none (kind-none (a .head) (payload start) (a .place) (c .if8 .left))
+    moved-none (kind-none (a .head) (payload start) (a .place) (c .if6 .left))
 
 wide64-requires : tie.Need-wide64-requires
 wide64-requires c κs = search needs
@@ -116,11 +111,11 @@ add-other-place c = search needs
 other-place-requires : tie.Need-other-place-requires
 other-place-requires c κs = search needs
 
-returns-11 : tie.Need-returns-11
-returns-11 c =
+returns-10 : tie.Need-returns-10
+returns-10 c =
     let high = c .before in
     let low = high .before in
-    let a = low .before .before .before .before .before .args in
+    let a = low .before .before .before .before .args in
     let same : low .wide64 .result + 2 ^ 32 * high .wide642 .result ≡ a .low + 2 ^ 32 * a .high =
     ap₂ (λ (x y : ℕ). x + 2 ^ 32 * y) (low .wide64 .ensures) (high .wide642 .ensures) in
     subst (λ (x : ℕ). Moved (a .place) (loadedStep (loadedOf (a .head) x) (a .place)) (c .other-place .result)) same
@@ -139,10 +134,9 @@ next-place-spec =
     returns-7
     returns-8
     returns-9
-    returns-10
     wide64-requires
     wide64-requires-2
     mul-other-place
     add-other-place
     other-place-requires
-    returns-11)
+    returns-10)
