@@ -113,7 +113,8 @@ module _ (low high under most : ℕ) (t : Token) (x : ℕ) (l : x < 2 ^ 64) (e :
 
 -- an atomic takes one kind, or the whole numbers of a range
 data Shape (takes : Token → Effect) (f : Limits) : Type 0 where
-  one : (kind : ℕ) → (kind ≡ 2 → ⊥) → ((t : Token) → takes t ≡ ofKind kind t) → f ≡ oneKind kind → Shape takes f
+  one : (kind : ℕ) → (kind ≡ 2 → ⊥) → kind < 6 → ((t : Token) → takes t ≡ ofKind kind t) → f ≡ oneKind kind
+      → Shape takes f
   range : (low high under most : ℕ) → under + low + 1 ≡ 2 ^ 64 → most + 1 ≡ high
       → ((t : Token) → takes t ≡ whole low high t) → f ≡ wholes under most → Shape takes f
 
@@ -139,12 +140,12 @@ bits-shape n l =
     let low = pow-mono {i = n - 1} {j = 63} (omega arith) in
     range (2 ^ (n - 1)) (2 ^ n) (2 ^ 64 - 2 ^ (n - 1) - 1) (2 ^ n - 1) (omega arith) (omega arith) (λ t. refl) refl
 
-one-shape : (kind : ℕ) → (kind ≡ 2 → ⊥) → Shape (ofKind kind) (oneKind kind)
-one-shape kind n = one kind n (λ t. refl) refl
+one-shape : (kind : ℕ) → (kind ≡ 2 → ⊥) → kind < 6 → Shape (ofKind kind) (oneKind kind)
+one-shape kind n l = one kind n l (λ t. refl) refl
 
 shape : (a : Atomic) → Shape (atomicTakes a) (limitsOf a)
 unfolding atomicTakes bitString sizeOf
-shape atomic.Bool = one-shape 1 (λ h. omega arith)
+shape atomic.Bool = one-shape 1 (λ h. omega arith) (omega arith)
 shape atomic.SInt = signed-shape 8 (omega arith)
 shape atomic.Int = signed-shape 16 (omega arith)
 shape atomic.DInt = signed-shape 32 (omega arith)
@@ -153,18 +154,42 @@ shape atomic.USInt = unsigned-shape 8
 shape atomic.UInt = unsigned-shape 16
 shape atomic.UDInt = unsigned-shape 32
 shape atomic.ULInt = unsigned-shape 64
-shape atomic.Real = one-shape 4 (λ h. omega arith)
-shape atomic.LReal = one-shape 5 (λ h. omega arith)
+shape atomic.Real = one-shape 4 (λ h. omega arith) (omega arith)
+shape atomic.LReal = one-shape 5 (λ h. omega arith) (omega arith)
 shape atomic.Byte = bits-shape 8 (omega arith)
 shape atomic.Word = bits-shape 16 (omega arith)
 shape atomic.DWord = bits-shape 32 (omega arith)
 shape atomic.LWord = bits-shape 64 (omega arith)
 
+-- ---- no atomic takes a text, a member, or a bracket
+
+pub above-misfits : (a : Atomic) (kind x : ℕ) → 6 ≤ kind → misfit (limitsOf a) kind x ≡ 18
+unfolding misfit wholeMisfit
+above-misfits a kind x l = go (shape a)
+  where
+    not : (j : ℕ) → j < 6 → eqb kind j ≡ false
+    not j h = ne-eqb kind j (λ q. let z : ⊥ = omega (arith, l, h, q) in z)
+
+    go : {takes : Token → Effect} {f : Limits} → Shape takes f → misfit f kind x ≡ 18
+    go (one k n h e g) = rw (g, not 0 (omega arith), ne-eqb k 2 n, not k h) refl
+    go (range low high under most a b e g) = rw (g, not 0 (omega arith), not 2 (omega arith), not 3 (omega arith)) refl
+
+pub above-refused : (a : Atomic) (t : Token) → 6 ≤ kindOf t → atomicTakes a t ≡ refuse 18
+unfolding ofKind whole
+above-refused a t l = go (shape a)
+  where
+    not : (j : ℕ) → j < 6 → eqb (kindOf t) j ≡ false
+    not j h = ne-eqb (kindOf t) j (λ q. let z : ⊥ = omega (arith, l, h, q) in z)
+
+    go : {takes : Token → Effect} {f : Limits} → Shape takes f → takes t ≡ refuse 18
+    go (one k n h e g) = e t ∙ rw (not k h) refl
+    go (range low high under most a b e g) = e t ∙ rw (not 2 (omega arith), not 3 (omega arith)) refl
+
 -- ---- what is taken
 
 shape-judged : {takes : Token → Effect} {f : Limits} → Shape takes f → (t : Token) (x : ℕ) → x < 2 ^ 64
     → ((kindOf t ≡ 6 → ⊥) → payloadOf 0 t ≡ x) → (kindOf t ≡ 0 → ⊥) → Judged (takes t) (misfit f (kindOf t) x)
-shape-judged (one kind n e g) t x l p z = rw (e t, g) (kind-judged kind t x n z)
+shape-judged (one kind n k e g) t x l p z = rw (e t, g) (kind-judged kind t x n z)
 shape-judged (range low high under most a b e g) t x l p z =
     rw (e t, g) (whole-judged low high under most t x l a b p z)
 
@@ -221,7 +246,7 @@ whole-sets b false fits = refuses 18 refl
 
 shape-sets : {takes : Token → Effect} {f : Limits} → Shape takes f → (t : Token) → Sets (payloadBits t) (takes t)
 unfolding ofKind whole
-shape-sets (one kind n e g) t = rw (e t) (sets-by (payloadBits t) 18 (eqb (kindOf t) kind))
+shape-sets (one kind n k e g) t = rw (e t) (sets-by (payloadBits t) 18 (eqb (kindOf t) kind))
 shape-sets (range low high under most a b e g) t =
     rw (e t) (whole-sets (payloadBits t) (isWhole (kindOf t)) (inRange low high (kindOf t) (payloadOf 0 t)))
 

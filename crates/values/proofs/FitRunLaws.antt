@@ -4,24 +4,22 @@ use Prim.Native.Nat.{ℕ, suc, _+_, _-_, _*_, _^_, _<_, _≤_, min}
 use native.Mathlib.Nat.{add-zero, mul-suc, mul-zero}
 use native.Mathlib.Omega.{arith}
 use mathlib.Core.Path.{_≡_, refl, sym, ap, _∙_}
-use mathlib.Core.Bool.{Bool, true, false, cond}
+use mathlib.Core.Bool.{true}
 use mathlib.Core.List.{List}
-use lib.Dec.{eqb, leb, ltb}
 use borrow.Author.Tests.{eq-eqb, ne-eqb}
 use Rattle.words.specs.Bits.{Bits}
 use Rattle.words.specs.Words.{Bytes, wordAt}
 use Rattle.words.proofs.WordLaws.{word-below}
 use Rattle.types.specs.declared.atomic.Atomic.{Atomic}
-use Rattle.types.specs.declared.atomic.Atomic.the-variants as atomic
 use Rattle.values.specs.Effects.{Effect, Judged, set, refused, atomicTakes, ofKind, orNull, payloadBits, taken}
 use Rattle.values.specs.Form.{countIn, streamOk}
 use Rattle.values.specs.Leaf.{flag}
-use Rattle.values.specs.Limits.{aboveMisfit, limitsOf, misfit, signedMisfit, wholeMisfit}
+use Rattle.values.specs.Limits.{limitsOf, misfit}
 use Rattle.values.specs.Passes.{Checked, Told, firstKind, leftAt}
 use Rattle.values.specs.Stream.{Token, kindOf}
 use Rattle.values.specs.Writing.{Outcome, elements, writeOne}
 use Rattle.values.specs.declared.limits.Limits.{Limits}
-use Rattle.values.proofs.FitLaws.{atomic-judged}
+use Rattle.values.proofs.FitLaws.{above-misfits, atomic-judged}
 use Rattle.values.proofs.LeftLaws.{There, few-entries, kind-there, there}
 use Rattle.values.proofs.StepLaws.{Onward, onward-start, onward-on, onward-then, refused-then}
 use Rattle.values.proofs.StepLaws.{one-judged, one-refused}
@@ -158,53 +156,16 @@ flag-refused t e = refused (omega arith) (unfold ofKind in rw (ne-eqb (kindOf t)
 
 module _ {s : List ℕ} {n count k last q kind : ℕ} (e : Next s (taken flag) n count k last q kind) where
   pub bool-on : kind ≡ 1 → Walked s (taken flag) count k (q + 1)
-  bool-on h = next-on e (λ g. let z : ⊥ = omega (arith, g, h) in z) (flag-taken (next-there e .token) (next-kind e ∙ h))
+  bool-on h =
+      next-on e (λ g. let z : ⊥ = omega (arith, g, h) in z) (flag-taken (next-there e .token) (next-kind e ∙ h))
 
-  pub bool-refused : {r : ℕ} → (kind ≡ 1 → ⊥) → (kind ≡ 11 → ⊥) → r ≡ 2 ^ 32 * 18 + q → Answers s (taken flag) count k r
+  pub bool-refused : {r : ℕ} → (kind ≡ 1 → ⊥) → (kind ≡ 11 → ⊥) → r ≡ 2 ^ 32 * 18 + q
+      → Answers s (taken flag) count k r
   bool-refused a b is =
       next-refused e 18 b (flag-refused (next-there e .token) (λ g. a (sym (next-kind e) ∙ g)))
       (λ g. let z : ⊥ = omega (arith, g) in z) is
 
 -- ---- numbers, by the limits
-
--- no atomic takes a close
-close-misfit : (a : Atomic) (x : ℕ) → misfit (limitsOf a) 11 x ≡ 18
-unfolding misfit wholeMisfit
-close-misfit atomic.Bool x = refl
-close-misfit atomic.SInt x = refl
-close-misfit atomic.Int x = refl
-close-misfit atomic.DInt x = refl
-close-misfit atomic.LInt x = refl
-close-misfit atomic.USInt x = refl
-close-misfit atomic.UInt x = refl
-close-misfit atomic.UDInt x = refl
-close-misfit atomic.ULInt x = refl
-close-misfit atomic.Real x = refl
-close-misfit atomic.LReal x = refl
-close-misfit atomic.Byte x = refl
-close-misfit atomic.Word x = refl
-close-misfit atomic.DWord x = refl
-close-misfit atomic.LWord x = refl
-
-either-small : (b : Bool) (x y : ℕ) → x < 20 → y < 20 → cond b x y < 20
-either-small true x y l h = l
-either-small false x y l h = h
-
--- a refusal's number is small
-pub misfit-small : (f : Limits) (kind x : ℕ) → misfit f kind x < 20
-unfolding misfit wholeMisfit signedMisfit aboveMisfit
-misfit-small f kind x =
-    let above : aboveMisfit f x < 20 = either-small (leb x (f .most)) 0 19 (omega arith) (omega arith) in
-    let signed : signedMisfit f x < 20 =
-    either-small (leb 0x8000000000000000 x) (cond (ltb (f .under) x) 0 19) (aboveMisfit f x)
-    (either-small (ltb (f .under) x) 0 19 (omega arith) (omega arith)) above in
-    let whole : wholeMisfit f kind x < 20 =
-    either-small (eqb kind 2) (signedMisfit f x) (cond (eqb kind 3) (aboveMisfit f x) 18) signed
-    (either-small (eqb kind 3) (aboveMisfit f x) 18 above (omega arith)) in
-    either-small (eqb kind 0) 0 (cond (eqb (f .kind) 2) (wholeMisfit f kind x) (cond (eqb kind (f .kind)) 0 18))
-    (omega arith)
-    (either-small (eqb (f .kind) 2) (wholeMisfit f kind x) (cond (eqb kind (f .kind)) 0 18) whole
-    (either-small (eqb kind (f .kind)) 0 18 (omega arith) (omega arith)))
 
 -- an entry and what the limits say of it
 pub record Judging (s : List ℕ) (a : Atomic) (f : Limits) (q kind x number : ℕ) : Type 0 where
@@ -227,7 +188,7 @@ module _ {s : List ℕ} {a : Atomic} {f : Limits} {n count k last q kind x numbe
   pub number-on : number ≡ 0 → Walked s (orNull (atomicTakes a)) count k (q + 1)
   number-on z =
       next-on e
-      (λ g. let h : number ≡ 18 = by-limits ∙ ap (λ (m : ℕ). misfit (limitsOf a) m x) g ∙ close-misfit a x in
+      (λ g. let h : number ≡ 18 = by-limits ∙ above-misfits a kind x (omega (arith, g)) in
       let w : ⊥ = omega (arith, h, z) in w)
       (rw (← z) judged)
 

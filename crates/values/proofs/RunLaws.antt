@@ -9,18 +9,17 @@ use mathlib.Core.List.{List, [], _∷_, _++_}
 use lib.Dec.{eqb}
 use lib.ListN.{length, getD, length-append}
 use lib.Seq.{sets}
-use Rattle.words.specs.Bits.{Bits, flat, val}
-use Rattle.words.specs.Words.{part, wordAt, Bytes}
+use Rattle.words.specs.Words.{wordAt, Bytes}
 use Rattle.types.specs.Atomic.{numOf, sizeOf}
 use Rattle.types.specs.declared.atomic.Atomic.{Atomic}
 use Rattle.types.specs.declared.atomic.Atomic.the-variants as atomic
 use Rattle.values.specs.Laying.{Put}
-use Rattle.values.specs.Leaf.{emit, isTrue, leafOf, signed}
+use Rattle.values.specs.Leaf.{isTrue}
 use Rattle.values.specs.Numbers.{extended, formOf, Run}
 use Rattle.values.specs.Stream.{Token, bool, number, kindOf, payloadOf, bodyOf, entryBytes, bodies}
 use Rattle.values.specs.Walk.{elementOut, upTo}
 use Rattle.values.specs.declared.numbers.Form.{Form}
-use Rattle.values.proofs.EntryLaws.{bodies-one, plain-append, Textless, textless-bool, textless-number}
+use Rattle.values.proofs.EntryLaws.{bodies-one, plain-append}
 use Rattle.values.proofs.NumberLaws.{number-form, truth-form, fill-fits}
 use Rattle.values.proofs.PutLaws.{put-length, put-none, put-next}
 use Rattle.values.proofs.UpLaws.{up-ext}
@@ -136,22 +135,3 @@ truths-given n s e h = let l : 1 * n ≤ length s = rw e at h in omega arith
 pub truths-put : {a : Atomic} (n : ℕ) (s : List ℕ) {at r : ℕ} {out new : List ℕ} → a ≡ atomic.Bool
     → Put out at (upTo (elementOut atomic.Bool s) n) new r → Put out at (upTo (elementOut a s) n) new r
 truths-put n s e w = rw e w
-
--- ---- none of them is a text
-
-pub textless-leaf : (a : Atomic) (b : Bits) → Textless (emit (leafOf a) b ∷ [])
-textless-leaf atomic.Bool b = textless-bool (isTrue (val 8 b))
-textless-leaf atomic.SInt b = textless-number 2 (signed 8 (val 8 b))
-textless-leaf atomic.Int b = textless-number 2 (signed 16 (val 16 b))
-textless-leaf atomic.DInt b = textless-number 2 (signed 32 (val 32 b))
-textless-leaf atomic.LInt b = textless-number 2 (signed 64 (val 64 b))
-textless-leaf atomic.USInt b = textless-number 3 (val 8 b)
-textless-leaf atomic.UInt b = textless-number 3 (val 16 b)
-textless-leaf atomic.UDInt b = textless-number 3 (val 32 b)
-textless-leaf atomic.ULInt b = textless-number 3 (val 64 b)
-textless-leaf atomic.Real b = textless-number 4 (val 32 b)
-textless-leaf atomic.LReal b = textless-number 5 (val 64 b)
-textless-leaf atomic.Byte b = textless-number 3 (val 8 b)
-textless-leaf atomic.Word b = textless-number 3 (val 16 b)
-textless-leaf atomic.DWord b = textless-number 3 (val 32 b)
-textless-leaf atomic.LWord b = textless-number 3 (val 64 b)

@@ -5,7 +5,7 @@ use native.Mathlib.Decide.{decLe, ℕ-discrete}
 use native.Mathlib.Nat.{add-zero}
 use native.Mathlib.Omega.{arith}
 use mathlib.Core.Path.{_≡_, refl, sym, ap, ap₂, _∙_, fun-ext}
-use mathlib.Core.Bool.{Bool, true, false, cond}
+use mathlib.Core.Bool.{Bool, true}
 use mathlib.Core.List.{List, [], _∷_, _++_}
 use mathlib.Core.Logic.{inl, inr}
 use lib.Dec.{eqb}
@@ -16,19 +16,19 @@ use Rattle.words.specs.Bits.{Bits, bitOf, flat, stamp}
 use Rattle.words.specs.Words.{bytesOf, part}
 use Rattle.words.proofs.Lists.{sets-append}
 use Rattle.words.proofs.WordLaws.{bytes-low, length-bytes}
-use Rattle.types.specs.Atomic.{bitString, sizeOf}
+use Rattle.types.specs.Atomic.{sizeOf}
 use Rattle.types.specs.declared.atomic.Atomic.{Atomic}
 use Rattle.types.specs.declared.atomic.Atomic.the-variants as atomic
-use Rattle.values.specs.Effects.{Effect, put, refuse, payloadBits, ofKind, whole, textBits, asText, taken}
-use Rattle.values.specs.Effects.{bitsWhole, atomicTakes, orNull}
+use Rattle.values.specs.Effects.{Effect, put, refuse, payloadBits, ofKind, textBits, asText, taken}
+use Rattle.values.specs.Effects.{atomicTakes, orNull}
 use Rattle.values.specs.Form.{baseIn}
-use Rattle.values.specs.Leaf.{flag, leafOf}
+use Rattle.values.specs.Leaf.{flag}
 use Rattle.values.specs.Passes.{Applied, accepted, firstKind, leftAt}
 use Rattle.values.specs.Rows.{Width}
 use Rattle.values.specs.Stream.{Token, kindOf, payloadOf, bodyOf}
 use Rattle.values.specs.Writing.{onEffect, writeOne}
 use Rattle.values.proofs.ApplyLaws.{accepted-as, applied-keeps, applied-one, not-accepted}
-use Rattle.values.proofs.FitLaws.{atomic-sets, not-null, null-keeps}
+use Rattle.values.proofs.FitLaws.{above-refused, atomic-sets, not-null, null-keeps}
 use Rattle.values.proofs.LeftLaws.{There, TextThere, kind-there, payloadAt}
 use Rattle.values.proofs.OutcomeLaws.{one-is}
 use Rattle.values.proofs.StampLaws.{bit-first, flat-sets, flat-word, stamp-ext}
@@ -107,39 +107,6 @@ of-is : (kind : ℕ) (t : Token) → kindOf t ≡ kind → ofKind kind t ≡ put
 unfolding ofKind
 of-is kind t e = rw (eq-eqb (kindOf t) kind e) refl
 
--- a text is no atomic
-whole-six : (low high : ℕ) (t : Token) → kindOf t ≡ 6 → whole low high t ≡ refuse 18
-unfolding whole
-whole-six low high t e = rw (ne-eqb (kindOf t) 2 (λ q. omega arith), ne-eqb (kindOf t) 3 (λ q. omega arith)) refl
-
-of-six : (kind : ℕ) (t : Token) → (kind ≡ 6 → ⊥) → kindOf t ≡ 6 → ofKind kind t ≡ refuse 18
-of-six kind t n e = of-not kind t (λ q. n (sym q ∙ e))
-
-leaf-six : (a : Atomic) (t : Token) → kindOf t ≡ 6 → taken (leafOf a) t ≡ refuse 18
-leaf-six atomic.Bool t e = of-six 1 t (λ q. omega arith) e
-leaf-six atomic.SInt t e = whole-six _ _ t e
-leaf-six atomic.Int t e = whole-six _ _ t e
-leaf-six atomic.DInt t e = whole-six _ _ t e
-leaf-six atomic.LInt t e = whole-six _ _ t e
-leaf-six atomic.USInt t e = whole-six _ _ t e
-leaf-six atomic.UInt t e = whole-six _ _ t e
-leaf-six atomic.UDInt t e = whole-six _ _ t e
-leaf-six atomic.ULInt t e = whole-six _ _ t e
-leaf-six atomic.Real t e = of-six 4 t (λ q. omega arith) e
-leaf-six atomic.LReal t e = of-six 5 t (λ q. omega arith) e
-leaf-six atomic.Byte t e = whole-six _ _ t e
-leaf-six atomic.Word t e = whole-six _ _ t e
-leaf-six atomic.DWord t e = whole-six _ _ t e
-leaf-six atomic.LWord t e = whole-six _ _ t e
-
-atomic-six : (a : Atomic) (t : Token) → kindOf t ≡ 6 → atomicTakes a t ≡ refuse 18
-unfolding atomicTakes
-atomic-six a t e = go (bitString a)
-  where
-    go : (b : Bool) → cond b (bitsWhole (8 * sizeOf a) t) (taken (leafOf a) t) ≡ refuse 18
-    go true = whole-six _ _ t e
-    go false = leaf-six a t e
-
 -- ---- one entry, or null
 
 module _ {s : List ℕ} {k : ℕ} (t : There s k) (takes : Token → Effect) (w p : ℕ) where
@@ -181,7 +148,7 @@ atomic-set {s} {k} t a base {image} {new} n room h e =
     let w : ℕ = 8 * sizeOf a in
     let p : ℕ = 8 * base in
     let six-not : kindOf (t .token) ≡ 6 → ⊥ =
-    λ q. not-refused t takes w p (flat image) n h (atomic-six a (t .token) q) in
+    λ q. not-refused t takes w p (flat image) n h (above-refused a (t .token) (omega (arith, q))) in
     let puts : orNull takes (t .token) ≡ put (payloadBits (t .token)) =
     atomic-sets a w p (t .token) (leftAt s (k + 1)) (flat image) (not-null-token t takes w p n)
     (accepted-as (one-is (orNull takes) w p (t .token) (leftAt s (k + 1)) (flat image) (t .left)) h) in

@@ -2,7 +2,7 @@
 // Structures call arrays and arrays structures; a structure holds only earlier ones, so the number falls.
 ghost use mathlib.Core.Path.{_≡_};
 ghost use mathlib.Core.Bool.{true};
-ghost use Prim.Native.Nat.{ℕ, _+_, _*_, _<_, _≤_};
+ghost use Prim.Native.Nat.{_+_, _*_};
 ghost use Rattle.words.specs.Bits.{flat};
 ghost use Rattle.types.specs.Laid.{firstBit};
 ghost use Rattle.types.specs.Tables.{memberAt};

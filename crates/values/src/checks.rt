@@ -2,7 +2,7 @@
 // arrays structures; a structure holds only earlier ones, so the number falls, and each loop consumes entries.
 ghost use mathlib.Core.Path.{_≡_};
 ghost use Prim.Native.Nat.{ℕ, _+_, _*_, _<_, _≤_};
-ghost use Rattle.types.specs.Tables.{memberAt, typeAt};
+ghost use Rattle.types.specs.Tables.{memberAt};
 ghost use Rattle.types.specs.Waste.{sizesIn};
 ghost use Rattle.values.specs.Passes.{Checked, Told, leftAt};
 ghost use Rattle.values.specs.Rows.{branchesIn, memberTree, treeIn, visibleRow};

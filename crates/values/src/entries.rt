@@ -1,7 +1,7 @@
 // An entry by value (document 01, "Value stream"): its kinds 0 to 11 with their payloads, stored as twelve bytes and
 // loaded again. Bytes that are no entry are malformed.
 ghost use mathlib.Core.Path.{_≡_};
-ghost use Prim.Native.Nat.{_+_, _/_, _%_, _^_, _≤_};
+ghost use Prim.Native.Nat.{_+_, _≤_};
 ghost use lib.ListN.{length};
 ghost use lib.Dec.{leb};
 ghost use Rattle.values.specs.Entry.{EntryStored, entryAt, entryIn, entryKind, entryPayload, loadedOf};

@@ -2,7 +2,7 @@
 // Refusals here are one number: the refusal's above 32 bits, and the place.
 ghost use mathlib.Core.Path.{_≡_};
 ghost use mathlib.Core.Bool.{true};
-ghost use Prim.Native.Nat.{_+_, _*_, _/_, _%_, _^_, _<_, _≤_};
+ghost use Prim.Native.Nat.{_+_, _*_, _/_, _%_, _^_, _<_};
 ghost use Rattle.words.specs.Words.{wordAt};
 ghost use Rattle.values.specs.Form.{countIn, streamOk};
 ghost use Rattle.values.specs.Passes.{Told, firstKind, leftAt};

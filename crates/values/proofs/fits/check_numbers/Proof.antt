@@ -6,7 +6,8 @@ use mathlib.Core.Path.{_≡_}
 use Rattle.types.specs.declared.atomic.Atomic.{Atomic}
 use Rattle.values.specs.Effects.{atomicTakes, orNull}
 use Rattle.values.specs.Limits.{limitsOf}
-use Rattle.values.proofs.FitRunLaws.{Judging, Next, Walked, asked, misfit-small, next-closes, next-low}
+use Rattle.values.proofs.FitLaws.{misfit-small}
+use Rattle.values.proofs.FitRunLaws.{Judging, Next, Walked, asked, next-closes, next-low}
 use Rattle.values.proofs.FitRunLaws.{number-on, number-refused, walked-done, walked-start}
 use Rattle.values.proofs.fits.check_numbers.Statement.{statement}
 use Rattle.values.proofs.fits.check_numbers.Tie as tie
@@ -106,8 +107,8 @@ refused-requires c κs =
     let at-kind = judged .before .before in
     let limited = at-kind .before .before .before .before in
     let small = misfit-small (limited .limits-of .result) (at-kind .kind-of .result)
-    (judged .before .payload-of .result) in
-    (omega (arith, judged .misfit .ensures, small), omega (arith, next-low (own at-kind)))
+    (judged .before .payload-of .result) (judged .misfit .ensures) in
+    (omega (arith, small), omega (arith, next-low (own at-kind)))
 
 returns-2 : tie.Need-returns-2 Inv-loop μ-loop
 returns-2 c =
