@@ -9,10 +9,16 @@ use crate::judge::{Judge, build_question};
 use crate::model::{Ty, Types};
 use std::hint::black_box;
 
+/// The original's fold, which is private in its file.
+mod fold {
+    include!(concat!(env!("OUT_DIR"), "/fold.rs"));
+}
+
 /// What is done, again and again.
 #[derive(Clone, Copy)]
 enum What {
     Build,
+    Handle(usize),
     Read(&'static str, u64),
     Write(&'static str, u64),
 }
@@ -29,10 +35,12 @@ const fn work(name: &'static str, types: fn() -> Vec<TypeConfig>, what: What) ->
 }
 
 /// All of them, in the table's order.
-pub const WORKS: [Work; 17] = [
+pub const WORKS: [Work; 19] = [
     work("build Chan", chan, What::Build),
     work("build 1,753 BOOLs", bools, What::Build),
     work("build 196 nested types", nested, What::Build),
+    work("handle of 80 bytes", chan, What::Handle(80)),
+    work("handle of 65,536 bytes", chan, What::Handle(65_536)),
     work("read 12 Chan", chan, What::Read("Chan", 12)),
     work("read 1,000 Chan", chan, What::Read("Chan", 1_000)),
     work("read DINT[98]", chan, What::Read("DINT", 98)),
@@ -65,9 +73,14 @@ fn nested() -> Vec<TypeConfig> {
     (0..196).map(|i| TypeConfig::udt(&format!("T{i}"), [MemberConfig::new("a", &inner(i))])).collect()
 }
 
+/// As many bytes of any kind.
+fn bytes(long: usize) -> Vec<u8> {
+    (0..long).map(|i| (i * 37 + 11) as u8).collect()
+}
+
 /// A value's bytes: any bits, but texts of 80 characters.
 fn image(types: &Types, ty: Ty, count: u64) -> Vec<u8> {
-    let mut image: Vec<u8> = (0..types.size(ty) * count.max(1) as usize).map(|i| (i * 37 + 11) as u8).collect();
+    let mut image = bytes(types.size(ty) * count.max(1) as usize);
     if ty == types.lookup("STRING").expect("it is predefined") {
         for string in image.chunks_mut(88) {
             string[..4].copy_from_slice(&80u32.to_le_bytes());
@@ -99,6 +112,7 @@ impl Work {
         let head = |ty, count: u64| [&type_word(ty).to_le_bytes()[..], &count.to_le_bytes()].concat();
         match self.what {
             What::Build => (self.build(), 0),
+            What::Handle(long) => (bytes(long), 0),
             What::Read(name, count) => {
                 let (ty, image) = self.value(&judge, name, count);
                 let stream = judge.stream(ty, count, &image).expect("there is no float");
@@ -118,10 +132,20 @@ impl Work {
         self.question().1
     }
 
-    /// The port's input: a build, and the question so many times.
+    /// The port's program that does it.
+    pub fn program(&self) -> &'static str {
+        match self.what {
+            What::Handle(_) => "handles",
+            _ => "answers",
+        }
+    }
+
+    /// The port's input: a build, where the program takes one, and the question so many times.
     pub fn questions(&self, times: usize) -> Vec<u8> {
         let mut out = Vec::new();
-        frames::write(&mut out, &self.build()).expect("memory takes it");
+        if self.program() == "answers" {
+            frames::write(&mut out, &self.build()).expect("memory takes it");
+        }
         let (question, _) = self.question();
         for _ in 0..times {
             frames::write(&mut out, &question).expect("memory takes it");
@@ -137,6 +161,12 @@ impl Work {
                 let types = (self.types)();
                 for _ in 0..times {
                     black_box(Types::build(black_box(&types)).is_ok());
+                }
+            }
+            What::Handle(long) => {
+                let template = bytes(long);
+                for _ in 0..times {
+                    black_box(fold::structure_handle(black_box(&template)));
                 }
             }
             What::Read(name, count) => {

@@ -7,8 +7,8 @@ use oracle::options::Options;
 use std::collections::BTreeSet;
 use std::path::Path;
 
-/// The kinds that the port answers today.
-const KINDS: &str = "1,2,3,4,5,6,7,8,10";
+/// All kinds.
+const KINDS: &str = "1,2,3,4,5,6,7,8,9,10";
 /// The most bytes that the list may have.
 const MOST: usize = 320_000;
 
@@ -61,6 +61,18 @@ fn the_original_refuses_what_the_document_does() {
             let accepted = matches!(answer, Some(Expect::Bytes(_)));
             assert!(!accepted || [2, 13].contains(&number), "{}", oracle::text::case(&case, 200));
             assert_eq!(answer.is_none(), number == 255, "{}", oracle::text::case(&case, 200));
+        }
+    }
+}
+
+/// The normal images that are written out are what the original's values say.
+#[test]
+fn the_normal_images_are_the_originals() {
+    let mut judge = Judge::default();
+    for case in recorded() {
+        let answer = judge.answer(&case.question);
+        if let (9, Expect::Bytes(bytes)) = (case.kind(), &case.expect) {
+            assert!(matches!(&answer, Some(Expect::Bytes(b)) if b == bytes), "{}", oracle::text::case(&case, 200));
         }
     }
 }

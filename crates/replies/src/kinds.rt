@@ -3,6 +3,7 @@ ghost use Prim.Native.Nat.{_≤_};
 ghost use lib.ListN.{length};
 ghost use Rattle.types.specs.Kept.{Kept};
 use crate::describe::describe;
+use crate::normals::tell_normal;
 use crate::puts::BODY;
 use crate::puts::MOST_ROOM;
 use crate::puts::accept;
@@ -233,6 +234,9 @@ fn tell(
     }
     if kind == 8 {
         return tell_header(rest, types, out);
+    }
+    if kind == 9 {
+        return tell_normal(rest, types, members, names, out);
     }
     if kind == 10 {
         return tell_lookup(rest, types, members, names, out);

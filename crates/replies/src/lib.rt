@@ -1,8 +1,9 @@
 // The answer to a question, in bytes: the public calls of `types` and `values` behind one call. The first byte of a
 // question is its kind; an answer begins with a refusal's number and place, and what was asked for follows where the
-// number is 0. Here: kinds 1 to 8 and 10.
+// number is 0. Kinds 1 to 10.
 mod describe;
 mod kinds;
+mod normals;
 mod puts;
 mod shapes;
 mod streams;

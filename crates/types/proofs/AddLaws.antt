@@ -1,22 +1,18 @@
 -- Laws of adding a type: the parts of a layout are stored and read back, so the new row's handle is that of the
 -- definition; one law for each way that a type is added or refused.
-use Prim.Native.Nat.{ℕ, zero, suc, _+_, _*_, _/_, _%_, _<_, _≤_}
+use Prim.Native.Nat.{ℕ, zero, suc, _+_, _*_, _%_, _<_, _≤_}
 use native.Mathlib.Omega.{arith}
-use mathlib.Core.Path.{_≡_, refl, sym, ap, _∙_}
+use mathlib.Core.Path.{_≡_, sym, ap, _∙_}
 use mathlib.Core.Bool.{Bool, true, false}
 use mathlib.Core.List.{List, [], _∷_, _++_}
-use lib.ListN.{length, getD, length-append}
+use lib.ListN.{length}
 use lib.Seq.{sets}
 use Rattle.types.specs.declared.layout.Cursor.{Cursor}
 use Rattle.types.specs.declared.layout.Decl.{Decl}
-use Rattle.types.specs.declared.layout.Placed.{Placed}
-use Rattle.types.specs.declared.member.StructDef.{StructDef}
 use Rattle.types.specs.declared.member.StructKind.{StructKind}
 use Rattle.types.specs.declared.refusal.Refusal.the-variants.{TablesFull}
-use Rattle.types.specs.declared.used.Turn.the-variants.{Refused, Added}
 use Rattle.types.specs.declared.used.Used.{Used}
-use Rattle.types.specs.Add.{Verdict, no, yes, hasRoom, usedIn, newDef, fitted, Took, Usable}
-use Rattle.types.specs.Book.{listFrom}
+use Rattle.types.specs.Add.{no, yes, hasRoom, usedIn, newDef, fitted, Usable}
 use Rattle.types.specs.Defs.{Part, Def}
 use Rattle.types.specs.Digits.{hostName}
 use Rattle.types.specs.Handle.{handleOf}
@@ -24,10 +20,10 @@ use Rattle.types.specs.Ids.{idWord}
 use Rattle.types.specs.Laid.{Earlier, Every}
 use Rattle.types.specs.Layout.{opened, nextBit}
 use Rattle.types.specs.Lookup.{rowName}
-use Rattle.types.specs.Registry.{View, idAt, ownNames, viewIn, headOf, withHandle, usedMore}
-use Rattle.types.specs.Structs.{namesOf, rowsOf, named, thenParts, partsFrom, hostParts, aoiHosts, aoiStart}
-use Rattle.types.specs.Structs.{aoiParts, enableParts, udtStart, udtParts, stringParts}
-use Rattle.types.specs.Tables.{typeAt, typeRow}
+use Rattle.types.specs.Registry.{View, idAt, viewIn, headOf, withHandle}
+use Rattle.types.specs.Structs.{namesOf, rowsOf, thenParts, partsFrom, hostParts, aoiHosts, aoiStart}
+use Rattle.types.specs.Structs.{aoiParts, udtStart, udtParts, stringParts}
+use Rattle.types.specs.Tables.{typeAt}
 use Rattle.types.specs.Template.{idsIn, templateIn, templateOf}
 use Rattle.types.proofs.AgreeLaws.{template-same, length-list, getD-list}
 use Rattle.types.proofs.DefLaws.{PartFits, def-back}

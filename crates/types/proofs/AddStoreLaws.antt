@@ -1,33 +1,30 @@
 -- Laws of storing a new type: what its declared members give its functions to count on, and how the stored name, parts
 -- and row are what the definition says.
-use Prim.Native.Nat.{ℕ, zero, suc, _+_, _*_, _^_, _<_, _≤_}
+use Prim.Native.Nat.{ℕ, zero, suc, _+_, _*_, _<_, _≤_}
 use native.Mathlib.Omega.{arith}
 use mathlib.Core.Path.{_≡_, refl, sym, ap, _∙_}
 use mathlib.Core.Bool.{Bool, true, false, _&&_}
-use mathlib.Core.List.{List, [], _∷_, _++_}
+use mathlib.Core.List.{List, _++_}
 use borrow.Author.Tests.{ltb-true, leb-true}
 use lib.Dec.{leb, ltb}
-use lib.ListN.{length, getD, length-append}
+use lib.ListN.{length, getD}
 use lib.Seq.{sets}
 use Rattle.words.specs.Words.{Bytes}
 use Rattle.words.proofs.Lists.{sets-append}
 use Rattle.words.proofs.WordLaws.{word-below}
-use Rattle.types.specs.declared.layout.Cursor.{Cursor}
-use Rattle.types.specs.declared.layout.Decl.{Decl}
-use Rattle.types.specs.declared.measure.Measured.the-variants.{Laid, AccessWrong as accessWrong, TooFar as tooFar}
 use Rattle.types.specs.declared.member.StructDef.{StructDef}
 use Rattle.types.specs.declared.member.StructKind.{StructKind}
 use Rattle.types.specs.declared.refusal.Refusal.{Refusal}
-use Rattle.types.specs.declared.refusal.Refusal.the-variants.{AccessWrong, MemberTooFar, TablesFull}
+use Rattle.types.specs.declared.refusal.Refusal.the-variants.{TablesFull}
 use Rattle.types.specs.declared.used.Turn.{Turn}
 use Rattle.types.specs.declared.used.Turn.the-variants.{Refused, Added}
 use Rattle.types.specs.declared.used.Used.{Used}
-use Rattle.types.specs.Add.{Verdict, no, yes, hasRoom, newDef, fitted, turnAfter, Took, Usable, Declared}
+use Rattle.types.specs.Add.{Verdict, no, hasRoom, newDef, fitted, Took, Usable, Declared}
 use Rattle.types.specs.Defs.{Part, Def, Readable}
 use Rattle.types.specs.Entries.{declAt, declsFrom, resolved, Found}
 use Rattle.types.specs.Handle.{handleOf}
-use Rattle.types.specs.Laid.{Earlier, Every}
-use Rattle.types.specs.Registry.{ownNames, viewIn, headOf, bareHead, withHandle, usedWith}
+use Rattle.types.specs.Laid.{Every}
+use Rattle.types.specs.Registry.{viewIn, headOf, bareHead, withHandle, usedWith}
 use Rattle.types.specs.Structs.{namesOf, rowsOf, namedIn}
 use Rattle.types.specs.Tables.{tyOf, typeRow}
 use Rattle.types.specs.Template.{templateIn}

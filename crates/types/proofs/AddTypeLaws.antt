@@ -1,7 +1,6 @@
 -- Laws of adding a type, in the document's order: one for each way out of a test, and what is carried on.
-use Prim.Native.Nat.{ℕ, _+_, _^_, _-_, _<_, _≤_}
-use native.Mathlib.Omega.{arith}
-use mathlib.Core.Path.{_≡_, refl, sym, ap, _∙_}
+use Prim.Native.Nat.{ℕ, _^_, _-_, _<_, _≤_}
+use mathlib.Core.Path.{_≡_, sym, _∙_}
 use mathlib.Core.Bool.{Bool, true, false, not, _&&_}
 use mathlib.Core.List.{List, []}
 use borrow.Author.Tests.{eq-eqb, ne-eqb, le-leb, lt-leb, leb-true}
@@ -19,14 +18,13 @@ use Rattle.types.specs.declared.member.StructKind.the-variants.{Str}
 use Rattle.types.specs.declared.member.Ty.{Ty}
 use Rattle.types.specs.declared.refusal.Refusal.the-variants.{NameOutsideRule, NameKnown, IdOutsideRange, IdInUse}
 use Rattle.types.specs.declared.refusal.Refusal.the-variants.{NoIdFree, StringWrong, MemberTwice, LocalOutsideAoi}
-use Rattle.types.specs.Add.{Verdict, no, addUdt, addAoi, addMembers, addString, addNamed, addFresh, addEntry}
+use Rattle.types.specs.Add.{no, addUdt, addAoi, addMembers, addString, addNamed, addFresh, addEntry}
 use Rattle.types.specs.Add.{isAoi, isString, hasId, stringOk, newDef, fitted}
 use Rattle.types.specs.Checks.{checked, entriesFrom}
 use Rattle.types.specs.Ids.{idFor}
 use Rattle.types.specs.Lookup.{typeAmong}
 use Rattle.types.specs.Names.{goodName, nameBytes}
 use Rattle.types.specs.Registry.{View}
-use Rattle.types.specs.Resolve.{isFound}
 use Rattle.types.specs.Structs.{stringParts, stringSize}
 use Rattle.types.proofs.TestLaws.{and-left, and-right}
 

@@ -1,9 +1,9 @@
 -- Laws of adding a UDT: the ways out, and what is known where it can be laid out and there is room.
-use Prim.Native.Nat.{ℕ, _+_, _*_, _^_, _<_, _≤_}
+use Prim.Native.Nat.{ℕ, _+_, _*_, _^_, _≤_}
 use native.Mathlib.Omega.{arith}
-use mathlib.Core.Path.{_≡_, refl, sym, ap, _∙_}
+use mathlib.Core.Path.{_≡_, sym, _∙_}
 use mathlib.Core.Bool.{Bool, true, false}
-use mathlib.Core.List.{List, [], _∷_, _++_}
+use mathlib.Core.List.{List, _++_}
 use lib.ListN.{length, length-append}
 use lib.Seq.{sets}
 use Rattle.words.specs.Words.{Bytes}
@@ -15,7 +15,7 @@ use Rattle.types.specs.declared.refusal.Refusal.the-variants.{AccessWron
 use Rattle.types.specs.declared.used.Turn.{Turn}
 use Rattle.types.specs.declared.used.Turn.the-variants.{Refused, Added}
 use Rattle.types.specs.declared.used.Used.{Used}
-use Rattle.types.specs.Add.{Verdict, hasRoom, newDef, fitted, addUdt, Took, Usable, Declared}
+use Rattle.types.specs.Add.{hasRoom, newDef, fitted, addUdt, Took, Usable, Declared}
 use Rattle.types.specs.Defs.{Part, Readable}
 use Rattle.types.specs.Digits.{hostName}
 use Rattle.types.specs.Entries.{declsFrom}

@@ -2,16 +2,16 @@
 -- and are its parts.
 use Prim.Native.Nat.{ℕ, _+_, _*_, _≤_}
 use native.Mathlib.Omega.{arith}
-use mathlib.Core.Path.{_≡_, refl, sym, ap, _∙_}
-use mathlib.Core.List.{List, [], _∷_, _++_}
+use mathlib.Core.Path.{_≡_, sym, _∙_}
+use mathlib.Core.List.{List, _++_}
 use lib.ListN.{length, length-append}
 use lib.Seq.{sets}
 use Rattle.types.specs.Defs.{Part}
 use Rattle.types.specs.Digits.{hostName}
-use Rattle.types.specs.Entries.{declsFrom, Found}
-use Rattle.types.specs.Structs.{namesOf, rowsOf, partsFrom, namedIn, hostParts, enableParts, aoiStart, aoiHosts}
+use Rattle.types.specs.Entries.{declsFrom}
+use Rattle.types.specs.Structs.{namesOf, rowsOf, partsFrom, namedIn, hostParts, enableParts, aoiStart}
 use Rattle.types.specs.Structs.{aoiParts}
-use Rattle.types.specs.Structs.{Far, Put, Storable, StorableAoi}
+use Rattle.types.specs.Structs.{Put, Storable, StorableAoi}
 use Rattle.types.proofs.StoreLaws.{names-append, rows-then, names-then}
 use Rattle.types.proofs.BoundLaws.{hosts-count}
 

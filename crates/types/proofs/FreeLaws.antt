@@ -3,8 +3,8 @@
 use Prim.Native.Nat.{ℕ, _+_, _-_, _*_, _/_, _%_, _≤_, _<_}
 use native.Mathlib.Nat.{div-add-mod', mod-lt}
 use native.Mathlib.Omega.{arith}
-use mathlib.Core.Path.{_≡_, refl}
-use mathlib.Core.Bool.{true, false}
+use mathlib.Core.Path.{_≡_, refl, sym, ap, _∙_}
+use mathlib.Core.Bool.{true, false, true≢false}
 use mathlib.Core.List.{List, _∷_}
 use mathlib.Core.Logic.{_⊎_, inl, inr, ⊎-map}
 use Rattle.types.specs.declared.layout.Cursor.{Cursor}
@@ -13,9 +13,10 @@ use Rattle.types.specs.declared.layout.Host.{Host}
 use Rattle.types.specs.declared.layout.Host.the-variants.{Closed, Open, Shared}
 use Rattle.types.specs.declared.layout.Placed.{Placed}
 use Rattle.types.specs.declared.layout.Placed.the-variants.{Hosted, One, AccessWrong, TooFar}
+use Rattle.types.specs.declared.member.Bit.the-variants.{At}
 use Rattle.types.specs.declared.member.Member.{Member}
 use Rattle.types.specs.Atomic.{sizeOf}
-use Rattle.types.specs.Laid.{firstBit, pastBit, Apart, Earlier, Resolved}
+use Rattle.types.specs.Laid.{firstBit, pastBit, Apart, Earlier, hasBit, Plain, Resolved}
 use Rattle.types.specs.Layout.{times, isBool, alignUp, otherAt, opened, nextBit, closed, startOf, endOf, placed}
 use Rattle.types.specs.Layout.{sharedBits}
 use Rattle.types.specs.Structs.{bools}
@@ -60,6 +61,7 @@ module _ (sizes : ℕ → ℕ) (limit i : ℕ) (c : Cursor) (ds : List Decl) whe
     pub ready : Ready limit c′ ds
     pub apart : (x : Member) → Taken sizes limit c x → Apart sizes x m
     pub taken : Taken sizes limit c′ m
+    pub onto : Plain m → 8 * c .offset ≤ firstBit m
     pub keeps : (first past : ℕ) → Used limit c first past → Used limit c′ first past
 
   -- a hidden host is placed
@@ -75,6 +77,10 @@ module _ (sizes : ℕ → ℕ) (limit i : ℕ) (c : Cursor) (ds : List Decl) whe
   Stepped TooFar = Unit {0}
 
 -- ---- its parts
+
+-- a BOOL of a host is not plain
+pub not-plain : {A : Type 0} {m : Member} {k : ℕ} → m .bit ≡ At k → Plain m → A
+not-plain e p = absurd (true≢false (sym (ap hasBit e) ∙ ap hasBit (p .whole)))
 
 -- the lowest multiple of a from x on is not below x
 align-least : (x a : ℕ) → 0 < a → x ≤ alignUp x a
@@ -133,6 +139,7 @@ module _ {sizes : ℕ → ℕ} {limit i : ℕ} {c : Cursor} {d : Decl} {ds : Lis
       ready = record { before = omega arith; enough = omega (arith, bools-on d ds b) };
       apart = λ x u. inl (omega (arith, u .before));
       taken = record { before = omega arith; beside = inl (omega arith) };
+      onto = λ w. not-plain refl w;
       keeps = λ first past u. record { before = omega arith; beside = inl (omega arith) };
     },
   )
@@ -148,6 +155,7 @@ module _ {sizes : ℕ → ℕ} {limit i : ℕ} {c : Cursor} {d : Decl} {ds : Lis
         ready = record { before = omega arith; enough = n };
         apart = λ x u. ⊎-map (λ a. omega arith) (λ a. omega arith) (u .beside);
         taken = record { before = omega arith; beside = inl (omega arith) };
+        onto = λ w. not-plain refl w;
         keeps = λ first past u.
             record { before = u .before; beside = ⊎-map (λ a. omega arith) (λ a. omega arith) (u .beside) };
       }
@@ -165,6 +173,7 @@ module _ {sizes : ℕ → ℕ} {limit i : ℕ} {c : Cursor} {d : Decl} {ds : Lis
         ready = record { before = omega arith; enough = rw closed-shared (omega (arith, bools-off d ds b)) };
         apart = λ x u. inl (omega (arith, u .before));
         taken = record { before = omega arith; beside = inr (omega arith) };
+        onto = λ w. omega arith;
         keeps = λ first past u. record { before = omega arith; beside = closed-beside limit (c .host) (u .beside) };
       }
 

@@ -8,20 +8,18 @@ use mathlib.Core.Path.{_≡_, refl, sym, ap, _∙_}
 use mathlib.Core.List.{List, [], _∷_, map}
 use lib.ListN.{length, getD, drop, length-append}
 use Rattle.words.proofs.Lists.{length-part}
-use Rattle.types.specs.declared.member.Bit.{Bit}
-use Rattle.types.specs.declared.member.Bit.the-variants.{None, At}
+use Rattle.types.specs.declared.member.Bit.the-variants.{None}
 use Rattle.types.specs.declared.member.Member.{Member}
 use Rattle.types.specs.declared.member.StructDef.{StructDef}
 use Rattle.types.specs.declared.member.StructKind.the-variants.{Udt, Str}
 use Rattle.types.specs.declared.member.Ty.{Ty}
 use Rattle.types.specs.declared.member.Ty.the-variants.{Atomic, Struct}
-use Rattle.types.specs.Defs.{Part, Def, nameIn, partAt, partsAt, defOf}
-use Rattle.types.specs.Ids.{idWord}
+use Rattle.types.specs.Defs.{Part, Def, partAt, partsAt, defOf}
 use Rattle.types.specs.Laid.{Earlier, Lies, Laid, Every}
 use Rattle.types.specs.Layout.{times}
-use Rattle.types.specs.Listing.{Short, StructNamed, TypeNamed, Listable}
+use Rattle.types.specs.Listing.{Short, TypeNamed, Listable}
 use Rattle.types.specs.Lookup.{NamesInside}
-use Rattle.types.specs.Registry.{ownNames, membersOf, bytesOf, headOf, typesTable, membersTable, namesTable}
+use Rattle.types.specs.Registry.{typesTable, membersTable, namesTable}
 use Rattle.types.specs.Registry.{typeCount}
 use Rattle.types.specs.Structs.{namesOf, stringParts}
 use Rattle.types.specs.Tables.{kindOf, memberAt, nameAt, typeAt}
@@ -30,11 +28,11 @@ use Rattle.types.proofs.CountLaws.{count-of}
 use Rattle.types.proofs.LaidLaws.{part-lies}
 use Rattle.types.proofs.RegistryLaws.{names-long, word-after}
 use Rattle.types.proofs.RoundsKeep.{Good}
-use Rattle.types.proofs.ShownLaws.{noDef, Row, Shown, sizes-same, names-inside, all-readable}
+use Rattle.types.proofs.ShownLaws.{noDef, Row, sizes-same, names-inside, all-readable}
 use Rattle.types.proofs.ShortLaws.{ShortPart}
 use Rattle.types.proofs.StringLaws.{StringRow, string-bytes}
 use Rattle.types.proofs.TemplateLaws.{parts-long}
-use Rattle.types.proofs.WellLaws.{WellMade, sizesOf, laid-same}
+use Rattle.types.proofs.WellLaws.{sizesOf, laid-same}
 
 -- ---- parts by their numbers
 

@@ -1,18 +1,16 @@
 -- What follows from tables as our own calls left them (document 01, "What promises shut out"): each call's conditions,
 -- and that every type is laid out well. A build keeps it.
 use Prim.Native.Nat.{ℕ, _+_, _^_, _<_, _≤_}
-use native.Mathlib.Omega.{arith}
-use mathlib.Core.Path.{_≡_, refl, sym, ap, _∙_}
+use mathlib.Core.Path.{_≡_, refl}
 use mathlib.Core.Bool.{Bool, true, false, cond}
 use mathlib.Core.List.{List, []}
-use lib.ListN.{length}
 use Rattle.words.specs.Words.{Bytes}
 use Rattle.types.specs.declared.building.Built.{Built}
 use Rattle.types.specs.declared.member.StructKind.the-variants.{Str}
 use Rattle.types.specs.declared.refusal.Refusal.{Refusal}
 use Rattle.types.specs.declared.refusal.Refusal.the-variants.{BookMalformed, PredefinedIds}
 use Rattle.types.specs.Book.{bookOk}
-use Rattle.types.specs.Build.{buildOf, typesBuilt, membersBuilt, namesBuilt, Ended}
+use Rattle.types.specs.Build.{buildOf, Ended}
 use Rattle.types.specs.Defs.{Def, AllReadable, partsAt}
 use Rattle.types.specs.Kept.{Made, none, built, Kept, Listed}
 use Rattle.types.specs.Laid.{Laid}

@@ -1,5 +1,6 @@
--- Every layout is laid (document 01, "Layout"): each part has an earlier type and lies inside the size, and no two
--- visible parts share a bit. A UDT, an AOI, a string, and the predefined types.
+-- Every layout is laid (document 01, "Layout"): each part has an earlier type and lies inside the size, no two visible
+-- parts share a bit, and those that are no BOOLs stand in their order. A UDT, an AOI, a string, and the predefined
+-- types.
 use Prim.Native.Nat.{ℕ, zero, suc, _+_, _-_, _*_, _≤_, _<_}
 use native.Mathlib.Omega.{arith}
 use mathlib.Core.Path.{_≡_, refl, sym, _∙_}
@@ -12,17 +13,18 @@ use Rattle.types.specs.declared.layout.Decl.{Decl}
 use Rattle.types.specs.declared.layout.Placed.{Placed}
 use Rattle.types.specs.declared.layout.Placed.the-variants.{Hosted, One, AccessWrong, TooFar}
 use Rattle.types.specs.declared.measure.Measured.the-variants.{Laid as Ended}
+use Rattle.types.specs.declared.member.Bit.the-variants.{At}
 use Rattle.types.specs.declared.member.Member.{Member}
 use Rattle.types.specs.Atomic.{sizeOf}
 use Rattle.types.specs.Defs.{Part}
 use Rattle.types.specs.Digits.{hostName}
-use Rattle.types.specs.Laid.{firstBit, Apart, Clear, Lies, Laid, Resolved, Every}
+use Rattle.types.specs.Laid.{firstBit, pastBit, Apart, Clear, Plain, Rising, Lies, Laid, Resolved, Every}
 use Rattle.types.specs.Layout.{times, alignUp, placed}
 use Rattle.types.specs.Structs.{named, thenParts, partsFrom, measured, sizeAt, udtStart, udtParts}
 use Rattle.types.specs.Structs.{bools, aoiHosts, bitHostAt, hostParts, enableAt, enableOut, aoiStart, aoiParts}
 use Rattle.types.specs.Structs.{stringParts, stringSize, dataOf, dintAt, statusAt, statusParts, ctlAt}
 use Rattle.types.specs.Structs.{controlParts}
-use Rattle.types.proofs.FreeLaws.{Ready, Taken, Step, HostStep, Stepped, steps}
+use Rattle.types.proofs.FreeLaws.{Ready, Taken, Step, HostStep, Stepped, not-plain, steps}
 use Rattle.types.proofs.LayoutLaws.{times-one, times-same}
 use Rattle.types.proofs.PlaceLaws.{Ends, no-access, no-far}
 
@@ -34,35 +36,65 @@ unfolding Clear
 hidden-clear sizes m h [] = tt
 hidden-clear sizes m h (p ∷ ps) = (λ v w. absurd (true≢false (sym h ∙ v)), hidden-clear sizes m h ps)
 
+-- a part that is not plain stands in no order
+free-rising : (sizes : ℕ → ℕ) (m : Member) → (Plain m → ⊥) → (ps : List Part) → Rising sizes m ps
+unfolding Rising
+free-rising sizes m f [] = tt
+free-rising sizes m f (p ∷ ps) = (λ v w. absurd (f v), free-rising sizes m f ps)
+
+hidden-rising : (sizes : ℕ → ℕ) (m : Member) → m .hidden ≡ true → (ps : List Part) → Rising sizes m ps
+hidden-rising sizes m h ps = free-rising sizes m (λ v. true≢false (sym h ∙ v .visible)) ps
+
+bool-rising : (sizes : ℕ → ℕ) (m : Member) (k : ℕ) → m .bit ≡ At k → (ps : List Part) → Rising sizes m ps
+bool-rising sizes m k e ps = free-rising sizes m (λ v. not-plain e v) ps
+
 -- what holds of the parts from a cursor on, in a structure of so many bytes: nothing of what was before is in their way
 record Rest (sizes : ℕ → ℕ) (limit i size : ℕ) (c : Cursor) (ps : List Part) : Type 0 where
   room : c .offset ≤ size
   laid : Laid sizes i size ps
   clear : (m : Member) → Taken sizes limit c m → Clear sizes m ps
+  rising : (m : Member) → pastBit sizes m ≤ 8 * c .offset → Rising sizes m ps
 
 module _ {sizes : ℕ → ℕ} {limit i size : ℕ} {c c′ : Cursor} {ds : List Decl}
     {m : Member} {name : List ℕ} {ps : List Part} where
   -- a visible part before the others
   one-more : Step sizes limit i c ds m c′ → Rest sizes limit i size c′ ps
       → Rest sizes limit i size c (named name m ∷ ps)
-  unfolding Laid Clear
+  unfolding Laid Clear Rising
   one-more s r =
       record {
         room = omega arith;
-        laid = (record { earlier = s .earlier; inside = omega arith; clear = r .clear m (s .taken) }, r .laid);
+        laid = (
+          record {
+            earlier = s .earlier;
+            inside = omega arith;
+            clear = r .clear m (s .taken);
+            rising = r .rising m (s .taken .before);
+          },
+          r .laid,
+        );
         clear = λ x u. (λ v w. s .apart x u, r .clear x (s .keeps _ _ u));
+        rising = λ x u. (λ v w. omega (arith, u, s .onto w), r .rising x (omega (arith, u, s .onward)));
       }
 
   -- a hidden part before the others
   host-more : HostStep sizes limit i c ds m c′ → c′ .offset ≤ size → Rest sizes limit i size c ps
       → Rest sizes limit i size c (named name m ∷ ps)
-  unfolding Laid Clear
+  unfolding Laid Clear Rising
   host-more s l r =
-      let unseen = hidden-clear sizes m (s .hidden) ps in
       record {
         room = r .room;
-        laid = (record { earlier = s .earlier; inside = omega arith; clear = unseen }, r .laid);
+        laid = (
+          record {
+            earlier = s .earlier;
+            inside = omega arith;
+            clear = hidden-clear sizes m (s .hidden) ps;
+            rising = hidden-rising sizes m (s .hidden) ps;
+          },
+          r .laid,
+        );
         clear = λ x u. (λ v w. absurd (true≢false (sym (s .hidden) ∙ w)), r .clear x u);
+        rising = λ x u. (λ v w. absurd (true≢false (sym (s .hidden) ∙ w .visible)), r .rising x u);
       }
 
 module _ (sizes : ℕ → ℕ) (limit i size : ℕ) (name : Decl → List ℕ) (host : ℕ → List ℕ) (e : Cursor) (n : ℕ) where
@@ -83,10 +115,10 @@ module _ (sizes : ℕ → ℕ) (limit i size : ℕ) (name : Decl → List ℕ) (
   rest-then c d n₀ ds go TooFar s q = no-far q
 
   rest : (ds : List Decl) → Every (Resolved sizes i) ds → e .offset ≤ size → Goes ds
-  unfolding Every measured partsFrom Laid Clear
+  unfolding Every measured partsFrom Laid Clear Rising
   rest [] rs l c n₀ k q =
       let z : c ≡ e = cc in
-      record { room = rw z l; laid = tt; clear = λ m u. tt }
+      record { room = rw z l; laid = tt; clear = λ m u. tt; rising = λ m u. tt }
   rest (d ∷ ds) (r, rs) l c n₀ k q = rest-then c d n₀ ds (rest ds rs l) (placed c d) (steps k r) q
 
 -- the size is not below the offset that it is rounded from
@@ -112,8 +144,15 @@ module _ (sizes : ℕ → ℕ) (i : ℕ) where
   unfolding hostParts Laid sizeOf times
   hosts-laid size k zero ps l r = r
   hosts-laid size k (suc h) ps l r =
-      let clear = hidden-clear sizes (bitHostAt k) refl (hostParts (k + 1) h ++ ps) in
-      (record { earlier = tt; inside = omega arith; clear = clear }, hosts-laid size (k + 1) h ps (omega arith) r)
+      let rest = hostParts (k + 1) h ++ ps in (
+        record {
+          earlier = tt;
+          inside = omega arith;
+          clear = hidden-clear sizes (bitHostAt k) refl rest;
+          rising = hidden-rising sizes (bitHostAt k) refl rest;
+        },
+        hosts-laid size (k + 1) h ps (omega arith) r,
+      )
 
   -- EnableIn and EnableOut have bits 0 and 1, and all BOOLs to come fit into the hosts
   pub aoi-laid : (name : Decl → List ℕ) (type : List ℕ) (ds : List Decl) (n₀ : ℕ) (c : Cursor) (n : ℕ)
@@ -128,22 +167,34 @@ module _ (sizes : ℕ → ℕ) (i : ℕ) where
       let others = partsFrom name (hostName type) start ds in
       let clear : (bit : ℕ) → bit < 2 → Clear sizes (enableAt bit) others =
       λ bit b. r .clear (enableAt bit) (record { before = omega arith; beside = inl (omega arith) }) in
-      let out : Laid sizes i (sizeAt c) (named enableOut (enableAt 1) ∷ others) =
-      (record { earlier = tt; inside = omega arith; clear = clear 1 (omega arith) }, r .laid) in
+      let unordered : (bit : ℕ) (ps : List Part) → Rising sizes (enableAt bit) ps =
+      λ bit ps. bool-rising sizes (enableAt bit) bit refl ps in
+      let out : Laid sizes i (sizeAt c) (named enableOut (enableAt 1) ∷ others) = (
+        record { earlier = tt; inside = omega arith; clear = clear 1 (omega arith); rising = unordered 1 others },
+        r .laid,
+      ) in
       let apart : Clear sizes (enableAt 0) (named enableOut (enableAt 1) ∷ others) =
       (λ v w. inl (omega arith), clear 0 (omega arith)) in
-      hosts-laid (sizeAt c) 0 h _ (omega arith) (record { earlier = tt; inside = omega arith; clear = apart }, out)
+      hosts-laid (sizeAt c) 0 h _ (omega arith)
+      (record { earlier = tt; inside = omega arith; clear = apart; rising = unordered 0 _ }, out)
 
   -- ---- strings
 
   pub string-laid : (c : ℕ) → 0 < c → Laid sizes i (stringSize c) (stringParts c)
-  unfolding stringParts stringSize alignUp Laid Clear sizeOf
+  unfolding stringParts stringSize alignUp Laid Clear Rising sizeOf
   string-laid c l =
       let one : 1 ≡ times 0 = times-one 0 refl in
       let all : c ≡ times c = times-same c (omega arith) in
       let data-laid : Laid sizes i (stringSize c) (named (68 ∷ 65 ∷ 84 ∷ 65 ∷ []) (dataOf c) ∷ []) =
-      (record { earlier = tt; inside = omega arith; clear = tt }, tt) in
-      (record { earlier = tt; inside = omega arith; clear = (λ v w. inl (omega arith), tt) }, data-laid)
+      (record { earlier = tt; inside = omega arith; clear = tt; rising = tt }, tt) in (
+        record {
+          earlier = tt;
+          inside = omega arith;
+          clear = (λ v w. inl (omega arith), tt);
+          rising = (λ v w. omega arith, tt);
+        },
+        data-laid,
+      )
 
   -- ---- predefined
 
@@ -160,24 +211,48 @@ module _ (sizes : ℕ → ℕ) (i : ℕ) where
   status-laid k [] l = tt
   status-laid k (b ∷ bits) l =
       let below = status-clear (statusAt k) (k + 1) bits (omega arith) (omega arith) in
-      (record { earlier = tt; inside = omega arith; clear = below }, status-laid (k + 1) bits (omega arith))
+      let unordered = bool-rising sizes (statusAt k) _ refl (statusParts (k + 1) bits) in (
+        record { earlier = tt; inside = omega arith; clear = below; rising = unordered },
+        status-laid (k + 1) bits (omega arith),
+      )
+
+  -- and are in no order with a word
+  status-rising : (m : Member) (k : ℕ) (bits : List (List ℕ)) → Rising sizes m (statusParts k bits)
+  unfolding statusParts Rising
+  status-rising m k [] = tt
+  status-rising m k (b ∷ bits) = (λ v w. not-plain refl w, status-rising m (k + 1) bits)
 
   -- CTL has 32 bits, below both words
   pub control-laid : (one two : List ℕ) (bits : List (List ℕ)) → length bits ≤ 32
       → Laid sizes i 12 (controlParts one two bits)
-  unfolding controlParts Laid Clear sizeOf times
+  unfolding controlParts Laid Clear Rising sizeOf times
   control-laid one two bits l =
       let below : (m : Member) → 32 ≤ firstBit m → Clear sizes m (statusParts 0 bits) =
       λ m f. status-clear m 0 bits (omega arith) (omega arith) in
       let bools-laid = status-laid 0 bits (omega arith) in
       let second = named two (dintAt 8) ∷ statusParts 0 bits in
-      let second-laid : Laid sizes i 12 second =
-      (record { earlier = tt; inside = omega arith; clear = below (dintAt 8) (omega arith) }, bools-laid) in
+      let second-laid : Laid sizes i 12 second = (
+        record {
+          earlier = tt;
+          inside = omega arith;
+          clear = below (dintAt 8) (omega arith);
+          rising = status-rising (dintAt 8) 0 bits;
+        },
+        bools-laid,
+      ) in
       let first = named one (dintAt 4) ∷ second in
       let apart : Clear sizes (dintAt 4) second = (λ v w. inl (omega arith), below (dintAt 4) (omega arith)) in
+      let rising : Rising sizes (dintAt 4) second = (λ v w. omega arith, status-rising (dintAt 4) 0 bits) in
       let first-laid : Laid sizes i 12 first =
-      (record { earlier = tt; inside = omega arith; clear = apart }, second-laid) in
-      (record { earlier = tt; inside = omega arith; clear = hidden-clear sizes ctlAt refl first }, first-laid)
+      (record { earlier = tt; inside = omega arith; clear = apart; rising = rising }, second-laid) in (
+        record {
+          earlier = tt;
+          inside = omega arith;
+          clear = hidden-clear sizes ctlAt refl first;
+          rising = hidden-rising sizes ctlAt refl first;
+        },
+        first-laid,
+      )
 
 -- ---- parts by their numbers
 

@@ -1,7 +1,7 @@
 -- Laws of looking a type up: the structures that are left, one after the other.
 use Prim.Native.Nat.{ℕ, suc, _+_, _-_, _<_, _≤_}
 use native.Mathlib.Omega.{arith}
-use mathlib.Core.Path.{_≡_, refl, sym, ap, _∙_}
+use mathlib.Core.Path.{_≡_, sym, _∙_}
 use mathlib.Core.Bool.{Bool, true, false}
 use mathlib.Core.List.{List}
 use Rattle.types.specs.declared.lookups.FoundTy.the-variants.{Is, Nothing}

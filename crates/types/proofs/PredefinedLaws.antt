@@ -20,7 +20,7 @@ use Rattle.types.specs.Laid.{Every}
 use Rattle.types.specs.Predefined.{predefinedId, distinct, predefinedIds, added, Ready}
 use Rattle.types.specs.Predefined.{withTimer, withCounter, withControl, predefined}
 use Rattle.types.specs.Predefined.{timerName, counterName, controlName, stringName}
-use Rattle.types.specs.Registry.{viewIn, viewOf, membersOf, bytesOf, bareHead, withHandle, usedBy, usedWith}
+use Rattle.types.specs.Registry.{viewIn, viewOf, membersOf, bytesOf, bareHead, withHandle, usedWith}
 use Rattle.types.specs.Registry.{noTypes, noMembers, noNames, typeRows, memberRows, Stands}
 use Rattle.types.specs.Registry.{typesTable, membersTable, namesTable}
 use Rattle.types.specs.Structs.{namesOf, rowsOf, statusParts, controlParts, stringParts, stringSize}

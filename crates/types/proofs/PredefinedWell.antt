@@ -1,11 +1,9 @@
 -- The predefined types are laid out well (document 01, "Layout", Predefined).
-use Prim.Native.Nat.{ℕ, _≤_}
+use Prim.Native.Nat.{ℕ}
 use native.Mathlib.Omega.{arith}
 use mathlib.Core.Path.{refl}
-use mathlib.Core.List.{List, [], _∷_}
-use lib.ListN.{length}
+use mathlib.Core.List.{[]}
 use Rattle.types.specs.declared.member.StructKind.the-variants.{Predefined}
-use Rattle.types.specs.Defs.{Def}
 use Rattle.types.specs.Add.{newDef}
 use Rattle.types.specs.Book.{every}
 use Rattle.types.specs.Layout.{alignUp}
@@ -14,7 +12,7 @@ use Rattle.types.specs.Structs.{timerParts, counterParts, controlTypePar
 use Rattle.types.proofs.LaidLaws.{control-laid, string-laid}
 use Rattle.types.proofs.ShortLaws.{all-short, control-short, string-short}
 use Rattle.types.proofs.StringLaws.{string-is, other-kind}
-use Rattle.types.proofs.WellLaws.{Well, WellMade, sizesOf, well-none, well-more}
+use Rattle.types.proofs.WellLaws.{Well, sizesOf, well-none, well-more}
 
 module _ (timer counter control string : ℕ) where
   timer-well : Well (withTimer timer)

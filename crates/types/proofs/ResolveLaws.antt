@@ -1,9 +1,9 @@
 -- Laws of resolving member types: what is found is one of the known types, and the words of all are those found so far
 -- and those of the rest.
-use Prim.Native.Nat.{ℕ, zero, suc, _+_, _-_, _*_, _<_, _≤_}
+use Prim.Native.Nat.{ℕ, suc, _+_, _-_, _<_, _≤_}
 use native.Mathlib.Omega.{arith}
 use native.Mathlib.Nat.{zero-add}
-use mathlib.Core.Path.{_≡_, refl, sym, ap, _∙_}
+use mathlib.Core.Path.{_≡_, sym, _∙_}
 use mathlib.Core.Bool.{Bool, true, false, cond}
 use mathlib.Core.List.{List, [], _∷_}
 use lib.ListN.{length, set, length-set}
@@ -18,8 +18,8 @@ use Rattle.types.specs.Atomic.{atomicNamed}
 use Rattle.types.specs.Laid.{Earlier}
 use Rattle.types.specs.Lookup.{namedAmong, typeAmong, atomicOr}
 use Rattle.types.specs.Names.{sameName}
-use Rattle.types.specs.Resolve.{typeName, typeNames, thenWord, foundWords, Resolves}
-use Rattle.types.specs.Tables.{TyFits, tyWord}
+use Rattle.types.specs.Resolve.{typeName, typeNames, foundWords, Resolves}
+use Rattle.types.specs.Tables.{tyWord}
 use Rattle.types.proofs.BookLaws.{from-cons, from-none}
 
 -- ---- what is found

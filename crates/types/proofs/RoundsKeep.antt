@@ -1,8 +1,7 @@
 -- What rounds over a book keep: the tables show every type that was added, and every one is laid out well.
 use Prim.Native.Nat.{ℕ}
-use mathlib.Core.Path.{_≡_, refl, sym, ap, _∙_}
+use mathlib.Core.Path.{_≡_, refl}
 use mathlib.Core.List.{List, [], _∷_, _++_}
-use lib.ListN.{length}
 use Rattle.words.specs.Words.{Bytes}
 use Rattle.types.specs.declared.refusal.Refusal.{Refusal}
 use Rattle.types.specs.declared.refusal.Refusal.the-variants.{TypesUnknown}
@@ -10,7 +9,7 @@ use Rattle.types.specs.Add.{Verdict, no as against, yes as for}
 use Rattle.types.specs.Book.{typesIn}
 use Rattle.types.specs.Defs.{Def}
 use Rattle.types.specs.Registry.{viewOf}
-use Rattle.types.specs.Rounds.{Step, no, ok, accepted}
+use Rattle.types.specs.Rounds.{Step, ok, accepted}
 use Rattle.types.specs.Turns.{readyIn, verdictOn, stepOf, addIn, upFrom, roundsFrom}
 use Rattle.types.proofs.RoundLaws.{rounds-keep}
 use Rattle.types.proofs.ShownLaws.{noDef, Shown, shown-more}

@@ -1,14 +1,12 @@
 -- Laws of a sink (document 01, "Template and handle"): what comes in two pieces came as one, and what is left of a
 -- whole while its pieces come one after the other.
-use Prim.Native.Nat.{ℕ, suc, _+_, _≤_, _<_}
-use native.Mathlib.Nat.{add-zero}
-use native.Mathlib.Numerals.{add-one}
+use Prim.Native.Nat.{ℕ, _+_, _≤_}
 use native.Mathlib.Omega.{arith}
 use mathlib.Core.Path.{_≡_, refl, sym, ap, _∙_}
 use mathlib.Core.Bool.{Bool, true, false, cond}
 use mathlib.Core.List.{List, [], _++_}
-use lib.ListN.{length, getD, set, drop, length-append, length-set, drop-of-length-le}
-use lib.Seq.{sets, length-sets, drop-cons}
+use lib.ListN.{length, length-append}
+use lib.Seq.{sets, length-sets}
 use Rattle.words.proofs.Lists.{sets-append}
 use Rattle.types.specs.declared.sink.Sink.{Sink}
 use Rattle.types.specs.Handle.{foldFrom}

@@ -2,7 +2,7 @@
 -- the definition, and the registry with one type more.
 use Prim.Native.Nat.{ℕ, _<_, _≤_}
 use native.Mathlib.Omega.{arith}
-use mathlib.Core.Path.{_≡_, refl, sym, ap, _∙_}
+use mathlib.Core.Path.{_≡_, refl, ap}
 use mathlib.Core.Bool.{Bool, true, false, true≢false}
 use mathlib.Core.List.{List, [], _∷_, _++_, map-append}
 use lib.ListN.{length}
@@ -17,7 +17,7 @@ use Rattle.types.specs.Book.{typesIn, membersIn}
 use Rattle.types.specs.Checks.{entriesFrom}
 use Rattle.types.specs.Defs.{Def}
 use Rattle.types.specs.Lookup.{rowNames}
-use Rattle.types.specs.Registry.{View, viewIn, viewOf, usedMore, Stands}
+use Rattle.types.specs.Registry.{View, viewIn, viewOf, Stands}
 use Rattle.types.specs.Resolve.{typeNames, allKnown}
 use Rattle.types.specs.Turns.{entriesAt, countOf, usesOf, declsOf, readyIn, verdictOn, TurnIn, Turned, Tries}
 use Rattle.types.proofs.RegistryLaws.{members-long, names-long}

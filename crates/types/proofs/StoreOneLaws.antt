@@ -1,10 +1,10 @@
 -- Laws of one stored member: what its parts ask of the tables, and what they leave there.
-use Prim.Native.Nat.{ℕ, suc, _+_, _-_, _*_, _<_, _≤_}
-use native.Mathlib.Nat.{add-sub-cancel-left, add-assoc}
+use Prim.Native.Nat.{ℕ, _+_, _-_, _*_, _≤_}
+use native.Mathlib.Nat.{add-sub-cancel-left}
 use native.Mathlib.Omega.{arith}
-use mathlib.Core.Path.{_≡_, refl, sym, ap, _∙_}
-use mathlib.Core.List.{List, [], _∷_, _++_}
-use mathlib.Core.Logic.{_⊎_, inl, inr, ⊎-elim}
+use mathlib.Core.Path.{_≡_, sym, ap, _∙_}
+use mathlib.Core.List.{List, [], _∷_}
+use mathlib.Core.Logic.{_⊎_, ⊎-elim}
 use lib.ListN.{length, take, drop, length-append}
 use lib.Seq.{sets}
 use Rattle.words.specs.Words.{part}
@@ -16,7 +16,7 @@ use Rattle.types.specs.declared.layout.Placed.the-variants.{Hosted, One,
 use Rattle.types.specs.declared.member.Member.{Member}
 use Rattle.types.specs.declared.member.Span.{Span}
 use Rattle.types.specs.declared.store.Stored.the-variants.{Next, Stop}
-use Rattle.types.specs.Defs.{Part, nameIn}
+use Rattle.types.specs.Defs.{nameIn}
 use Rattle.types.specs.Digits.{hostName}
 use Rattle.types.specs.Layout.{placed, opened, nextBit}
 use Rattle.types.specs.Structs.{named, namesOf, rowsOf, oneParts, storedOne, Fits}

@@ -3,9 +3,9 @@
 use Prim.Native.Nat.{ℕ, _+_, _-_, _*_, _<_, _≤_}
 use native.Mathlib.Nat.{add-zero, sub-zero}
 use native.Mathlib.Omega.{arith}
-use mathlib.Core.Path.{_≡_, refl, sym, ap, _∙_}
+use mathlib.Core.Path.{_≡_, refl, sym, _∙_}
 use mathlib.Core.Bool.{true, false, true≢false}
-use mathlib.Core.List.{List, [], _∷_, _++_}
+use mathlib.Core.List.{List, [], _++_}
 use lib.ListN.{length, length-append}
 use lib.Seq.{sets}
 use Rattle.words.specs.Words.{Bytes}
@@ -22,7 +22,7 @@ use Rattle.types.specs.Digits.{hostName}
 use Rattle.types.specs.Entries.{declAt, declsFrom, Found}
 use Rattle.types.specs.Layout.{placed}
 use Rattle.types.specs.Structs.{namesOf, rowsOf, thenParts, thenMeasure, thenNext, partsFrom, namedIn, measureOne}
-use Rattle.types.specs.Structs.{oneParts, storedOne, Fair, Far, Fits, Storable}
+use Rattle.types.specs.Structs.{oneParts, storedOne, Far, Fits, Storable}
 use Rattle.types.proofs.DigitLaws.{host-most}
 use Rattle.types.proofs.EntryLaws.{decls-cons, decls-none, found-first, decl-fair, decl-ty}
 use Rattle.types.proofs.MeasureLaws.{far-on, near}

@@ -1,18 +1,17 @@
 -- Laws of rows: what was stored in a row is read back, and the other rows stay as they were.
-use Prim.Native.Nat.{ℕ, zero, suc, _+_, _-_, _*_, _/_, _%_, _≤_, _<_}
+use Prim.Native.Nat.{ℕ, _+_, _-_, _*_, _/_, _%_, _≤_, _<_}
 use native.Mathlib.Nat.{add-zero}
 use native.Mathlib.Omega.{arith}
-use mathlib.Core.Path.{_≡_, refl, sym, ap, _∙_}
+use mathlib.Core.Path.{_≡_, refl}
 use mathlib.Core.Bool.{Bool, true, false}
 use mathlib.Core.List.{List, [], _∷_}
-use mathlib.Core.Logic.{_⊎_, inl, inr, ⊎-elim, _≢_}
+use mathlib.Core.Logic.{_⊎_, inl, inr, _≢_}
 use native.Mathlib.Decide.{decLt}
-use borrow.Author.Tests.{lt-ltb, le-ltb, eq-eqb, ne-eqb}
+use borrow.Author.Tests.{lt-ltb, le-ltb, ne-eqb}
 use lib.Dec.{eqb}
 use lib.ListN.{length, getD}
 use lib.Seq.{sets}
 use Rattle.words.proofs.Lists.{getD-sets, getD-beside}
-use Rattle.types.specs.declared.atomic.Atomic.{Atomic}
 use Rattle.types.specs.declared.member.Ty.{Ty}
 use Rattle.types.specs.declared.member.Ty.the-variants.{Atomic as atomic, Struct}
 use Rattle.types.specs.declared.member.Bit.{Bit}
@@ -22,7 +21,7 @@ use Rattle.types.specs.declared.member.Span.{Span}
 use Rattle.types.specs.declared.member.StructKind.{StructKind}
 use Rattle.types.specs.declared.member.StructKind.the-variants.{Udt, Predefined, Str, Aoi}
 use Rattle.types.specs.declared.member.StructDef.{StructDef}
-use Rattle.types.specs.Atomic.{numOf, atomicAt}
+use Rattle.types.specs.Atomic.{numOf}
 use Rattle.types.specs.Tables.{tyWord, tyOf, bitWord, bitOf, flagsOf, kindWord, kindOf, memberRow, memberAt}
 use Rattle.types.specs.Tables.{TyFits, nameAt, typeRow, typeAt}
 use Rattle.types.proofs.AtomicLaws.{at-num, num-below}

@@ -3,8 +3,8 @@
 use Prim.Native.Nat.{ℕ, zero, suc, _+_, _*_, _^_, _<_, _≤_}
 use native.Mathlib.Omega.{arith}
 use mathlib.Core.Path.{_≡_, refl, sym}
-use mathlib.Core.Bool.{Bool, true, false, cond}
-use mathlib.Core.List.{List, [], _∷_, map}
+use mathlib.Core.Bool.{Bool}
+use mathlib.Core.List.{List, [], _∷_}
 use lib.ListN.{length, length-map}
 use Rattle.words.specs.Words.{Bytes}
 use Rattle.words.proofs.WordLaws.{word-below}
@@ -23,13 +23,12 @@ use Rattle.types.specs.declared.measure.Measured.the-variants.{Laid, Acc
 use Rattle.types.specs.declared.member.StructKind.{StructKind}
 use Rattle.types.specs.declared.member.StructKind.the-variants.{Udt, Str, Aoi}
 use Rattle.types.specs.declared.member.Ty.{Ty}
-use Rattle.types.specs.declared.refusal.Refusal.{Refusal}
 use Rattle.types.specs.declared.refusal.Refusal.the-variants.{TypesUnknown}
 use Rattle.types.specs.Add.{Verdict, no, yes, hasRoom, usedIn, newDef, fitted, onMeasured, addUdt, addAoi}
 use Rattle.types.specs.Add.{onChecked, isAoi, isString, hasId, addMembers, stringOk, addString, addNamed, onId}
 use Rattle.types.specs.Add.{addFresh, addEntry}
 use Rattle.types.specs.Book.{listFrom, typeEntry}
-use Rattle.types.specs.Checks.{checked, entryOf, entriesFrom}
+use Rattle.types.specs.Checks.{checked, entriesFrom}
 use Rattle.types.specs.Defs.{Part, Def, nameIn}
 use Rattle.types.specs.Digits.{hostName}
 use Rattle.types.specs.Entries.{storedTy, resolved, declared}
@@ -38,10 +37,10 @@ use Rattle.types.specs.Laid.{Laid as Lies, Resolved, Every}
 use Rattle.types.specs.Lookup.{typeAmong}
 use Rattle.types.specs.Names.{goodName}
 use Rattle.types.specs.Refusal.{numberOf}
-use Rattle.types.specs.Registry.{View, sizeAt, ownNames, membersOf, bytesOf, viewOf}
+use Rattle.types.specs.Registry.{View, sizeAt, ownNames, viewOf}
 use Rattle.types.specs.Resolve.{isFound}
-use Rattle.types.specs.Structs.{namedIn, udtStart, udtParts, aoiParts, measured, measuredAoi, stringParts}
-use Rattle.types.specs.Structs.{sizeAt as sizeOf, aoiHosts, stringSize}
+use Rattle.types.specs.Structs.{namedIn, udtStart, measured, measuredAoi}
+use Rattle.types.specs.Structs.{sizeAt as sizeOf, aoiHosts}
 use Rattle.types.specs.Turns.{entriesAt, countOf, thenDecl, declsOf, verdictOn}
 use Rattle.types.proofs.AddLaws.{Able, udt-fits, aoi-fits, string-fits}
 use Rattle.types.proofs.AddStoreLaws.{Roomy, roomy}

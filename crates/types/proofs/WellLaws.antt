@@ -1,10 +1,9 @@
 -- Every type of a registry is laid out well (document 01, "Layout"; what values may count on), and stays so when types
 -- are added: a layout depends on the sizes of earlier types only.
-use Prim.Native.Nat.{ℕ, zero, suc, _+_, _*_, _^_, _<_, _≤_}
+use Prim.Native.Nat.{ℕ, _+_, _*_, _^_, _<_, _≤_}
 use native.Mathlib.Decide.{decLt}
 use native.Mathlib.Omega.{arith}
 use mathlib.Core.Path.{_≡_, refl, sym, ap, _∙_}
-use mathlib.Core.Bool.{false}
 use mathlib.Core.List.{List, [], _∷_, _++_, map, map-append}
 use mathlib.Core.Logic.{_⊎_, inl, inr, ⊎-elim}
 use lib.ListN.{length, getD, length-map, List·getD-append}
@@ -14,9 +13,8 @@ use Rattle.types.specs.declared.member.Bit.the-variants.{None, At}
 use Rattle.types.specs.declared.member.Member.{Member}
 use Rattle.types.specs.declared.member.StructKind.the-variants.{Str}
 use Rattle.types.specs.Defs.{Part, Def}
-use Rattle.types.specs.Laid.{Earlier, firstBit, Apart, Clear, Lies, Laid, Every}
+use Rattle.types.specs.Laid.{Earlier, Apart, Clear, Rising, Laid, Every}
 use Rattle.types.specs.Layout.{times}
-use Rattle.types.specs.Registry.{sizeAt, viewOf}
 use Rattle.types.specs.Waste.{bitsOf}
 use Rattle.types.proofs.AgreeLaws.{size-same}
 use Rattle.types.proofs.RegistryLaws.{length-snoc}
@@ -49,6 +47,12 @@ module _ (f g : ℕ → ℕ) (i : ℕ) (same : (k : ℕ) → k < i → f k ≡ g
   clear-same m (p ∷ ps) e (b, bs) (c, cs) =
       (λ h k. apart-same m (p .member) e b (c h k), clear-same m ps e bs cs)
 
+  rising-same : (m : Member) (ps : List Part) → Earlier i (m .ty) → Rising f m ps → Rising g m ps
+  unfolding Rising
+  rising-same m [] e r = tt
+  rising-same m (p ∷ ps) e (r, rs) =
+      (λ v w. omega (arith, r v w, bits-same m (m .bit) e), rising-same m ps e rs)
+
   pub laid-same : (size : ℕ) (ps : List Part) → Laid f i size ps → Laid g i size ps
   unfolding Laid
   laid-same size [] l = tt
@@ -57,6 +61,7 @@ module _ (f g : ℕ → ℕ) (i : ℕ) (same : (k : ℕ) → k < i → f k ≡ g
       earlier = l .earlier;
       inside = omega (arith, l .inside, bits-same (p .member) (p .member .bit) (l .earlier));
       clear = clear-same (p .member) ps (l .earlier) (all-before f i size ps ls) (l .clear);
+      rising = rising-same (p .member) ps (l .earlier) (l .rising);
     },
     laid-same size ps ls,
   )

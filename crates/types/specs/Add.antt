@@ -22,7 +22,7 @@ use Rattle.types.specs.declared.refusal.Refusal.the-variants.{NameOutsid
 use Rattle.types.specs.declared.refusal.Refusal.the-variants.{NoIdFree, StringWrong, MemberTwice, LocalOutsideAoi}
 use Rattle.types.specs.declared.refusal.Refusal.the-variants.{AccessWrong, MemberTooFar, TablesFull}
 use Rattle.types.specs.declared.used.Turn.{Turn}
-use Rattle.types.specs.declared.used.Turn.the-variants.{Waits, Refused, Added}
+use Rattle.types.specs.declared.used.Turn.the-variants.{Refused, Added}
 use Rattle.types.specs.declared.used.Used.{Used}
 use Rattle.types.specs.Book.{typeEntry}
 use Rattle.types.specs.Checks.{checked, entriesFrom, EntriesInside}

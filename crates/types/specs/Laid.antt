@@ -1,8 +1,9 @@
 -- What a layout promises those who read and write values (document 01, "Layout"): every member names an earlier type,
--- lies inside the size, and no two visible members share a bit. It is said in bits: a BOOL is a member like any other.
+-- lies inside the size, no two visible members share a bit, and those that are no BOOLs stand in their order. It is
+-- said in bits: a BOOL is a member like any other.
 use Prim.Native.Nat.{ℕ, _+_, _*_, _<_, _≤_}
 use mathlib.Core.Path.{_≡_}
-use mathlib.Core.Bool.{false}
+use mathlib.Core.Bool.{Bool, true, false}
 use mathlib.Core.List.{List, [], _∷_}
 use mathlib.Core.Logic.{_⊎_}
 use Rattle.types.specs.declared.layout.Decl.{Decl}
@@ -41,11 +42,28 @@ Clear sizes m [] = Unit {0}
 Clear sizes m (p ∷ ps) =
     (m .hidden ≡ false → p .member .hidden ≡ false → Apart sizes m (p .member)) × Clear sizes m ps
 
+-- a BOOL of a host has a bit of its own
+abbrev pub hasBit : Bit → Bool
+hasBit None = false
+hasBit (At k) = true
+
+-- a visible member that is no BOOL of a host
+pub record Plain (m : Member) : Type 0 where
+  pub visible : m .hidden ≡ false
+  pub whole : m .bit ≡ None
+
+-- m, if it is plain, ends before any plain one of the parts begins
+unfoldable pub Rising : (ℕ → ℕ) → Member → List Part → Type 0
+Rising sizes m [] = Unit {0}
+Rising sizes m (p ∷ ps) =
+    (Plain m → Plain (p .member) → pastBit sizes m ≤ firstBit (p .member)) × Rising sizes m ps
+
 -- what holds of a member of structure i, of so many bytes, before the rest of its parts
 pub record Lies (sizes : ℕ → ℕ) (i size : ℕ) (m : Member) (rest : List Part) : Type 0 where
   pub earlier : Earlier i (m .ty)
   pub inside : pastBit sizes m ≤ 8 * size
   pub clear : Clear sizes m rest
+  pub rising : Rising sizes m rest
 
 -- the parts of structure i, of so many bytes, where the sizes of the earlier structures are known
 unfoldable pub Laid : (ℕ → ℕ) → ℕ → ℕ → List Part → Type 0

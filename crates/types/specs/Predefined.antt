@@ -11,7 +11,7 @@ use Rattle.types.specs.declared.member.StructKind.the-variants.{Predefin
 use Rattle.types.specs.declared.used.Used.{Used}
 use Rattle.types.specs.Add.{newDef, Usable}
 use Rattle.types.specs.Defs.{Part, Def}
-use Rattle.types.specs.Registry.{viewOf, typesTable, membersTable, namesTable, usedBy}
+use Rattle.types.specs.Registry.{viewOf}
 use Rattle.types.specs.Structs.{timerParts, counterParts, controlTypeParts, stringParts, stringSize}
 use Rattle.types.specs.Template.{userId}
 

@@ -1,7 +1,6 @@
 // Adding one type of the book (document 01, "Refusal numbers"), in the document's order: 2, 3, 4, 5, 6, 7; per
 // member 2, 8, 9; then its layout, and 13.
 ghost use mathlib.Core.Path.{_≡_};
-ghost use mathlib.Core.List.{[]};
 ghost use Prim.Native.Nat.{_<_};
 ghost use Rattle.types.specs.Add.{addMembers, addNamed, addFresh, addEntry, isAoi, isString, hasId, stringOk};
 ghost use Rattle.types.specs.Add.{Took, Addable, AddableEntry};

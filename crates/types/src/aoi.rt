@@ -1,13 +1,12 @@
 // AOIs (document 01, "Layout"): the hidden hosts that all BOOLs share, EnableIn and EnableOut, and where
 // the declared members then begin.
 ghost use mathlib.Core.Path.{_≡_};
-ghost use Prim.Native.Nat.{ℕ, _+_, _*_, _/_, _<_, _≤_};
-ghost use mathlib.Core.List.{[], _∷_};
+ghost use Prim.Native.Nat.{_+_, _*_, _/_, _<_, _≤_};
 ghost use lib.ListN.{length};
 ghost use lib.Seq.{sets};
-ghost use Rattle.types.specs.Digits.{TwoDigits, bitHostName};
+ghost use Rattle.types.specs.Digits.{bitHostName};
 ghost use Rattle.types.specs.Entries.{declsFrom, Found};
-ghost use Rattle.types.specs.Structs.{namesOf, rowsOf, named, bools, BoolsCounted, OneIf, HostPut};
+ghost use Rattle.types.specs.Structs.{namesOf, rowsOf, bools, BoolsCounted, OneIf, HostPut};
 ghost use Rattle.types.specs.Structs.{hostParts, enableAt, enableParts, aoiStart, aoiParts, namedIn};
 ghost use Rattle.types.specs.Structs.{Put, StorableAoi};
 ghost use Rattle.types.specs.Structs.{measuredAoi, BitHostLong, HostsLong};

@@ -1,7 +1,7 @@
 // Whole layouts (document 01, "Layout"), the first pass: how far the declared members come, or why they
 // do not. Nothing is stored before all is known.
 ghost use mathlib.Core.Path.{_≡_};
-ghost use Prim.Native.Nat.{_+_, _≤_, _^_};
+ghost use Prim.Native.Nat.{_+_};
 ghost use Rattle.types.specs.Digits.{hostName};
 ghost use Rattle.types.specs.Entries.{declsFrom};
 ghost use Rattle.types.specs.Structs.{measureOne, measured, Near, Measurable};

@@ -1,6 +1,5 @@
 // New types of the book, laid out (document 01, "Refusal numbers": layout per member 11, 12; then 13): a UDT, an
 // AOI, a string. Nothing is stored before all is known.
-ghost use mathlib.Core.Path.{_≡_};
 ghost use Prim.Native.Nat.{_^_, _-_, _≤_};
 ghost use Rattle.types.specs.declared.member.StructKind.the-variants.{Str};
 ghost use Rattle.types.specs.Add.{addUdt, addAoi, newDef, fitted, Took, Addable, AddableString};

@@ -1,7 +1,7 @@
 // The pieces of a template (document 01, "Template and handle"), in their order: the members' infos, the
 // type's shown name, the member names, the padding and the member ids. Each goes to a sink.
 ghost use mathlib.Core.Path.{_≡_};
-ghost use Prim.Native.Nat.{_+_, _%_, _<_, _≤_};
+ghost use Prim.Native.Nat.{_+_, _<_, _≤_};
 ghost use mathlib.Core.List.{_++_};
 ghost use lib.ListN.{length};
 ghost use Rattle.types.specs.Defs.{Readable, nameIn};

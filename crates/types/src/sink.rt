@@ -1,9 +1,6 @@
 // Where a template's bytes go (document 01, "Template and handle"): a sink counts them, folds them for
 // the handle and, if it writes, stores them. So one walk gives a template, its length and its handle.
-ghost use mathlib.Core.Path.{_≡_};
-ghost use Prim.Native.Nat.{_+_, _≤_};
-ghost use lib.ListN.{length};
-ghost use lib.Seq.{sets};
+ghost use Prim.Native.Nat.{_+_};
 ghost use Rattle.types.specs.Sink.{Room, Emitted};
 use crate::handle::fold_handle;
 use words::copy;

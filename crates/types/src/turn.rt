@@ -1,7 +1,6 @@
 // One type's turn in a round (document 01, "Order of building"): it is added when all its member types are
 // known, those of the same round included.
-ghost use mathlib.Core.Path.{_≡_};
-ghost use Prim.Native.Nat.{_+_, _≤_};
+ghost use Prim.Native.Nat.{_+_};
 ghost use Rattle.types.specs.Add.{addTo};
 ghost use Rattle.types.specs.Checks.{entriesFrom};
 ghost use Rattle.types.specs.Lookup.{rowNames};

@@ -1,20 +1,20 @@
 -- Setting step by step (document 01, "Writing"), where the check accepted: what was set after one entry is set after an
 -- earlier one, and an accepted step has its entry.
-use Prim.Native.Nat.{ℕ, zero, suc, _+_, _-_, _*_, _^_, _<_, _≤_}
+use Prim.Native.Nat.{ℕ, suc, _+_, _-_, _<_, _≤_}
 use native.Mathlib.Decide.{decLt}
 use native.Mathlib.Omega.{arith}
 use mathlib.Core.Path.{_≡_, refl, sym, ap, _∙_}
-use mathlib.Core.Bool.{Bool, true, false, true≢false}
-use mathlib.Core.List.{List, [], _∷_}
+use mathlib.Core.Bool.{true, false, true≢false}
+use mathlib.Core.List.{List, []}
 use lib.ListN.{length}
-use Rattle.words.specs.Bits.{Bits, flat, stamp}
-use Rattle.values.specs.Effects.{Effect, keep, put, refuse}
+use Rattle.words.specs.Bits.{Bits, flat}
+use Rattle.values.specs.Effects.{Effect}
 use Rattle.values.specs.Form.{countIn, streamOk}
 use Rattle.values.specs.Passes.{Applied, accepted, firstKind, leftAt}
 use Rattle.values.specs.Stream.{Token, kindOf}
-use Rattle.values.specs.Writing.{Outcome, ok, bad, andThen, onEffect, writeOne, opened, elements, membersIn}
+use Rattle.values.specs.Writing.{Outcome, ok, bad, andThen, writeOne, opened, elements, membersIn}
 use Rattle.values.proofs.LeftLaws.{There, kind-there, none-left, there}
-use Rattle.values.proofs.OutcomeLaws.{one-is, one-none, opened-none, opened-null, opened-inner, opened-other}
+use Rattle.values.proofs.OutcomeLaws.{one-none, opened-none, opened-null, opened-inner, opened-other}
 use Rattle.values.proofs.OutcomeLaws.{elements-none, elements-close, elements-full, elements-next}
 use Rattle.values.proofs.OutcomeLaws.{members-none, members-close, members-next, members-other}
 

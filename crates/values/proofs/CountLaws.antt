@@ -1,20 +1,19 @@
 -- How many entries a value has (document 01, "Value stream"): counts that go on from a number, and what a
 -- string, an array of structures and a member's number add to them.
-use Prim.Native.Nat.{ℕ, zero, suc, _+_, _*_, _^_, _<_, _≤_}
-use native.Mathlib.Decide.{decLe}
+use Prim.Native.Nat.{ℕ, _+_, _*_, _^_, _<_, _≤_}
 use native.Mathlib.Nat.{mul-le-mul}
 use native.Mathlib.Omega.{arith}
-use mathlib.Core.Path.{_≡_, refl, sym, ap, ap₂, _∙_}
+use mathlib.Core.Path.{_≡_, refl, sym, ap, _∙_}
 use mathlib.Core.Bool.{Bool, true, false, cond}
-use mathlib.Core.List.{List, [], _∷_, _++_, append-assoc, append-nil}
+use mathlib.Core.List.{List, _∷_}
 use borrow.Author.Tests.{eq-eqb, ne-eqb}
-use lib.ListN.{length, length-append}
+use lib.ListN.{length}
 use Rattle.words.specs.Words.{part}
 use Rattle.types.specs.Tables.{typeAt}
 use Rattle.types.specs.Waste.{sizesIn}
 use Rattle.types.proofs.TestLaws.{clash}
 use Rattle.values.specs.Counting.{Counted, Plain}
-use Rattle.values.specs.Stream.{Token, member, mark, bodyOf, bodies}
+use Rattle.values.specs.Stream.{Token, member, bodies}
 use Rattle.values.specs.Trees.{isString}
 use Rattle.values.specs.Walk.{upTo, wrap, textOut, capacityAt, elementBy, elementsBy, structsBy, membersBy}
 use Rattle.values.specs.Walk.{structBy, structWithin, structOut}

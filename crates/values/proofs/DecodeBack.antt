@@ -1,21 +1,19 @@
 -- What was said is decoded again (document 01, "Value stream"): the stream of entries that can be said is well formed,
 -- and says these entries.
-use Prim.Native.Nat.{ℕ, zero, suc, _+_, _*_, _^_, _<_, _≤_}
+use Prim.Native.Nat.{ℕ, _+_, _*_, _^_, _<_, _≤_}
 use native.Mathlib.Nat.{mod-eq-of-lt, zero-add}
-use native.Mathlib.Numerals.{add-one}
 use native.Mathlib.Omega.{arith}
 use mathlib.Core.Path.{_≡_, refl, sym, ap, ap₂, _∙_}
-use mathlib.Core.Bool.{Bool, true, false}
+use mathlib.Core.Bool.{true}
 use mathlib.Core.List.{List, [], _∷_, _++_, append-assoc, append-nil}
-use lib.Dec.{eqb}
-use lib.ListN.{length, take, drop, length-append}
+use lib.ListN.{length, length-append}
 use lib.Seq.{sets, sets-eq, take-append-seam, drop-append-seam, drop-append-add}
 use borrow.Author.Tests.{eq-eqb, le-leb}
 use Rattle.words.specs.Words.{bytesOf, part, wordAt}
 use Rattle.words.proofs.WordLaws.{length-bytes, word-back}
 use Rattle.values.specs.Decode.{tokenOf, tokenIn, tokensFrom, tokensIn}
 use Rattle.values.specs.Entry.{EntryFits, entryIn, entryKind, entryPayload, bytesOfEntry}
-use Rattle.values.specs.Form.{At, entryStep, loadedStep, onStep, formed, countIn, baseIn, streamOk}
+use Rattle.values.specs.Form.{At, entryStep, formed, countIn, streamOk}
 use Rattle.values.specs.Stream.{Token, kindOf, payloadOf, bodyOf, entryBytes, heads, bodies, streamBytes}
 use Rattle.values.specs.Stream.{mostBytes}
 use Rattle.values.specs.declared.entries.Entry.{Entry}

@@ -5,16 +5,16 @@ use native.Mathlib.Nat.{add-zero}
 use native.Mathlib.Omega.{arith}
 use mathlib.Core.Path.{_≡_, refl, sym, ap, ap₂, _∙_}
 use mathlib.Core.Bool.{Bool, true, false, cond, true≢false}
-use mathlib.Core.List.{List, [], _∷_, _++_, append-assoc}
+use mathlib.Core.List.{List, [], _++_, append-assoc}
 use lib.Dec.{eqb, leb}
 use lib.ListN.{length, take, drop, drop-of-length-le, take-append-drop}
 use lib.Seq.{drop-drop}
 use borrow.Author.Tests.{eqb-true, leb-true}
-use Rattle.words.specs.Words.{Bytes, bytesOf, part, wordAt}
+use Rattle.words.specs.Words.{Bytes, bytesOf, part}
 use Rattle.words.proofs.Lists.{length-part}
 use Rattle.words.proofs.WordLaws.{bytes-back}
 use Rattle.values.specs.Decode.{tokenOf, tokenIn, tokensFrom, tokensIn}
-use Rattle.values.specs.Entry.{entryIn, entryKind, entryPayload, bytesOfEntry}
+use Rattle.values.specs.Entry.{entryIn, bytesOfEntry}
 use Rattle.values.specs.Form.{Step, At, Broken, textStep, entryStep, loadedStep, onStep, formed}
 use Rattle.values.specs.Form.{countIn, baseIn, streamOk}
 use Rattle.values.specs.Stream.{Token, kindOf, payloadOf, bodyOf, entryBytes, heads, bodies, streamBytes}

@@ -7,7 +7,6 @@ use mathlib.Core.Bool.{Bool, true, false, cond, _||_, true≢false}
 use mathlib.Core.List.{List, [], _∷_}
 use Rattle.words.specs.Bits.{Bits, from, inside}
 use Rattle.words.proofs.BitLaws.{Lies, among, beside, lies}
-use Rattle.types.proofs.TestLaws.{clash}
 use Rattle.values.specs.Leaf.{Leaf, width, emit}
 use Rattle.values.specs.Normal.{norm, held, normal}
 use Rattle.values.specs.Stream.{Token}

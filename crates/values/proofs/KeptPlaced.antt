@@ -3,7 +3,7 @@
 use Prim.Native.Nat.{ℕ, zero, suc, _+_, _*_, _<_, _≤_}
 use native.Mathlib.Decide.{decLt}
 use native.Mathlib.Omega.{arith}
-use mathlib.Core.Path.{_≡_, refl, sym, ap, _∙_}
+use mathlib.Core.Path.{_≡_, refl}
 use mathlib.Core.Bool.{Bool, true, false, cond}
 use mathlib.Core.List.{List, [], _∷_}
 use mathlib.Core.Logic.{_⊎_, inl, inr, ⊎-elim}
@@ -25,7 +25,7 @@ use Rattle.types.specs.declared.member.Ty.{Ty}
 use Rattle.types.specs.declared.member.Ty.the-variants as ty
 use Rattle.types.proofs.KeptLaws.{kept-laid, kept-unused}
 use Rattle.values.specs.Leaf.{leafOf, str}
-use Rattle.values.specs.Tree.{Tree, leaf, bits, array, struct, Branches, span}
+use Rattle.values.specs.Tree.{Tree, leaf, bits, array, struct, span}
 use Rattle.values.specs.Trees.{isString, membersAt, knownIn, secondCount, atomicsTree, structsTree, valueTree}
 use Rattle.values.specs.Trees.{bitTree, seen, branchesFrom, structTree, treeWithin, treeOf, treeOfValue}
 use Rattle.values.proofs.KeptWalkable.{kept-walkable}
@@ -172,7 +172,7 @@ module _ (types members names : List ℕ) (trees : ℕ → Tree) (i : ℕ) (soun
 -- ---- tables as our own calls left them
 
 module _ {types members names : List ℕ} (k : Kept types members names) where
-  laid-all : (i : ℕ) → Laid (sizesIn types) i (typeAt types i .size)
+  pub laid-all : (i : ℕ) → Laid (sizesIn types) i (typeAt types i .size)
       (partsAt members names (typeAt types i .first) (typeAt types i .count))
   laid-all i = go (decLt i (typeCount types))
     where

@@ -1,6 +1,6 @@
 -- The entries of a stream one by one (document 01, "Value stream"): in a stream whose form is good each entry's bytes
 -- say its token; past the last one there is none.
-use Prim.Native.Nat.{ℕ, zero, suc, _+_, _-_, _*_, _/_, _%_, _^_, _<_, _≤_}
+use Prim.Native.Nat.{ℕ, suc, _+_, _-_, _*_, _/_, _%_, _^_, _<_, _≤_}
 use native.Mathlib.Nat.{zero-add}
 use native.Mathlib.Omega.{arith}
 use mathlib.Core.Path.{_≡_, refl, sym, ap, _∙_, subst}
@@ -9,10 +9,10 @@ use mathlib.Core.List.{List, [], _∷_}
 use lib.ListN.{length, getD}
 use Rattle.words.specs.Words.{part, wordAt}
 use Rattle.words.proofs.Lists.{length-part}
-use Rattle.values.specs.Decode.{tokenOf, tokenIn, tokensFrom}
+use Rattle.values.specs.Decode.{tokenOf, tokensFrom}
 use Rattle.values.specs.Entry.{entryKind, entryPayload, loadedOf}
 use Rattle.values.specs.Form.{At, baseIn, countIn, entryStep, streamOk, textStep}
-use Rattle.values.specs.Passes.{Told, firstKind, leftAt}
+use Rattle.values.specs.Passes.{firstKind, leftAt}
 use Rattle.values.specs.Stream.{Token, bool, text, kindOf, payloadOf, bodyOf}
 use Rattle.values.specs.declared.entries.Entry.{Entry}
 use Rattle.values.specs.declared.entries.Entry.the-variants as entry

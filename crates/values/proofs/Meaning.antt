@@ -9,7 +9,7 @@ use mathlib.Core.List.{List, [], _∷_, _++_}
 use lib.Dec.{eqb}
 use lib.ListN.{length, take, drop}
 use lib.Seq.{getD-drop}
-use Rattle.words.specs.Bits.{Bits, flat, from, val}
+use Rattle.words.specs.Bits.{Bits, flat, val}
 use Rattle.words.specs.Words.{Bytes, part, wordAt}
 use Rattle.words.proofs.BitLaws.{word-val}
 use Rattle.words.proofs.Lists.{length-part}

@@ -1,20 +1,20 @@
 -- Laws of the normal image (document 01, "Normal image"), leaf by leaf and over items that share no bit: a reading sees
 -- nothing but the normal bits, and two readings are the same exactly when the normal bits are.
-use Prim.Native.Nat.{ℕ, zero, suc, _+_, _-_, _*_, _^_, _<_, _≤_, min}
+use Prim.Native.Nat.{ℕ, suc, _+_, _-_, _*_, _^_, _<_, _≤_}
 use native.Mathlib.Nat.{pow-suc}
 use native.Mathlib.Omega.{arith}
-use mathlib.Core.Path.{_≡_, refl, sym, ap, ap₂, _∙_, fun-ext}
-use mathlib.Core.Bool.{Bool, true, false, cond, _&&_, _||_, true≢false}
-use mathlib.Core.List.{List, [], _∷_}
-use lib.Dec.{eqb, ltb}
+use mathlib.Core.Path.{_≡_, refl, sym, ap, _∙_}
+use mathlib.Core.Bool.{Bool, true, false, cond, _&&_}
+use mathlib.Core.List.{List}
+use lib.Dec.{ltb}
 use lib.ListN.{length}
 use lib.Pow.{pow-mono}
 use borrow.Author.Tests.{lt-ltb, le-ltb, ltb-true, ltb-false}
-use Rattle.words.specs.Bits.{Bits, from, bitOf, digit, inside, val}
+use Rattle.words.specs.Bits.{Bits, from, bitOf, digit, val}
 use Rattle.words.proofs.BitLaws.{bit-val, val-below, val-bit, val-ext}
 use Rattle.values.specs.Leaf.{Leaf, flag, byte, int, word, str, width, isTrue, chars, clipped, emit, signed}
 use Rattle.values.specs.Normal.{norm}
-use Rattle.values.specs.Stream.{Token, bool, number, text}
+use Rattle.values.specs.Stream.{bool, number, text}
 use Rattle.values.proofs.CharLaws.{chars-ext, chars-tell, length-chars}
 
 -- ---- one leaf: its normal bits read the same

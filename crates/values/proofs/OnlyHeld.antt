@@ -29,7 +29,7 @@ outside p n k h = go (lies p n k)
     go (among a b e) = λ c d. true≢false (sym e ∙ h)
     go (beside f e) = f
 
-not-inside : (p n k : ℕ) → (p ≤ k → k < p + n → ⊥) → inside p n k ≡ false
+pub not-inside : (p n k : ℕ) → (p ≤ k → k < p + n → ⊥) → inside p n k ≡ false
 not-inside p n k h = go (lies p n k)
   where
     go : Lies p n k → inside p n k ≡ false
@@ -51,18 +51,18 @@ both-parts p m n k h g = not-inside p (m + n) k (λ a b. go a b (decLt k (p + m)
 
 -- ---- bits that some items do not hold
 
-or-first : (a b : Bool) → (a || b) ≡ false → a ≡ false
+pub or-first : (a b : Bool) → (a || b) ≡ false → a ≡ false
 or-first true b e = e
 or-first false b e = refl
 
-or-second : (a b : Bool) → (a || b) ≡ false → b ≡ false
+pub or-second : (a b : Bool) → (a || b) ≡ false → b ≡ false
 or-second true b e = absurd (true≢false e)
 or-second false b e = e
 
-or-none : (a b : Bool) → a ≡ false → b ≡ false → (a || b) ≡ false
+pub or-none : (a b : Bool) → a ≡ false → b ≡ false → (a || b) ≡ false
 or-none a b e f = rw (e, f) refl
 
-held-first : (a b : List Item) (k : ℕ) → held (a ++ b) k ≡ false → held a k ≡ false
+pub held-first : (a b : List Item) (k : ℕ) → held (a ++ b) k ≡ false → held a k ≡ false
 unfolding held
 held-first [] b k e = refl
 held-first (say t ∷ a) b k e = held-first a b k e
@@ -70,7 +70,7 @@ held-first (at p l ∷ a) b k e =
     or-none (inside p (width l) k) (held a k) (or-first (inside p (width l) k) (held (a ++ b) k) e)
     (held-first a b k (or-second (inside p (width l) k) (held (a ++ b) k) e))
 
-held-second : (a b : List Item) (k : ℕ) → held (a ++ b) k ≡ false → held b k ≡ false
+pub held-second : (a b : List Item) (k : ℕ) → held (a ++ b) k ≡ false → held b k ≡ false
 unfolding held
 held-second [] b k e = e
 held-second (say t ∷ a) b k e = held-second a b k e

@@ -9,7 +9,7 @@ use mathlib.Core.List.{List, [], _∷_, _++_}
 use mathlib.Core.Logic.{_⊎_, inl, inr}
 use Rattle.words.specs.Bits.{inside}
 use Rattle.words.proofs.BitLaws.{Lies, among, beside, lies}
-use Rattle.values.specs.Leaf.{Leaf, flag, byte, int, word, str, width}
+use Rattle.values.specs.Leaf.{Leaf, flag, width}
 use Rattle.values.specs.Normal.{held}
 use Rattle.values.specs.Stream.{mark}
 use Rattle.values.specs.Tree.{Tree, leaf, bits, array, struct, Branches, none, branch, room, allBits, span}
@@ -46,14 +46,14 @@ unfoldable mutual
 abbrev pub Between : ℕ → ℕ → List Item → Type 0
 Between lo hi is = (k : ℕ) → held is k ≡ true → (lo ≤ k) × (k < hi)
 
-held-append : (a b : List Item) (k : ℕ) → held (a ++ b) k ≡ (held a k || held b k)
+pub held-append : (a b : List Item) (k : ℕ) → held (a ++ b) k ≡ (held a k || held b k)
 unfolding held
 held-append [] b k = refl
 held-append (say e ∷ a) b k = held-append a b k
 held-append (at p l ∷ a) b k =
     ap (inside p (width l) k ||_) (held-append a b k) ∙ sym (or-assoc (inside p (width l) k) (held a k) (held b k))
 
-data Or (a b : Bool) : Type 0 where
+pub data Or (a b : Bool) : Type 0 where
   left : a ≡ true → Or a b
   right : b ≡ true → Or a b
 
@@ -61,10 +61,10 @@ either-true : (a b : Bool) → (a || b) ≡ true → Or a b
 either-true true b e = left refl
 either-true false b e = right e
 
-held-or : (a b : List Item) (k : ℕ) → held (a ++ b) k ≡ true → Or (held a k) (held b k)
+pub held-or : (a b : List Item) (k : ℕ) → held (a ++ b) k ≡ true → Or (held a k) (held b k)
 held-or a b k e = either-true (held a k) (held b k) (sym (held-append a b k) ∙ e)
 
-not-true : (b : Bool) → (b ≡ true → ⊥) → b ≡ false
+pub not-true : (b : Bool) → (b ≡ true → ⊥) → b ≡ false
 not-true true h = absurd (h refl)
 not-true false h = refl
 
@@ -81,7 +81,7 @@ between-append lo hi a b f g k e = go (held-or a b k e)
 between-wide : (lo hi low high : ℕ) (a : List Item) → low ≤ lo → hi ≤ high → Between lo hi a → Between low high a
 between-wide lo hi low high a p q f k e = let w : (lo ≤ k) × (k < hi) = f k e in (omega arith, omega arith)
 
-yes-inside : (p n k : ℕ) → p ≤ k → k < p + n → inside p n k ≡ true
+pub yes-inside : (p n k : ℕ) → p ≤ k → k < p + n → inside p n k ≡ true
 yes-inside p n k u v = go (lies p n k)
   where
     go : Lies p n k → inside p n k ≡ true
@@ -116,7 +116,7 @@ at-apart : (p : ℕ) (l : Leaf) → Apart (at p l ∷ [])
 unfolding held
 at-apart p l = ((λ k u v. refl), tt)
 
-each-between : (n : ℕ) (f : ℕ → List Item) (w p : ℕ) → ((q : ℕ) → Between q (q + w) (f q))
+pub each-between : (n : ℕ) (f : ℕ → List Item) (w p : ℕ) → ((q : ℕ) → Between q (q + w) (f q))
     → Between p (p + n * w) (each n f w p)
 unfolding each held
 each-between zero f w p h = λ k e. never e
@@ -183,7 +183,7 @@ mutual
       (branches-between bs size p (a .1 .1 .1))
 
 -- a bit of a branch is none of those that it is clear of
-branches-clear : (bs : Branches) (size o n p : ℕ) → AllPlaced size bs → Clear o n bs → (k : ℕ)
+pub branches-clear : (bs : Branches) (size o n p : ℕ) → AllPlaced size bs → Clear o n bs → (k : ℕ)
     → held (branchItems bs p) k ≡ true → p + o ≤ k → k < p + o + n → ⊥
 unfolding branchItems Placed held
 branches-clear none size o n p a c k t u v = never t

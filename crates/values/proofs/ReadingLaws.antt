@@ -5,7 +5,7 @@ use native.Mathlib.Omega.{arith}
 use mathlib.Core.Path.{_≡_, refl, sym, ap, _∙_}
 use mathlib.Core.Bool.{Bool, true, false, cond}
 use mathlib.Core.List.{List, []}
-use lib.Dec.{eqb, leb}
+use lib.Dec.{eqb}
 use lib.ListN.{length}
 use lib.Seq.{sets}
 use lib.Arith.{digits-div, digits-mod}
@@ -14,7 +14,6 @@ use Rattle.words.specs.Bits.{flat}
 use Rattle.words.specs.Words.{Bytes, bytesOf}
 use Rattle.types.specs.Layout.{times}
 use Rattle.types.specs.Shape.{isThere}
-use Rattle.types.specs.Tables.{TyFits}
 use Rattle.types.specs.Waste.{sizesIn}
 use Rattle.types.specs.declared.atomic.Atomic.{Atomic}
 use Rattle.types.specs.declared.member.Ty.{Ty}

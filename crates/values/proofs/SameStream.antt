@@ -23,8 +23,8 @@ use Rattle.values.specs.Form.{streamOk}
 use Rattle.values.specs.Leaf.{chars}
 use Rattle.values.specs.Normal.{held, normal, normalImage}
 use Rattle.values.specs.Reading.{streamOf, valueStream}
-use Rattle.values.specs.Stream.{Token, streamBytes, mostBytes}
-use Rattle.values.specs.Tree.{Item, Tree, items, read, span}
+use Rattle.values.specs.Stream.{streamBytes, mostBytes}
+use Rattle.values.specs.Tree.{Item, Tree, items, read}
 use Rattle.values.specs.Trees.{knownIn, treeOfValue}
 use Rattle.values.specs.Walk.{valueOut}
 use Rattle.values.specs.Walkable.{ValueImage, Walkable}

@@ -35,7 +35,7 @@ use Rattle.values.specs.Trees.{isString}
 use Rattle.values.specs.Walk.{upTo, wrap, bitToken, bitsOut, elementOut, numberOut, numbersOut, atomicsOut}
 use Rattle.values.specs.Walk.{bitOut}
 use Rattle.values.specs.Walk.{elementBy, elementsBy, structsBy, valueBy, memberBy, rowBy, membersBy, structBy}
-use Rattle.values.specs.Walk.{structWithin, structOut, valueOut, textOut, bytesBy}
+use Rattle.values.specs.Walk.{structWithin, structOut, valueOut, bytesBy}
 use Rattle.values.specs.declared.entries.Entry.{Entry}
 use Rattle.values.specs.declared.entries.Entry.the-variants as entry
 use Rattle.values.proofs.DecodeBack.{Says, Saying, Back, decode-back}

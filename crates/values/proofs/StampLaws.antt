@@ -5,18 +5,20 @@ use native.Mathlib.Decide.{decLt}
 use native.Mathlib.Nat.{div-div-eq-div-mul, div-one, mul-assoc, pow-succ'}
 use native.Mathlib.Omega.{arith}
 use mathlib.Core.Path.{_≡_, refl, sym, ap, _∙_, fun-ext}
-use mathlib.Core.Bool.{cond}
+use mathlib.Core.Bool.{false, cond}
 use mathlib.Core.List.{List, _∷_}
 use mathlib.Core.Logic.{inl, inr}
 use lib.Dec.{eqb}
-use lib.ListN.{length, getD}
+use lib.ListN.{length, getD, replicate, getD-replicate, length-replicate}
 use lib.Pow.{pow-add}
 use lib.Seq.{sets}
 use Rattle.words.specs.Bits.{Bits, bitOf, flat, from, inside, stamp}
 use Rattle.words.specs.Words.{bytesOf}
-use Rattle.words.proofs.BitLaws.{Lies, among, beside, lies}
+use Rattle.words.proofs.BitLaws.{Lies, among, beside, bit-none, lies}
 use Rattle.words.proofs.Lists.{getD-sets, getD-beside}
 use Rattle.words.proofs.WordLaws.{length-bytes}
+use Rattle.values.specs.InPlace.{cleared}
+use Rattle.values.specs.Writing.{noBits}
 
 -- ---- bits put over others
 
@@ -72,6 +74,20 @@ flat-sets image at bs l =
     go k (beside f e) (yes d) h = rw (e, getD-beside image at bs (k / 8) 0 (inl d)) refl
     go k (beside f e) (no d) (yes h) = absurd (f (omega (arith, d)) (omega arith))
     go k (beside f e) (no d) (no h) = rw (e, getD-beside image at bs (k / 8) 0 (inr (omega (arith, h)))) refl
+
+-- zeros stored there
+pub zeros-cleared : (image : List ℕ) (at n : ℕ) → at + n ≤ length image
+    → flat (sets image at (replicate n 0)) ≡ cleared (8 * at) (8 * n) (flat image)
+zeros-cleared image at n l =
+    let long : length {A = ℕ} (replicate n 0) ≡ n = length-replicate {A = ℕ} n 0 in
+    flat-sets image at (replicate n 0) (omega arith)
+    ∙ ap (λ (k : ℕ). stamp (8 * at) (8 * k) (flat (replicate n 0)) (flat image)) long
+    ∙ stamp-ext (8 * at) (8 * n) (flat (replicate n 0)) noBits (flat image) bit
+  where
+    bit : (k : ℕ) → k < 8 * n → flat (replicate n 0) k ≡ false
+    bit k h =
+        unfold flat in
+        ap (λ (x : ℕ). bitOf x (k % 8)) (getD-replicate {A = ℕ} n (k / 8) 0 0 (omega arith)) ∙ bit-none (k % 8)
 
 -- ---- the bits of a number's low bytes
 

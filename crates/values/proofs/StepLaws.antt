@@ -1,17 +1,17 @@
 -- The check step by step (document 01, "Writing"): how an answer at one entry is an answer at an earlier one, and what
 -- the steps of writing answer where an entry is missing, refused, or taken.
-use Prim.Native.Nat.{ℕ, zero, suc, _+_, _-_, _*_, _/_, _%_, _^_, _<_, _≤_}
+use Prim.Native.Nat.{ℕ, suc, _+_, _-_, _*_, _/_, _%_, _^_, _<_, _≤_}
 use native.Mathlib.Decide.{decLt}
 use native.Mathlib.Omega.{arith}
 use mathlib.Core.Path.{_≡_, refl, sym, ap, _∙_}
-use mathlib.Core.Bool.{Bool, true, false}
-use mathlib.Core.List.{List, [], _∷_}
+use mathlib.Core.Bool.{true}
+use mathlib.Core.List.{List}
 use Rattle.words.specs.Bits.{Bits, stamp}
-use Rattle.values.specs.Effects.{Effect, keep, put, refuse, Judged, kept, set, refused}
+use Rattle.values.specs.Effects.{Effect, Judged, kept, set, refused}
 use Rattle.values.specs.Form.{countIn, streamOk}
-use Rattle.values.specs.Passes.{Goes, Refuses, Checked, Told, firstKind, leftAt}
-use Rattle.values.specs.Stream.{Token, kindOf}
-use Rattle.values.specs.Writing.{Outcome, ok, bad, andThen, onEffect, writeOne, opened, elements, membersIn}
+use Rattle.values.specs.Passes.{Goes, Checked, firstKind, leftAt}
+use Rattle.values.specs.Stream.{Token}
+use Rattle.values.specs.Writing.{Outcome, ok, bad, andThen, writeOne, opened, elements, membersIn}
 use Rattle.values.proofs.LeftLaws.{There, by-kind, few-entries, kind-there, none-left, there}
 use Rattle.values.proofs.OutcomeLaws.{one-is, one-none, opened-none, opened-null, opened-inner, opened-other}
 use Rattle.values.proofs.OutcomeLaws.{elements-none, elements-close, elements-full, elements-next}

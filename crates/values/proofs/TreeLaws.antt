@@ -1,12 +1,12 @@
 -- Laws of trees (document 01, "Value stream", "Reading"): a tree is read the same wherever its bits stand, and depends
 -- on the bits of its span alone where its branches lie inside, so that a part of an image is read by itself.
-use Prim.Native.Nat.{ℕ, zero, suc, _+_, _*_, _/_, _%_, _≤_, _<_, min}
+use Prim.Native.Nat.{ℕ, zero, suc, _+_, _*_, _≤_, _<_, min}
 use native.Mathlib.Nat.{add-assoc, add-zero, mul-one, mul-suc, suc-mul}
 use native.Mathlib.Omega.{arith}
 use mathlib.Core.Path.{_≡_, refl, sym, ap, ap₂, _∙_, fun-ext}
-use mathlib.Core.List.{List, [], _∷_, _++_, append-assoc, append-nil}
-use lib.ListN.{length, drop}
-use lib.Seq.{drop-cons, getD-drop, getD-take}
+use mathlib.Core.List.{List, [], _∷_, _++_}
+use lib.ListN.{length}
+use lib.Seq.{drop-cons}
 use Rattle.words.specs.Bits.{Bits, flat, from, val}
 use Rattle.words.specs.Words.{Bytes, part}
 use Rattle.words.proofs.BitLaws.{byte-val, val-ext}

@@ -1,18 +1,16 @@
 -- The walk over the tables (document 01, "Reading"): a structure holds only earlier ones, so that it is what its rows
 -- say with each nested structure as it is, however deep nesting was allowed for.
-use Prim.Native.Nat.{ℕ, zero, suc, _+_, _*_, _<_, _≤_}
+use Prim.Native.Nat.{ℕ, zero, suc, _+_, _*_, _<_}
 use native.Mathlib.Omega.{arith}
-use mathlib.Core.Path.{_≡_, refl, sym, ap, ap₂, _∙_}
-use mathlib.Core.Bool.{Bool, true, false, cond}
-use mathlib.Core.List.{List, [], _∷_, _++_}
+use mathlib.Core.Path.{_≡_, refl, ap, ap₂}
+use mathlib.Core.Bool.{cond}
+use mathlib.Core.List.{List, [], _∷_}
 use lib.Dec.{eqb}
 use Rattle.words.specs.Bits.{flat}
 use Rattle.words.specs.Words.{part}
 use Rattle.types.specs.Laid.{Earlier}
 use Rattle.types.specs.Tables.{memberAt, typeAt}
 use Rattle.types.specs.Waste.{sizesIn}
-use Rattle.types.specs.declared.member.Bit.{Bit}
-use Rattle.types.specs.declared.member.Bit.the-variants.{None, At}
 use Rattle.types.specs.declared.member.Member.{Member}
 use Rattle.types.specs.declared.member.Ty.{Ty}
 use Rattle.types.specs.declared.member.Ty.the-variants as ty

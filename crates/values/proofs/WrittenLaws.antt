@@ -5,7 +5,7 @@ use native.Mathlib.Nat.{mod-eq-of-lt, sub-zero, zero-add}
 use native.Mathlib.Omega.{arith}
 use mathlib.Core.Path.{_≡_, refl, sym, ap, _∙_, fun-ext}
 use mathlib.Core.Bool.{true, false}
-use mathlib.Core.List.{List, [], _∷_}
+use mathlib.Core.List.{List, []}
 use lib.ListN.{length}
 use lib.Seq.{take-length}
 use Rattle.words.specs.Bits.{Bits, flat}

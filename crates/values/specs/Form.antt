@@ -1,7 +1,7 @@
 -- The form of a value stream (document 01, "Value stream"; refusal 17): the number of entries, that many entries, and
 -- the text bodies, gapless, in entry order, to the stream's end; at most 2^31 bytes.
 use Prim.Native.Nat.{ℕ, zero, suc, _+_, _*_}
-use mathlib.Core.Bool.{Bool, true, false, cond}
+use mathlib.Core.Bool.{Bool, false, cond}
 use mathlib.Core.List.{List}
 use lib.Dec.{eqb, leb}
 use lib.ListN.{length}

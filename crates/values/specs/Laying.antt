@@ -1,6 +1,6 @@
 -- Entries and their texts laid into a buffer (document 01, "Value stream"): where they go, that there is room for them,
 -- and what then stands in the buffer.
-use Prim.Native.Nat.{ℕ, _+_, _*_, _^_, _≤_}
+use Prim.Native.Nat.{ℕ, _+_, _*_, _≤_}
 use mathlib.Core.Path.{_≡_}
 use mathlib.Core.List.{List}
 use lib.ListN.{length}

@@ -21,6 +21,8 @@ pub mod Bools
 pub mod Rows
 pub mod Written
 pub mod Normal
+pub mod InPlace
+pub mod Normalised
 pub mod Texts
 pub mod ReadingCases
 pub mod WritingCases

@@ -1,8 +1,7 @@
 -- The reference case of normal images that document 01 marks P, by computation: the image 03 7F FE FF of Chan has the
 -- normal image 03 00 FE FF. And a string whose LEN is too large, with bytes after its text.
-use Prim.Native.Nat.{ℕ}
 use mathlib.Core.Path.{_≡_, refl}
-use mathlib.Core.List.{List, [], _∷_}
+use mathlib.Core.List.{[], _∷_}
 use Rattle.words.specs.Bits.{bitOf, flat, inside, val}
 use Rattle.values.specs.Leaf.{chars, flag, int, str}
 use Rattle.values.specs.Normal.{normal, normalImage}

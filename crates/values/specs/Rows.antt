@@ -1,6 +1,6 @@
 -- What the passes of a write ask of the tables' rows (document 01, "Writing"): a member by its number, the tree of a
 -- member, and what stands inside an array of atomics.
-use Prim.Native.Nat.{ℕ, _+_, _*_, _^_, _<_, _≤_}
+use Prim.Native.Nat.{ℕ, _+_, _*_, _<_, _≤_}
 use mathlib.Core.Path.{_≡_}
 use mathlib.Core.Bool.{false, cond}
 use mathlib.Core.List.{List}

@@ -4,7 +4,6 @@ use Prim.Native.Nat.{ℕ, zero, suc, _+_, _*_}
 use mathlib.Core.Bool.{Bool, true, false, cond}
 use mathlib.Core.List.{List, [], _∷_}
 use lib.Dec.{eqb}
-use lib.ListN.{getD}
 use Rattle.types.specs.Atomic.{bitString, sizeOf}
 use Rattle.types.specs.Laid.{firstBit}
 use Rattle.types.specs.Tables.{memberAt, typeAt}

@@ -4,7 +4,6 @@ use Prim.Native.Nat.{ℕ, zero, suc, _+_, _*_, min}
 use mathlib.Core.Bool.{Bool, true, false, cond}
 use mathlib.Core.List.{List, [], _∷_, _++_}
 use lib.Dec.{eqb}
-use lib.ListN.{length, take, drop}
 use Rattle.words.specs.Bits.{flat}
 use Rattle.words.specs.Words.{part, wordAt}
 use Rattle.types.specs.Atomic.{bitString, sizeOf}

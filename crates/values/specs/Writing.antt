@@ -8,7 +8,7 @@ use lib.Dec.{eqb}
 use lib.ListN.{length}
 use Rattle.words.specs.Bits.{Bits, stamp}
 use Rattle.values.specs.Effects.{Effect, keep, put, refuse, orNull, taken, bitsWhole}
-use Rattle.values.specs.Leaf.{Leaf, flag, width}
+use Rattle.values.specs.Leaf.{flag, width}
 use Rattle.values.specs.Stream.{Token, kindOf, payloadOf}
 use Rattle.values.specs.Tree.{Tree, leaf, bits, array, struct, Branches, none, branch, span}
 

@@ -2,7 +2,7 @@
 // other atomics an entry each.
 ghost use mathlib.Core.Path.{_≡_};
 ghost use Prim.Native.Nat.{_+_, _*_, _<_, _≤_};
-ghost use mathlib.Core.List.{List, [], _∷_};
+ghost use mathlib.Core.List.{[], _∷_};
 ghost use lib.ListN.{length};
 ghost use Rattle.types.specs.Atomic.{sizeOf};
 ghost use Rattle.types.specs.Layout.{times};

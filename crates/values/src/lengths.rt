@@ -1,8 +1,6 @@
 // The bytes of text that a value has (document 01, "Value stream"), from the LEN of each of its strings. It stops as
 // soon as the room is passed.
-ghost use mathlib.Core.Path.{_≡_};
 ghost use Prim.Native.Nat.{ℕ, _+_, _*_, _<_, _≤_};
-ghost use lib.ListN.{length};
 ghost use Rattle.types.specs.Tables.{memberAt};
 ghost use Rattle.values.specs.Counting.{Texts};
 ghost use Rattle.values.specs.Walk.{elementsBy, memberBy, membersBy, structOut};

@@ -4,6 +4,7 @@ ghost use Prim.Native.Nat.{_+_, _<_};
 ghost use Rattle.types.specs.Layout.{times};
 ghost use Rattle.types.specs.Tables.{memberAt};
 ghost use Rattle.types.specs.Waste.{sizesIn};
+ghost use Rattle.values.specs.InPlace.{isPlain};
 ghost use Rattle.values.specs.Trees.{isString};
 ghost use Rattle.values.specs.Walk.{capacityAt, isNested};
 use types::Bit;
@@ -80,5 +81,22 @@ pub fn is_nested(members: &MemberTable, row: usize) -> bool
                 }
             }
         }
+    }
+}
+
+// A row holds a visible member that is no BOOL of a host.
+pub fn is_plain(members: &MemberTable, row: usize) -> bool
+    requires { ⌜ row < 2000 ⌝ }
+    ensures { λ r. ⌜ r ≡ isPlain (memberAt (now (members .entry)) row) ⌝ }
+{
+    let m = member_at(members, row);
+    let hidden = m.hidden;
+    let bit = m.bit;
+    if hidden {
+        return false;
+    }
+    match bit {
+        Bit::At(_) => false,
+        Bit::None => true,
     }
 }

@@ -1,6 +1,5 @@
 // Numbers one after the other (document 01, "Reading"): an entry for each of n atomics of one type, with a loop for
 // each size.
-ghost use mathlib.Core.Path.{_≡_};
 ghost use Prim.Native.Nat.{_+_, _*_, _≤_};
 ghost use lib.ListN.{length};
 ghost use Rattle.types.specs.Atomic.{sizeOf};

@@ -73,7 +73,7 @@ fn put_low(image: &mut [u8], at: usize, size: usize, x: u64)
 }
 
 // Zeros at n places.
-fn clear(image: &mut [u8], at: usize, n: usize)
+pub fn clear(image: &mut [u8], at: usize, n: usize)
     requires { ⌜ at + n ≤ length (now image) ⌝ }
     ensures { λ _. ⌜ now (image .exit) ≡ sets (now (image .entry)) at (replicate n 0) ⌝ }
 {

@@ -1,6 +1,6 @@
 // Strings (document 01, "Reading"): the stored text is min(LEN as u32, capacity) bytes of DATA.
 ghost use mathlib.Core.Path.{_≡_};
-ghost use Prim.Native.Nat.{_+_, _*_, _≤_, min};
+ghost use Prim.Native.Nat.{_+_, _*_, _≤_};
 ghost use lib.ListN.{length};
 ghost use Rattle.values.specs.Laying.{Room, Wrote};
 ghost use Rattle.values.specs.Walk.{textLength, textOut};

@@ -1,8 +1,7 @@
 // The walk of a reading (document 01, "Reading"): the visible members in order, each by its number among all and
 // then its value, read from the member's own part of the image. Structures call arrays and arrays structures; a
 // structure holds only earlier ones, so the number falls. A leaf, or an array of atomics, takes no such call.
-ghost use mathlib.Core.Path.{_≡_};
-ghost use Prim.Native.Nat.{ℕ, _+_, _*_, _<_, _≤_};
+ghost use Prim.Native.Nat.{_+_, _*_, _<_, _≤_};
 ghost use lib.ListN.{length};
 ghost use Rattle.types.specs.Tables.{memberAt};
 ghost use Rattle.values.specs.Laying.{Put, Room, Wrote};

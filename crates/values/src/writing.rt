@@ -33,7 +33,7 @@ use types::is_there;
 use words::load32;
 use words::wide;
 
-// The whole stream was taken, or a refusal.
+// All was done, or a refusal and nothing was.
 pub enum Taken {
     Whole,
     Refused(Refusal),

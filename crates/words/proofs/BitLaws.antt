@@ -1,18 +1,18 @@
 -- Laws of bits: of a number, of a list of bytes, of bits put over others; one bit set or cleared; a word as the
 -- number of its bits.
 use Prim.Native.Nat.{ℕ, zero, suc, _+_, _-_, _*_, _/_, _%_, _^_, _≤_, _<_, min, max}
-use native.Mathlib.Nat.{zero-add, suc-add, pow-suc, pow-succ', mul-assoc, mul-comm, div-div-eq-div-mul, div-one}
+use native.Mathlib.Nat.{zero-add, suc-add, pow-suc, pow-succ', mul-assoc, div-div-eq-div-mul, div-one}
 use native.Mathlib.Nat.{one-mul, mod-eq-of-lt}
 use native.Mathlib.Decide.{ℕ-discrete}
 use native.Mathlib.Omega.{arith}
-use mathlib.Core.Path.{_≡_, refl, sym, ap, ap₂, _∙_, fun-ext}
+use mathlib.Core.Path.{_≡_, refl, sym, ap, _∙_, fun-ext}
 use mathlib.Core.Bool.{Bool, true, false, cond, not, _&&_, _||_, or-true, or-false, and-true, and-false}
 use mathlib.Core.List.{List}
 use mathlib.Core.Logic.{_≢_}
 use borrow.Author.Tests.{lt-ltb, le-ltb, eq-eqb, ne-eqb}
 use native.Mathlib.Decide.{decLt}
 use lib.Bits.{bitOr, bitAnd, or-step, and-step}
-use lib.Dec.{eqb, ltb, eqb·suc-zero, eqb·zero-suc, eqb·suc-suc}
+use lib.Dec.{eqb, eqb·suc-zero, eqb·zero-suc, eqb·suc-suc}
 use lib.ListN.{length, getD, set}
 use lib.Pow.{pow-lt}
 use lib.Seq.{getD-set-same, getD-set-other}

@@ -1,15 +1,15 @@
 -- Laws of a run of stores (`sets`) and of a part of a list (`part`), over any element. A run of stores changes just
 -- its own places; runs that meet are one run; a part is read from the front, one element after the other.
-use Prim.Native.Nat.{ℕ, zero, suc, _+_, _-_, _≤_, _<_, min}
+use Prim.Native.Nat.{ℕ, suc, _+_, _-_, _≤_, _<_, min}
 use native.Mathlib.Decide.{decLe}
-use native.Mathlib.Nat.{add-zero, add-sub-cancel-left}
+use native.Mathlib.Nat.{add-zero}
 use native.Mathlib.Omega.{arith}
-use mathlib.Core.Path.{_≡_, refl, sym, ap, _∙_}
+use mathlib.Core.Path.{_≡_, refl, ap, _∙_}
 use mathlib.Core.List.{List, [], _∷_, _++_, append-assoc}
 use mathlib.Core.Logic.{_⊎_, inl, inr, ⊎-elim}
-use lib.ListN.{length, getD, set, take, drop, length-append, length-take, length-drop, drop-of-length-le}
+use lib.ListN.{length, getD, set, take, drop, length-take, length-drop}
 use lib.ListN.{List·getD-append}
-use lib.Seq.{sets, sets-eq, set-comm, set-set, drop-cons, drop-drop, length-sets, getD-append-add, getD-set-other}
+use lib.Seq.{sets, sets-eq, set-comm, drop-cons, drop-drop, getD-append-add, getD-set-other}
 use lib.Seq.{length-take-le, take-all, take-length, take-set-le, take-append-seam, drop-set-add, drop-set-lt, drop-at}
 use Rattle.words.specs.Words.{part}
 

@@ -1,7 +1,7 @@
 -- Laws of little-endian words, over the width: a word is its two halves, in a list and as bytes; what was stored is
 -- loaded; what was loaded can be stored again.
 use Prim.Native.Nat.{ℕ, zero, suc, _+_, _-_, _*_, _/_, _%_, _^_, _≤_, _<_}
-use native.Mathlib.Nat.{add-zero, zero-add, suc-add, pow-suc, pow-succ', mul-assoc, mul-comm, div-div-eq-div-mul}
+use native.Mathlib.Nat.{add-zero, zero-add, suc-add, pow-suc, pow-succ', mul-assoc, div-div-eq-div-mul}
 use native.Mathlib.Nat.{one-le-pow, mod-one, div-one}
 use native.Mathlib.Omega.{arith}
 use mathlib.Core.Path.{_≡_, refl, sym, ap, _∙_}
@@ -11,7 +11,7 @@ use lib.Arith.{mod-mul}
 use lib.ListN.{length, getD}
 use lib.Seq.{sets, drop-cons}
 use Rattle.words.specs.Words.{wordAt, bytesOf, part, Bytes}
-use Rattle.words.proofs.Lists.{sets-append, getD-sets, getD-beside, part-cons}
+use Rattle.words.proofs.Lists.{sets-append, getD-sets, getD-beside}
 
 power-pos : (n : ℕ) → 0 < 256 ^ n
 power-pos n = one-le-pow n 256 (omega arith)

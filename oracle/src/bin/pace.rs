@@ -1,5 +1,5 @@
-//! The works whose pace is measured. `pace` lists them with their entries; `pace ask N TIMES` prints the port's
-//! questions of work N; `pace original N TIMES` does it with the original.
+//! The works whose pace is measured. `pace` lists them, each with the port's program and its entries; `pace ask N TIMES`
+//! prints the port's questions of work N; `pace original N TIMES` does it with the original.
 
 use oracle::pace::{WORKS, Work};
 use std::io::{self, Write};
@@ -11,7 +11,9 @@ fn number(arguments: &mut impl Iterator<Item = String>) -> Option<usize> {
 fn done() -> Option<()> {
     let mut arguments = std::env::args().skip(1);
     let Some(verb) = arguments.next() else {
-        WORKS.iter().enumerate().for_each(|(i, work)| println!("{i}|{}|{}", work.name, work.entries()));
+        for (i, work) in WORKS.iter().enumerate() {
+            println!("{i}|{}|{}|{}", work.program(), work.name, work.entries());
+        }
         return Some(());
     };
     let work: &Work = WORKS.get(number(&mut arguments)?)?;

@@ -6,7 +6,7 @@ use crate::frames::Fields;
 use crate::model::{Atomic, StructKind, Ty, Types};
 use crate::stream::{self, Entry};
 
-const EDGES: [&str; 23] = [
+const EDGES: [&str; 28] = [
     "read: one value",
     "read: array",
     "read: structure",
@@ -16,6 +16,11 @@ const EDGES: [&str; 23] = [
     "read: LEN FFFFFFFF",
     "normal: one value",
     "normal: array",
+    "normal: structure",
+    "normal: BOOL alone",
+    "normal: LEN at the capacity",
+    "normal: LEN one above the capacity",
+    "normal: LEN FFFFFFFF",
     "text: LEN one above the capacity",
     "text: LEN FFFFFFFF",
     "write: nothing but null",

@@ -3,6 +3,7 @@
 
 mod exact;
 mod full;
+mod normals;
 mod pick;
 mod refused_books;
 mod refused_questions;
@@ -14,7 +15,8 @@ use crate::cases::{Case, Kinds};
 /// First what the document alone decides, then the picked cases: books that fill the tables, and generated ones.
 pub fn cases(generated: impl Iterator<Item = Case>, kinds: Kinds) -> Vec<Case> {
     let questions = refused_questions::all().into_iter().chain(refused_books::all());
-    let decided = questions.chain(refused_reads::all()).chain(refused_writes::all());
+    let values = refused_reads::all().into_iter().chain(refused_writes::all()).chain(normals::all());
+    let decided = questions.chain(values);
     let mut out: Vec<Case> = decided.filter(|case| kinds.asks(case)).collect();
     let filled = full::all().into_iter().filter(|case| kinds.asks(case));
     out.extend(pick::few(filled.chain(generated)));

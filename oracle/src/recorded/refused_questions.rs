@@ -53,6 +53,7 @@ fn no_tables(asked: &mut Asked) {
     asked.refused(15, 0, template(0x8000, 1_000));
     asked.refused(15, 0, shape(0x8000, &[]));
     asked.refused(15, 0, header(0x8000));
+    asked.refused(15, 0, question(9, &[0, 0x80, 0, 0, 0, 0, 0, 0, 0, 0]));
     asked.refused(15, 0, question(10, b"TIMER"));
     asked.judged(shape(DINT, &[2, 3]));
     asked.judged(header(DINT));

@@ -274,8 +274,8 @@ fn too_long(asked: &mut Asked) {
     NEST.refused(asked, 21, 2, &[Open, Member(2), Text(vec![b'x'; 300]), Signed(1)]);
 }
 
-/// What the document takes and the original does not say, or says otherwise: null for a BOOL member and for the whole, a
-/// member given twice, empty arrays over bit strings.
+/// What the document takes and the original does not say, or says otherwise: null for a BOOL member and for the whole,
+/// a member given twice, empty arrays over bit strings.
 fn taken(asked: &mut Asked) {
     CHAN.given(asked, &[Null], &[FILL; 4]);
     CHAN.given(asked, &[Open, Member(1), Null, Member(2), Bool(true), Close], &[FILL | 2, FILL, FILL, FILL]);

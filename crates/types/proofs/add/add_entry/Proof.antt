@@ -1,5 +1,4 @@
 -- `types::add_entry` meets its contract: the name's rule, the names before it, and what is new.
-use native.Mathlib.Omega.{arith}
 use borrow.Author.Needs.{needs}
 use mathlib.Core.Path.{_≡_, sym, _∙_}
 use Rattle.types.specs.Lookup.{typeAmong}

@@ -1,5 +1,4 @@
 -- `types::add_named` meets its contract: a string, or a type of members.
-use native.Mathlib.Omega.{arith}
 use borrow.Author.Needs.{needs}
 use mathlib.Core.Path.{sym, _∙_}
 use Rattle.types.proofs.AddStoreLaws.{took-no}

@@ -1,6 +1,5 @@
 -- `types::string_ok` meets its contract, one test after the other.
 use borrow.Author.Needs.{needs}
-use mathlib.Core.Path.{sym, _∙_}
 use Rattle.types.proofs.AddTypeLaws.{string-short, string-long, string-members, string-rest}
 use Rattle.types.proofs.add.string_ok.Statement.{statement}
 use Rattle.types.proofs.add.string_ok.Tie as tie

@@ -1,11 +1,7 @@
 -- `types::count_bools` meets its contract: the BOOLs of all are those so far and those of the members that are left.
 use native.Mathlib.Omega.{arith}
 use borrow.Author.Needs.{needs}
-use Prim.Native.Nat.{_+_, _-_, _≤_}
-use native.Mathlib.Nat.{sub-zero, zero-add}
-use mathlib.Core.Path.{_≡_, refl, sym, ap, _∙_}
-use Rattle.types.specs.Entries.{declsFrom, Found}
-use Rattle.types.specs.Structs.{bools}
+use Prim.Native.Nat.{_+_, _-_}
 use Rattle.types.proofs.AoiLaws.{Counting, counts, counted, count-on}
 use Rattle.types.proofs.EntryLaws.{found-first}
 use Rattle.types.proofs.aoi.count_bools.Statement.{statement}

@@ -1,8 +1,7 @@
 -- `types::measure_aoi` meets its contract.
 use native.Mathlib.Omega.{arith}
 use borrow.Author.Needs.{needs}
-use mathlib.Core.Path.{_≡_, sym, ap, _∙_}
-use Rattle.types.specs.Entries.{declsFrom}
+use mathlib.Core.Path.{_∙_}
 use Rattle.types.specs.Structs.{aoiHosts, measuredAoi}
 use Rattle.types.proofs.Measuring.{from-hosts}
 use Rattle.types.proofs.aoi.measure_aoi.Statement.{statement}

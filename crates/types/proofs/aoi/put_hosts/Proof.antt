@@ -1,10 +1,7 @@
 -- `types::put_hosts` meets its contract. The invariant is `Hosting`.
 use native.Mathlib.Omega.{arith}
 use borrow.Author.Needs.{needs}
-use Prim.Native.Nat.{ℕ, _+_, _-_}
-use mathlib.Core.Path.{_≡_, ap, _∙_}
-use mathlib.Core.List.{List}
-use Rattle.types.specs.Structs.{HostPut}
+use Prim.Native.Nat.{_-_}
 use Rattle.types.proofs.AoiLaws.{Hosting, hosts-start, hosts-done, host-room, host-on}
 use Rattle.types.proofs.aoi.put_hosts.Statement.{statement}
 use Rattle.types.proofs.aoi.put_hosts.Tie as tie

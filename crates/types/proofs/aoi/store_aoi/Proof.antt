@@ -2,8 +2,7 @@
 use native.Mathlib.Omega.{arith}
 use borrow.Author.Needs.{needs}
 use Prim.Native.Nat.{_+_}
-use mathlib.Core.Path.{_≡_, ap, _∙_}
-use Rattle.types.specs.Structs.{hostParts, enableParts, Put}
+use Rattle.types.specs.Structs.{enableParts, Put}
 use Rattle.types.proofs.AoiStoreLaws.{rows-room, names-room, rest-storable, third, all-rows, all-names}
 use Rattle.types.proofs.aoi.store_aoi.Statement.{statement}
 use Rattle.types.proofs.aoi.store_aoi.Tie as tie

@@ -1,8 +1,7 @@
 -- `types::book_ok` meets its contract: one way out for each rule.
 use native.Mathlib.Omega.{arith}
 use borrow.Author.Needs.{needs}
-use Prim.Native.Nat.{_+_, _*_}
-use mathlib.Core.Path.{_≡_, sym, ap, _∙_}
+use mathlib.Core.Path.{_≡_, sym, _∙_}
 use lib.ListN.{length}
 use Rattle.types.specs.Book.{typesIn, membersIn, bodiesAt, typeOk, every, typeEntries, sumCounts}
 use Rattle.types.proofs.BookLaws.{book-short, no-bodies, types-wrong, counts-wrong, members-decide}

@@ -2,7 +2,7 @@
 use native.Mathlib.Omega.{arith}
 use borrow.Author.Needs.{needs}
 use Prim.Native.Nat.{_-_}
-use mathlib.Core.Path.{_≡_, ap, _∙_}
+use mathlib.Core.Path.{ap, _∙_}
 use Rattle.types.specs.declared.book.TypeEntry.{TypeEntry}
 use Rattle.types.proofs.BookLaws.{Summing, sum-start, sum-done, sum-on}
 use Rattle.types.proofs.book.sum_counts.Statement.{statement}

@@ -1,7 +1,6 @@
 -- `types::host_long` meets its contract.
 use native.Mathlib.Omega.{arith}
 use borrow.Author.Needs.{needs}
-use mathlib.Core.Path.{_∙_}
 use Rattle.types.proofs.DigitLaws.{host-long}
 use Rattle.types.proofs.digits.host_long.Statement.{statement}
 use Rattle.types.proofs.digits.host_long.Tie as tie

@@ -2,9 +2,7 @@
 use native.Mathlib.Omega.{arith}
 use borrow.Author.Needs.{needs}
 use mathlib.Core.Path.{_∙_}
-use Prim.Native.Nat.{_+_}
 use Rattle.types.specs.Entries.{declAt}
-use Rattle.types.specs.Tables.{TyFits}
 use Rattle.types.proofs.entries.decl_at.Statement.{statement}
 use Rattle.types.proofs.entries.decl_at.Tie as tie
 

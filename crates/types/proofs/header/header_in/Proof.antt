@@ -1,7 +1,7 @@
 -- `types::header_in` meets its contract: the code and 0, or the mark and the handle.
 use native.Mathlib.Omega.{arith}
 use borrow.Author.Needs.{needs}
-use mathlib.Core.Path.{_≡_, ap, _∙_}
+use mathlib.Core.Path.{ap}
 use mathlib.Core.List.{List, _∷_}
 use Prim.Native.Nat.{ℕ, _<_}
 use Rattle.types.specs.Header.{held}

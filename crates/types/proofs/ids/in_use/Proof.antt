@@ -1,6 +1,6 @@
 -- `types::in_use` meets its contract: an id is in use among all rows if it is among those that are left.
 use native.Mathlib.Omega.{arith}
-use Prim.Native.Nat.{_+_, _-_, _≤_}
+use Prim.Native.Nat.{_-_, _≤_}
 use native.Mathlib.Nat.{sub-zero}
 use mathlib.Core.Path.{_≡_, sym, _∙_}
 use Rattle.types.specs.Book.{listFrom}

@@ -1,5 +1,4 @@
 -- `types::pick_id` meets its contract, one law for each way out.
-use native.Mathlib.Omega.{arith}
 use borrow.Author.Needs.{needs}
 use mathlib.Core.Path.{_∙_}
 use Rattle.types.specs.Book.{listFrom}

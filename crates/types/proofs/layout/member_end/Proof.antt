@@ -1,7 +1,7 @@
 -- `types::member_end` meets its contract: nothing wraps in 64 bits.
 use native.Mathlib.Omega.{arith}
 use borrow.Author.Needs.{needs}
-use mathlib.Core.Path.{_≡_, refl}
+use mathlib.Core.Path.{_≡_}
 use Prim.Native.Nat.{_+_, _*_, _≤_}
 use Rattle.types.specs.Layout.{times}
 use Rattle.types.proofs.LayoutLaws.{product-most, end-at, end-over}

@@ -1,10 +1,9 @@
 -- `types::place_bool` meets its contract: each way is the definition's.
 use native.Mathlib.Omega.{arith}
 use borrow.Author.Needs.{needs}
-use mathlib.Core.Path.{sym, ap, _∙_}
-use Prim.Native.Nat.{ℕ, _≤_, _^_}
+use mathlib.Core.Path.{_∙_}
 use borrow.Author.Tests.{lt-ltb, le-ltb}
-use Rattle.types.specs.Layout.{placeBool, sharedBits}
+use Rattle.types.specs.Layout.{placeBool}
 use Rattle.types.proofs.layout.place_bool.Statement.{statement}
 use Rattle.types.proofs.layout.place_bool.Tie as tie
 

@@ -1,6 +1,5 @@
 -- `types::place_other` meets its contract: the end decides.
 use borrow.Author.Needs.{needs}
-use mathlib.Core.Path.{_∙_}
 use Rattle.types.specs.Layout.{startOf}
 use Rattle.types.proofs.LayoutLaws.{other-over, other-at}
 use Rattle.types.proofs.layout.place_other.Statement.{statement}

@@ -1,7 +1,6 @@
 -- `types::find_type` meets its contract: the first of all is the first of those that are left.
 use native.Mathlib.Omega.{arith}
-use borrow.Author.Needs.{needs}
-use Prim.Native.Nat.{_+_, _-_}
+use Prim.Native.Nat.{_-_}
 use mathlib.Core.Path.{_≡_, refl, sym, _∙_}
 use Rattle.types.specs.Book.{listFrom}
 use Rattle.types.specs.Lookup.{namedAmong, rowName, NamesInside}

@@ -1,8 +1,8 @@
 -- `types::row_named` meets its contract: names of two lengths differ; the others are compared.
 use native.Mathlib.Omega.{arith}
 use borrow.Author.Needs.{needs}
-use Prim.Native.Nat.{_+_, _*_, _≤_}
-use mathlib.Core.Path.{_≡_, sym, ap, _∙_}
+use Prim.Native.Nat.{_+_, _≤_}
+use mathlib.Core.Path.{sym, _∙_}
 use lib.ListN.{length}
 use Rattle.words.proofs.Lists.{length-part}
 use Rattle.types.specs.Lookup.{rowName}

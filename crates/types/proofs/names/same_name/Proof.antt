@@ -1,7 +1,7 @@
 -- `types::same_name` meets its contract. The invariant: the bytes behind are the same.
 use native.Mathlib.Omega.{arith}
 use borrow.Author.Needs.{needs}
-use mathlib.Core.Path.{_≡_, sym, _∙_}
+use mathlib.Core.Path.{sym, _∙_}
 use Rattle.types.proofs.NameLaws.{same-long, SameFrom, from-end, from-less, from-not, from-first}
 use Rattle.types.proofs.names.same_name.Statement.{statement}
 use Rattle.types.proofs.names.same_name.Tie as tie

@@ -2,7 +2,7 @@
 use native.Mathlib.Omega.{arith}
 use borrow.Author.Needs.{needs}
 use Prim.Native.Nat.{_+_}
-use mathlib.Core.Path.{_≡_, sym, ap, _∙_}
+use mathlib.Core.Path.{_≡_, sym, _∙_}
 use Rattle.words.specs.Words.{Bytes}
 use lib.ListN.{length}
 use Rattle.types.specs.declared.measure.Measured.the-variants.{Laid}

@@ -1,13 +1,12 @@
 -- `types::resolve` meets its contract: the words of all are those stored so far and those that are left.
 use native.Mathlib.Omega.{arith}
 use borrow.Author.Needs.{needs}
-use Prim.Native.Nat.{_+_, _-_, _*_, _≤_}
+use Prim.Native.Nat.{_+_, _-_, _≤_}
 use native.Mathlib.Nat.{sub-zero, zero-add}
-use mathlib.Core.Path.{_≡_, refl, sym, ap, _∙_}
+use mathlib.Core.Path.{_≡_, refl, sym, _∙_}
 use lib.ListN.{length}
 use Rattle.types.specs.Lookup.{rowName, rowNames, typeAmong}
 use Rattle.types.specs.Resolve.{typeName, Resolvable}
-use Rattle.types.specs.Tables.{TyFits}
 use Rattle.types.proofs.AgreeLaws.{length-list}
 use Rattle.types.proofs.DefLaws.{earlier-fits}
 use Rattle.types.proofs.ResolveLaws.{found-earlier, Left, left-on, left-stop, left-end}

@@ -1,8 +1,6 @@
 -- `types::ty_of` meets its contract.
 use borrow.Author.Needs.{needs}
-use mathlib.Core.Path.{_≡_, ap, _∙_}
 use borrow.Author.Tests.{lt-ltb, le-ltb}
-use Rattle.types.specs.Atomic.{atomicAt}
 use Rattle.types.specs.Tables.{tyOf}
 use Rattle.types.proofs.tables.ty_of.Statement.{statement}
 use Rattle.types.proofs.tables.ty_of.Tie as tie

@@ -1,8 +1,8 @@
 -- `types::ty_word` meets its contract.
 use native.Mathlib.Omega.{arith}
 use borrow.Author.Needs.{needs}
-use mathlib.Core.Path.{_≡_, sym, ap, _∙_}
-use Rattle.types.specs.Tables.{tyWord, TyFits}
+use mathlib.Core.Path.{sym, ap, _∙_}
+use Rattle.types.specs.Tables.{tyWord}
 use Rattle.types.proofs.tables.ty_word.Statement.{statement}
 use Rattle.types.proofs.tables.ty_word.Tie as tie
 

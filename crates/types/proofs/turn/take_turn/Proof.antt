@@ -2,10 +2,9 @@
 use native.Mathlib.Omega.{arith}
 use borrow.Author.Needs.{needs}
 use Prim.Native.Nat.{_+_, _≤_}
-use mathlib.Core.Path.{_≡_, refl, sym, ap, _∙_}
+use mathlib.Core.Path.{_≡_, refl, ap, _∙_}
 use lib.ListN.{length}
 use Rattle.types.specs.declared.book.TypeEntry.{TypeEntry}
-use Rattle.types.specs.Book.{typeEntry}
 use Rattle.types.specs.Turns.{countOf}
 use Rattle.types.proofs.StoreOneLaws.{lent-name}
 use Rattle.types.proofs.TurnLaws.{turn-looks, turn-still, turn-waits, turn-ready, turn-takes}

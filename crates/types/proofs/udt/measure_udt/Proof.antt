@@ -1,6 +1,6 @@
 -- `types::measure_udt` meets its contract.
 use borrow.Author.Needs.{needs}
-use mathlib.Core.Path.{ap, _∙_}
+use mathlib.Core.Path.{_∙_}
 use Rattle.types.proofs.Measuring.{from-start}
 use Rattle.types.proofs.udt.measure_udt.Statement.{statement}
 use Rattle.types.proofs.udt.measure_udt.Tie as tie

@@ -1,6 +1,5 @@
 -- `values::write` meets its contract: 15, 14, 17 in that order, or what the entries make of the image.
 use Prim.Native.Nat.{ℕ, _*_}
-use native.Mathlib.Omega.{arith}
 use mathlib.Core.Path.{_≡_, sym, ap, ap₂, _∙_}
 use mathlib.Core.Bool.{true}
 use borrow.Author.Tests.{eqb-true, not-true, not-false}

@@ -1,5 +1,5 @@
 -- `types::Atomic::at` meets its contract.
-use mathlib.Core.Path.{_≡_, sym, ap}
+use mathlib.Core.Path.{sym, ap}
 use Rattle.types.specs.Atomic.{atomicAt}
 use Rattle.types.proofs.AtomicLaws.{at-other}
 use Rattle.types.proofs.atomic.Atomic.at.Statement.{statement}

@@ -1,7 +1,6 @@
 -- `values::read_nested` meets its contract (document 01, "Reading"): the structure, or the array of structures, in a
 -- row, from its own part of the image.
 use borrow.Author.Needs.{needs}
-use borrow.Fn.PlainCycle.{is, and}
 use native.Mathlib.Omega.{arith}
 use Prim.Native.Nat.{ℕ}
 use denote.Ref.{now}

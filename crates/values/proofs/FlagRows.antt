@@ -1,0 +1,205 @@
+-- The rows of BOOLs kept aside and put back (document 01, "Normal image"): what one row comes to, and what is done and
+-- left after some of them. Which rows hold a plain member.
+use Prim.Native.Nat.{ℕ, suc, _+_, _-_, _*_, _/_, _%_, _<_, _≤_}
+use native.Mathlib.Decide.{decLt}
+use native.Mathlib.Nat.{add-zero}
+use native.Mathlib.Omega.{arith}
+use mathlib.Core.Path.{_≡_, refl, sym, ap, _∙_}
+use mathlib.Core.Bool.{Bool, true, false, cond}
+use mathlib.Core.List.{List}
+use lib.ListN.{length}
+use Rattle.words.specs.Bits.{Bits, flat, from, inside, stamp}
+use Rattle.words.proofs.BitLaws.{Lies, among, beside, lies}
+use Rattle.types.specs.Laid.{firstBit}
+use Rattle.types.specs.Tables.{memberAt}
+use Rattle.types.specs.declared.member.Bit.the-variants.{None, At}
+use Rattle.types.specs.declared.member.Member.{Member}
+use Rattle.values.specs.InPlace.{RowsHere, flagged, isFlag, isPlain}
+use Rattle.values.specs.Rows.{MemberHere}
+use Rattle.values.specs.Trees.{membersAt}
+use Rattle.values.proofs.LeafLaws.{row-bit}
+use Rattle.values.proofs.StampLaws.{stamp-ext}
+
+-- ---- plain rows
+
+pub plain-hidden : {m n : Member} → m ≡ n → m .hidden ≡ true → false ≡ isPlain n
+unfolding isPlain
+plain-hidden e h = rw (← e, h)
+
+pub plain-bit : {m n : Member} {k : ℕ} → m ≡ n → m .hidden ≡ false → m .bit ≡ At k → false ≡ isPlain n
+unfolding isPlain
+plain-bit e h b = rw (← e, h, b)
+
+pub plain-whole : {m n : Member} → m ≡ n → m .hidden ≡ false → m .bit ≡ None → true ≡ isPlain n
+unfolding isPlain
+plain-whole e h b = rw (← e, h, b)
+
+-- ---- one row
+
+-- no visible BOOL: nothing is done
+pub unflagged-hidden : {m n : Member} (x y : Bits) → m ≡ n → m .hidden ≡ true → y ≡ cond (isFlag n) x y
+unfolding isFlag
+unflagged-hidden x y e h = rw (← e, h) refl
+
+pub unflagged-whole : {m n : Member} (x y : Bits) → m ≡ n → m .hidden ≡ false → m .bit ≡ None
+    → y ≡ cond (isFlag n) x y
+unfolding isFlag
+unflagged-whole x y e h b = rw (← e, h, b) refl
+
+-- one bit of some others
+one-bit : (q r j : ℕ) (v : Bool) (b z : Bits) → q ≡ r → v ≡ b j → stamp q 1 (λ i. v) z ≡ stamp r 1 (from j b) z
+one-bit q r j v b z e h =
+    ap (λ (p : ℕ). stamp p 1 (λ i. v) z) e
+    ∙ stamp-ext r 1 (λ i. v) (from j b) z (λ i l. let f : j ≡ j + i = omega arith in h ∙ ap b f)
+
+-- the member of a row was read, with its place: a visible BOOL at bit b of its byte
+pub record FlagHere (members : List ℕ) (row base : ℕ) (image : List ℕ) (m : Member) (start b : ℕ) : Type 0 where
+  pub is : m ≡ memberAt members row
+  pub here : RowsHere members row 1 base image
+  pub place : start ≡ m .offset
+  pub shown : m .hidden ≡ false
+  pub bit : m .bit ≡ At b
+
+module _ {members : List ℕ} {row base : ℕ} {image : List ℕ} {m : Member} {start b : ℕ}
+    (w : FlagHere members row base image m start b) where
+  member-here : MemberHere (w .here .sizes) (memberAt members row) base image
+  member-here = rw add-zero at (w .here .each 0 (omega arith))
+
+  pub flag-inside : (base + start < length image) × (b < 8)
+  flag-inside =
+      let h : 8 * base + (8 * m .offset + b + 1) ≤ 8 * length image = rw (← w .is, w .bit) at (member-here .inside) in
+      (omega (arith, w .place), row-bit members row b (ap (λ (x : Member). x .bit) (sym (w .is)) ∙ w .bit))
+
+  flag-first : 8 * (base + start) + b ≡ 8 * base + firstBit (memberAt members row)
+  flag-first = rw (← w .is, w .bit) (omega (arith, w .place))
+
+  chosen : isFlag (memberAt members row) ≡ true
+  unfolding isFlag
+  chosen = rw (← w .is, w .shown, w .bit) refl
+
+  -- kept as bit k
+  pub flag-kept : {new : Bits} (k r : ℕ) (v : Bool) (kept : Bits) → r ≡ k % 8
+      → v ≡ flat image (8 * (base + start) + b) → new ≡ stamp (8 * (k / 8) + r) 1 (λ i. v) kept
+      → new ≡ cond (isFlag (memberAt members row))
+      (stamp k 1 (from (8 * base + firstBit (memberAt members row)) (flat image)) kept) kept
+  flag-kept k r v kept e h f =
+      rw chosen (f ∙ one-bit (8 * (k / 8) + r) k (8 * base + firstBit (memberAt members row)) v (flat image) kept
+      (omega arith) (h ∙ ap (flat image) flag-first))
+
+  -- put back from bit k
+  pub flag-put : {new : Bits} (k r : ℕ) (v : Bool) (kept : List ℕ) → r ≡ k % 8 → v ≡ flat kept (8 * (k / 8) + r)
+      → new ≡ stamp (8 * (base + start) + b) 1 (λ i. v) (flat image)
+      → new ≡ cond (isFlag (memberAt members row))
+      (stamp (8 * base + firstBit (memberAt members row)) 1 (from k (flat kept)) (flat image)) (flat image)
+  flag-put k r v kept e h f =
+      let g : 8 * (k / 8) + r ≡ k = omega arith in
+      rw chosen (f ∙ one-bit (8 * (base + start) + b) (8 * base + firstBit (memberAt members row)) k v (flat kept)
+      (flat image) flag-first (h ∙ ap (flat kept) g))
+
+-- ---- the rows
+
+-- one of n rows
+pub one-row : {members : List ℕ} {first n base : ℕ} {image : List ℕ} (k : ℕ) → RowsHere members first n base image
+    → k < n → (new : List ℕ) → length new ≡ length image → RowsHere members (first + k) 1 base new
+one-row {members} {first} {n} {base} {image} k h l new e =
+    record {
+      rows = omega (arith, h .rows);
+      sizes = h .sizes;
+      each = λ i s.
+          let f : first + k + i ≡ first + k = omega arith in
+          record { inside = rw (f, e) (h .each k l .inside) };
+    }
+
+-- the BOOLs of the first k rows are kept
+pub record Keeping (members : List ℕ) (first base : ℕ) (image kept : List ℕ) (k : ℕ) (new : List ℕ) : Type 0 where
+  pub long : length new ≡ length kept
+  pub each : (i : ℕ) → i < k → isFlag (memberAt members (first + i)) ≡ true
+      → flat new i ≡ flat image (8 * base + firstBit (memberAt members (first + i)))
+
+pub keeping-none : (members : List ℕ) (first base : ℕ) (image kept : List ℕ) (k : ℕ) → k ≡ 0
+    → Keeping members first base image kept k kept
+keeping-none members first base image kept k e =
+    record { long = refl; each = λ i l. absurd (let z : ⊥ = omega arith in z) }
+
+-- a row changes no bit but its own
+row-beside : (c : Bool) (k i : ℕ) (b z : Bits) → i < k → cond c (stamp k 1 b z) z i ≡ z i
+unfolding stamp
+row-beside true k i b z l = go (lies k 1 i)
+  where
+    go : Lies k 1 i → cond (inside k 1 i) (b (i - k)) (z i) ≡ z i
+    go (among m n e) = absurd (let y : ⊥ = omega arith in y)
+    go (beside f e) = rw e refl
+row-beside false k i b z l = refl
+
+row-own : (c : Bool) (k i q : ℕ) (b z : Bits) → i ≡ k → c ≡ true → cond c (stamp k 1 (from q b) z) z i ≡ b q
+unfolding stamp
+row-own c k i q b z e h = rw h (go (lies k 1 i))
+  where
+    go : Lies k 1 i → cond (inside k 1 i) (b (q + (i - k))) (z i) ≡ b q
+    go (among m n f) = let g : q + (i - k) ≡ q = omega arith in rw f (ap b g)
+    go (beside f g) = absurd (f (omega arith) (omega arith))
+
+pub keeping-more : {members : List ℕ} {first base : ℕ} {image kept : List ℕ} {k : ℕ} {new : List ℕ} (newer : List ℕ)
+    → Keeping members first base image kept k new → length newer ≡ length new
+    → flat newer ≡ cond (isFlag (memberAt members (first + k)))
+    (stamp k 1 (from (8 * base + firstBit (memberAt members (first + k))) (flat image)) (flat new)) (flat new)
+    → Keeping members first base image kept (k + 1) newer
+keeping-more {members} {first} {base} {image} {kept} {k} {new} newer a long e =
+    record { long = long ∙ a .long; each = λ i l h. ap (λ (x : Bits). x i) e ∙ go i l h (decLt i k) }
+  where
+    go : (i : ℕ) → i < k + 1 → isFlag (memberAt members (first + i)) ≡ true → Dec (i < k)
+        → cond (isFlag (memberAt members (first + k)))
+        (stamp k 1 (from (8 * base + firstBit (memberAt members (first + k))) (flat image)) (flat new)) (flat new) i
+        ≡ flat image (8 * base + firstBit (memberAt members (first + i)))
+    go i l h (yes m) =
+        row-beside (isFlag (memberAt members (first + k))) k i
+        (from (8 * base + firstBit (memberAt members (first + k))) (flat image)) (flat new) m ∙ a .each i m h
+    go i l h (no m) =
+        let f : i ≡ k = omega (arith, m) in
+        row-own (isFlag (memberAt members (first + k))) k i (8 * base + firstBit (memberAt members (first + k)))
+        (flat image) (flat new) f (rw f at h)
+        ∙ ap (λ (j : ℕ). flat image (8 * base + firstBit (memberAt members (first + j)))) (sym f)
+
+-- what is left after k rows comes to the whole
+pub record Putting (members : List ℕ) (first n : ℕ) (b : Bits) (p : ℕ) (image : List ℕ) (k : ℕ) (new : List ℕ)
+    : Type 0 where
+  pub long : length new ≡ length image
+  pub left : flagged b p k (membersAt members (first + k) (n - k)) (flat new)
+      ≡ flagged b p 0 (membersAt members first n) (flat image)
+
+pub putting-none : (members : List ℕ) (first n : ℕ) (b : Bits) (p : ℕ) (image : List ℕ) (k : ℕ) → k ≡ 0
+    → Putting members first n b p image k image
+putting-none members first n b p image k e =
+    let f : first + k ≡ first = omega arith in
+    let g : n - k ≡ n = omega arith in
+    record { long = refl; left = rw (f, g, e) refl }
+
+flagged-first : (b : Bits) (p k : ℕ) (members : List ℕ) (row n : ℕ) (x : Bits)
+    → flagged b p k (membersAt members row (suc n)) x
+    ≡ flagged b p (k + 1) (membersAt members (row + 1) n) (cond (isFlag (memberAt members row))
+    (stamp (p + firstBit (memberAt members row)) 1 (from k b) x) x)
+unfolding membersAt flagged
+flagged-first b p k members row n x = let e : k + 1 ≡ suc k = omega arith in rw e refl
+
+pub putting-more : {members : List ℕ} {first n : ℕ} {b : Bits} {p : ℕ} {image : List ℕ} {k : ℕ} {new : List ℕ}
+    (newer : List ℕ) → Putting members first n b p image k new → k < n → length newer ≡ length new
+    → flat newer ≡ cond (isFlag (memberAt members (first + k)))
+    (stamp (p + firstBit (memberAt members (first + k))) 1 (from k b) (flat new)) (flat new)
+    → Putting members first n b p image (k + 1) newer
+putting-more {members} {first} {n} {b} {p} {image} {k} {new} newer a l long e =
+    let f : suc (n - (k + 1)) ≡ n - k = omega arith in
+    let g : first + k + 1 ≡ first + (k + 1) = omega arith in
+    record {
+      long = long ∙ a .long;
+      left = ap (flagged b p (k + 1) (membersAt members (first + (k + 1)) (n - (k + 1)))) e
+          ∙ sym (rw (f, g) at (flagged-first b p k members (first + k) (n - (k + 1)) (flat new)))
+          ∙ a .left;
+    }
+
+pub putting-all : {members : List ℕ} {first n : ℕ} {b : Bits} {p : ℕ} {image : List ℕ} {k : ℕ} {new : List ℕ}
+    → Putting members first n b p image k new → k ≡ n
+    → flat new ≡ flagged b p 0 (membersAt members first n) (flat image)
+unfolding membersAt flagged
+putting-all {members} {first} {n} {b} {p} {image} {k} {new} a e =
+    let f : n - k ≡ 0 = omega arith in
+    rw f at (a .left)

@@ -1,0 +1,87 @@
+-- The whole of making an image normal (document 01, "Normal image", "Refusal numbers"): 15 and 14 leave the image as it
+-- was; else the bits of its value's tree made normal are all its bits, and it is the normal image.
+use Prim.Native.Nat.{ℕ, _*_, _<_}
+use native.Mathlib.Omega.{arith}
+use borrow.Author.Tests.{eq-eqb, ne-eqb}
+use mathlib.Core.Path.{_≡_, refl, sym, ap, _∙_}
+use mathlib.Core.Bool.{true, false}
+use mathlib.Core.List.{List}
+use lib.ListN.{length}
+use Rattle.words.specs.Bits.{Bits, flat, inside}
+use Rattle.words.specs.Words.{Bytes}
+use Rattle.types.specs.Shape.{isThere}
+use Rattle.types.specs.declared.atomic.Atomic.{Atomic}
+use Rattle.types.specs.declared.member.Ty.{Ty}
+use Rattle.types.specs.declared.member.Ty.the-variants as ty
+use Rattle.types.specs.declared.refusal.Refusal.the-variants.{ImageLength, NoSuchType}
+use Rattle.values.specs.InPlace.{Standing, made}
+use Rattle.values.specs.Leaf.{chars}
+use Rattle.values.specs.Normal.{normal, normalImage}
+use Rattle.values.specs.Normalised.{MadeNormal, normalResult, valueNormal}
+use Rattle.values.specs.Reading.{imageFits}
+use Rattle.values.specs.Rows.{treeIn}
+use Rattle.values.specs.Tree.{Tree, array, items, span}
+use Rattle.values.specs.Trees.{atomicsTree, knownIn, structsTree, treeOfValue}
+use Rattle.values.specs.Walkable.{ValueImage}
+use Rattle.values.specs.declared.writing.Taken.the-variants.{Refused, Whole}
+use Rattle.values.proofs.CharLaws.{chars-ext}
+use Rattle.values.proofs.MadeLaws.{made-inside}
+use Rattle.values.proofs.PlacedLaws.{yes-inside}
+use Rattle.values.proofs.SpanLaws.{tree-value-span}
+use Rattle.values.proofs.StandingLaws.{standing-walkable}
+use Rattle.values.proofs.WrittenLaws.{bytes-bits}
+
+-- ---- a value's image
+
+module _ {types members : List ℕ} (s : Standing types members) {t : Ty} {n : ℕ} {image : List ℕ}
+    (v : ValueImage types t n image) where
+  abbrev tree : Tree
+  tree = treeOfValue (knownIn types members) t n
+
+  -- each of its bits is one of the tree's
+  all-inside : (k : ℕ) → k < 8 * length image → inside 0 (span tree) k ≡ true
+  all-inside k l =
+      yes-inside 0 (span tree) k (omega arith)
+      (omega (arith, l, v .long, tree-value-span types members (standing-walkable s) t n (v .fits)))
+
+  made-value : {new : List ℕ} → length new ≡ length image → Bytes new → flat new ≡ made tree 0 (flat image)
+      → new ≡ valueNormal types members t n image
+  unfolding normalImage
+  made-value {new} long b e =
+      sym (bytes-bits new b) ∙ ap (λ (m : ℕ). chars m (flat new)) long
+      ∙ chars-ext (length image) (flat new) (normal (items tree 0) (flat image))
+      (λ k l. ap (λ (x : Bits). x k) e ∙ made-inside tree 0 (flat image) k (all-inside k l))
+
+  module _ {new : List ℕ} (long : length new ≡ length image) (b : Bytes new) where
+    pub atomics-normal : {a : Atomic} → t ≡ ty.Atomic a → flat new ≡ made (atomicsTree a n) 0 (flat image)
+        → new ≡ valueNormal types members t n image
+    unfolding treeOfValue
+    atomics-normal is e = made-value long b (e ∙ rw is refl)
+
+    pub one-normal : {i : ℕ} → t ≡ ty.Struct i → n ≡ 0 → flat new ≡ made (treeIn types members i) 0 (flat image)
+        → new ≡ valueNormal types members t n image
+    unfolding treeOfValue structsTree
+    one-normal is none e = made-value long b (e ∙ rw (is, eq-eqb n 0 none) refl)
+
+    pub all-normal : {i : ℕ} → t ≡ ty.Struct i → (n ≡ 0 → ⊥)
+        → flat new ≡ made (array n (treeIn types members i)) 0 (flat image)
+        → new ≡ valueNormal types members t n image
+    unfolding treeOfValue structsTree
+    all-normal is some e = made-value long b (e ∙ rw (is, ne-eqb n 0 some) refl)
+
+-- ---- the call
+
+module _ (types members : List ℕ) (t : Ty) (n : ℕ) (image : List ℕ) where
+  pub no-type : isThere types t ≡ false → MadeNormal types members t n image (Refused NoSuchType) image
+  unfolding normalResult
+  no-type e = record { answer = rw e refl; leaves = rw e refl }
+
+  module _ (there-is : isThere types t ≡ true) where
+    pub no-image : imageFits types t n image ≡ false → MadeNormal types members t n image (Refused ImageLength) image
+    unfolding normalResult
+    no-image e = record { answer = rw (there-is, e) refl; leaves = rw (there-is, e) refl }
+
+    pub whole-normal : {new : List ℕ} → imageFits types t n image ≡ true → new ≡ valueNormal types members t n image
+        → MadeNormal types members t n image Whole new
+    unfolding normalResult
+    whole-normal e w = record { answer = rw (there-is, e) refl; leaves = w ∙ rw (there-is, e) refl }

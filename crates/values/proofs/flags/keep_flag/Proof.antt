@@ -1,0 +1,88 @@
+-- `values::keep_flag` meets its contract: a visible BOOL's bit is stored in its place, and else nothing is done.
+use native.Mathlib.Omega.{arith}
+use borrow.Author.Needs.{needs}
+use denote.Ref.{now}
+use Rattle.values.proofs.FlagRows.{FlagHere, flag-inside, flag-kept, unflagged-hidden, unflagged-whole}
+use Rattle.values.proofs.flags.keep_flag.Statement.{statement}
+use Rattle.values.proofs.flags.keep_flag.Tie as tie
+
+abbrev start : tie.After-wide → tie.Start
+start c = c .before .before .before .before .before .before .before .before .before .before
+
+-- the member was read, and it is a visible BOOL
+here : (c : tie.After-wide)
+    → let arm = c .before .before .before .before in
+    let seen = arm .before .before in
+    let a = start c .args in
+    FlagHere (now (a .members)) (a .row) (a .base) (now (a .image)) (seen .before .member-at .result)
+    (c .wide .result) (arm .bit .given .0 .0)
+here c =
+    let arm = c .before .before .before .before in
+    let seen = arm .before .before in
+    record {
+      is = seen .before .member-at .ensures;
+      here = start c .pre .0;
+      place = c .wide .ensures;
+      shown = seen .if1 .left;
+      bit = arm .bit .given .1;
+    }
+
+member-at-requires : tie.Need-member-at-requires
+member-at-requires c κs = search needs
+
+returns : tie.Need-returns
+returns c = unflagged-hidden _ _ (c .before .member-at .ensures) (c .if1 .taken)
+
+enum-known-bit : tie.Need-enum-known-bit
+enum-known-bit c = search needs
+
+bit-in-byte-requires : tie.Need-bit-in-byte-requires
+bit-in-byte-requires c κs = search needs
+
+wide-requires : tie.Need-wide-requires
+wide-requires c κs = search needs
+
+add-bit-at : tie.Need-add-bit-at
+add-bit-at c = omega (arith, flag-inside (here c) .0, start c .good)
+
+bit-at-requires : tie.Need-bit-at-requires
+bit-at-requires c κs = flag-inside (here c)
+
+put-bit-requires : tie.Need-put-bit-requires
+put-bit-requires c κs = search needs
+
+enum-told : tie.Need-enum-told
+enum-told c = search needs
+
+same-length : tie.Need-same-length
+same-length c = search needs
+
+returns-2 : tie.Need-returns-2
+returns-2 c =
+    let put = c .before .before in
+    let got = put .before in
+    let place = got .before in
+    flag-kept (here place) (start place .args .k) _ _ _ (place .before .bit-in-byte .ensures .0) (got .bit-at .ensures)
+    (put .put-bit .ensures)
+
+returns-3 : tie.Need-returns-3
+returns-3 c =
+    let seen = c .before .before in
+    unflagged-whole _ _ (seen .before .member-at .ensures) (seen .if1 .left) (c .enum-told .given .1)
+
+pub keep-flag-spec : {M : Type 1} → statement M
+keep-flag-spec =
+    tie.close
+    (tie.spec
+    member-at-requires
+    returns
+    enum-known-bit
+    bit-in-byte-requires
+    wide-requires
+    add-bit-at
+    bit-at-requires
+    put-bit-requires
+    enum-told
+    same-length
+    returns-2
+    returns-3)

@@ -1,0 +1,121 @@
+-- `values::normal` meets its contract (document 01, "Normal image", "Refusal numbers"): 15, 14 in that order, or the
+-- normal image.
+use Prim.Native.Nat.{ℕ, _*_}
+use mathlib.Core.Path.{_≡_, sym, ap, ap₂, _∙_}
+use mathlib.Core.Bool.{true}
+use borrow.Author.Tests.{eqb-true, not-true, not-false}
+use lib.Dec.{eqb}
+use lib.ListN.{length}
+use Rattle.types.specs.Layout.{times}
+use Rattle.types.specs.Shape.{isThere}
+use Rattle.types.specs.Waste.{sizeIn, sizesIn}
+use Rattle.types.proofs.ShapeLaws.{there-fits}
+use Rattle.values.specs.Reading.{imageFits}
+use Rattle.values.proofs.NormalisedLaws.{no-image, no-type, whole-normal}
+use borrow.Author.Needs.{needs}
+use Rattle.values.proofs.normals.normal.Statement.{statement}
+use Rattle.values.proofs.normals.normal.Tie as tie
+
+-- the type is there
+there : (c : tie.Else1) → isThere (c .before .before .before .args .types .now)
+    (c .before .before .before .args .ty) ≡ true
+there c = sym (c .before .is-there .ensures) ∙ not-false _ (c .if1 .left)
+
+-- the product's test is the image's
+product : (c : tie.After-is-product) → c .is-product .result
+    ≡ imageFits (c .before .before .before .before .before .before .before .args .types .now)
+    (c .before .before .before .before .before .before .before .args .ty)
+    (c .before .before .before .before .before .before .before .args .count)
+    (c .before .before .before .before .before .before .before .args .image .now)
+product c =
+    let at-times = c .before in
+    let at-size = at-times .before in
+    let same = at-size .before .as-size .ensures in
+    let image = at-size .before .before .before .before .before .args .image .now in
+    c .is-product .ensures
+    ∙ ap₂ (λ (s n : ℕ). eqb (length image) (s * n)) (at-size .size-of-ty .ensures)
+    (at-times .times-of .ensures ∙ ap times same)
+
+-- the image fits
+fits : (c : tie.Else2)
+    → imageFits (c .before .before .before .before .before .before .before .before .args .types .now)
+    (c .before .before .before .before .before .before .before .before .args .ty)
+    (c .before .before .before .before .before .before .before .before .args .count)
+    (c .before .before .before .before .before .before .before .before .args .image .now) ≡ true
+fits c = sym (product (c .before)) ∙ not-false _ (c .if2 .left)
+
+is-there-requires : tie.Need-is-there-requires
+is-there-requires c κs = search needs
+
+returns : tie.Need-returns
+returns c =
+    let at-there = c .before in
+    let a = at-there .before .before .args in
+    no-type (a .types .now) (a .members .now) (a .ty) (a .count) (a .image .now)
+    (sym (at-there .is-there .ensures) ∙ not-true _ (c .if1 .taken))
+
+as-size-requires : tie.Need-as-size-requires
+as-size-requires c κs = search needs
+
+size-of-ty-requires : tie.Need-size-of-ty-requires
+size-of-ty-requires c κs =
+    let a = c .before .before .before .before .args in
+    there-fits (a .types .now) (a .ty) (there (c .before))
+
+times-of-requires : tie.Need-times-of-requires
+times-of-requires c κs = search needs
+
+is-product-requires : tie.Need-is-product-requires
+is-product-requires c κs = search needs
+
+returns-2 : tie.Need-returns-2
+returns-2 c =
+    let at-product = c .before in
+    let at-else = at-product .before .before .before .before in
+    let a = at-else .before .before .before .args in
+    no-image (a .types .now) (a .members .now) (a .ty) (a .count) (a .image .now) (there at-else)
+    (sym (product at-product) ∙ not-true _ (c .if2 .taken))
+
+normal-value-requires : tie.Need-normal-value-requires
+normal-value-requires c κs =
+    let at-fits = c .before in
+    let at-size = at-fits .before .before .before .before in
+    let at-else = at-size .before in
+    let at-start = at-else .before .before .before in
+    let a = at-start .args in
+    let same = at-size .as-size .ensures in (
+      at-start .pre,
+      record {
+        fits = there-fits (a .types .now) (a .ty) (there at-else);
+        long = eqb-true (length (a .image .now)) (sizeIn (sizesIn (a .types .now)) (a .ty) * times (a .count))
+            (fits at-fits) ∙ ap (λ (n : ℕ). sizeIn (sizesIn (a .types .now)) (a .ty) * times n) (sym same);
+      },
+    )
+
+same-length : tie.Need-same-length
+same-length c = search needs
+
+returns-3 : tie.Need-returns-3
+returns-3 c =
+    let at-value = c .before .before in
+    let at-fits = at-value .before .before in
+    let at-size = at-fits .before .before .before .before in
+    let at-else = at-size .before in
+    let a = at-else .before .before .before .args in
+    whole-normal (a .types .now) (a .members .now) (a .ty) (a .count) (a .image .now) (there at-else) (fits at-fits)
+    (rw (at-size .as-size .ensures) at (at-value .normal-value .ensures))
+
+pub normal-spec : {M : Type 1} → statement M
+normal-spec =
+    tie.close
+    (tie.spec
+    is-there-requires
+    returns
+    as-size-requires
+    size-of-ty-requires
+    times-of-requires
+    is-product-requires
+    returns-2
+    normal-value-requires
+    same-length
+    returns-3)

@@ -1,0 +1,77 @@
+-- `values::normal_text` meets its contract (document 01, "Normal image"): LEN, and zeros after the text.
+use borrow.Author.Needs.{needs}
+use Prim.Native.Nat.{_+_, _*_, _/_, min}
+use mathlib.Core.Path.{ap, _∙_}
+use Rattle.values.proofs.LeafMade.{text-made}
+use Rattle.values.proofs.norms.normal_text.Statement.{statement}
+use Rattle.values.proofs.norms.normal_text.Tie as tie
+
+wide-requires : tie.Need-wide-requires
+wide-requires c κs = search needs
+
+add-room : tie.Need-add-room
+add-room c = search needs
+
+mul-room : tie.Need-mul-room
+mul-room c = search needs
+
+load32-requires : tie.Need-load32-requires
+load32-requires c κs = search needs
+
+shorter-requires : tie.Need-shorter-requires
+shorter-requires c κs = search needs
+
+wide-requires-2 : tie.Need-wide-requires-2
+wide-requires-2 c κs = search needs
+
+store32-requires : tie.Need-store32-requires
+store32-requires c κs = search needs
+
+add-clear : tie.Need-add-clear
+add-clear c = search needs
+
+add-clear-2 : tie.Need-add-clear-2
+add-clear-2 c = search needs
+
+sub-clear : tie.Need-sub-clear
+sub-clear c = search needs
+
+clear-requires : tie.Need-clear-requires
+clear-requires c κs = search needs
+
+same-length : tie.Need-same-length
+same-length c = search needs
+
+returns : tie.Need-returns
+returns c =
+    let at-clear = c .before .before in
+    let at-store = at-clear .before .before .before .before in
+    let at-long = at-store .before .before in
+    let at-short = at-long .before in
+    let at-load = at-short .before in
+    let at-wide = at-load .before .before in
+    let start = at-wide .before .before in
+    let a = start .args in
+    text-made (a .capacity) (a .base) (at-short .shorter .result) (at-long .wide2 .result)
+    (4 * ((at-wide .wide .result + 3) / 4)) (a .image .now) (λ k. at-wide .before .slice-known .given k .fits)
+    (start .pre) (at-short .shorter .ensures ∙ ap (λ v. min v (a .capacity)) (at-load .load32 .ensures))
+    (at-long .wide2 .ensures) (ap (λ v. 4 * ((v + 3) / 4)) (at-wide .wide .ensures)) (at-store .store32 .ensures)
+    (at-clear .clear .ensures)
+
+pub normal-text-spec : {M : Type 1} → statement M
+normal-text-spec =
+    tie.close
+    (tie.spec
+    wide-requires
+    add-room
+    mul-room
+    load32-requires
+    shorter-requires
+    wide-requires-2
+    store32-requires
+    add-clear
+    add-clear-2
+    sub-clear
+    clear-requires
+    same-length
+    returns)

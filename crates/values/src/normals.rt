@@ -1,0 +1,65 @@
+// Normal images (document 01, "Normal image"): an image made normal in place, so that two images of a type hold the
+// same values exactly when their bytes are then equal.
+ghost use mathlib.Core.Path.{_≡_};
+ghost use Rattle.values.specs.InPlace.{Standing};
+ghost use Rattle.values.specs.Normalised.{MadeNormal, valueNormal};
+ghost use Rattle.values.specs.Walkable.{ValueImage};
+use crate::norms::normal_atomics;
+use crate::reading::is_product;
+use crate::reading::size_of_ty;
+use crate::rows::times_of;
+use crate::tidy::normal_elements;
+use crate::tidy::normal_struct;
+use crate::tokens::as_size;
+use crate::writing::Taken;
+use types::MemberTable;
+use types::Refusal;
+use types::Ty;
+use types::TypeTable;
+use types::is_there;
+
+// A value of n elements, or of one where n is 0.
+fn normal_value(types: &TypeTable, members: &MemberTable, ty: Ty, n: usize, image: &mut [u8])
+    requires { ⌜ Standing (now types) (now members) × ValueImage (now types) ty n (now image) ⌝ }
+    ensures { λ _. ⌜ now (image .exit)
+        ≡ valueNormal (now (types .entry)) (now (members .entry)) ty n (now (image .entry)) ⌝ }
+{
+    match ty {
+        Ty::Atomic(a) => {
+            normal_atomics(a, n, image, 0);
+        }
+        Ty::Struct(i) => {
+            if n == 0 {
+                normal_struct(types, members, i, image, 0);
+                return;
+            }
+            normal_elements(types, members, i, n, image, 0);
+        }
+    }
+}
+
+// Makes an image of a type normal, of `count` elements where `count` is not 0; or refuses with 15 or 14, and the image
+// is as it was.
+pub fn normal(
+    types: &TypeTable,
+    members: &MemberTable,
+    ty: Ty,
+    count: u64,
+    image: &mut [u8],
+) -> Taken
+    requires { ⌜ Standing (now types) (now members) ⌝ }
+    ensures { λ r. ⌜ MadeNormal (now (types .entry)) (now (members .entry)) ty count (now (image .entry)) r
+        (now (image .exit)) ⌝ }
+{
+    let there = is_there(types, ty);
+    if !there {
+        return Taken::Refused(Refusal::NoSuchType);
+    }
+    let n = as_size(count);
+    let fits = is_product(image.len(), size_of_ty(types, ty), times_of(n));
+    if !fits {
+        return Taken::Refused(Refusal::ImageLength);
+    }
+    normal_value(types, members, ty, n, image);
+    Taken::Whole
+}
