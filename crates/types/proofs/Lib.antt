@@ -58,6 +58,7 @@ pub mod WaitLaws
 pub mod SoundLaws
 pub mod StandLaws
 pub mod RunLaws
+pub mod OneRoundLaws
 pub mod BuildLaws
 pub mod ScratchLaws
 pub mod KeptLaws

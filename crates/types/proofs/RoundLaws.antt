@@ -125,6 +125,21 @@ module _ {S R : Type 0} (stuck : ℕ → R) (ready : S → ℕ → Bool) (add : 
         })
         k s ws p s′ e
 
+  -- ---- a round leaves no more types than it began with
+
+  fewer-ways : RoundWays (λ r. Unit {0}) (λ s ws s′ ws′. length ws′ ≤ length ws)
+  fewer-ways =
+      record {
+        over = λ s. omega arith;
+        refuses = λ s i r h e. tt;
+        adds = λ s t i ws h e s′ ws′ l. omega (arith, l);
+        waits = λ s i ws h s′ ws′ l. omega (arith, l);
+      }
+
+  pub round-fewer : (s : S) (ws : List ℕ) (s′ : S) (ws′ : List ℕ) → round stuck ready add s ws ≡ went s′ ws′
+      → length ws′ ≤ length ws
+  round-fewer s ws s′ ws′ e = rw e at (round-cases _ _ fewer-ways s ws)
+
   -- ---- the next round of a loop
 
   -- where none waits, the state is the answer

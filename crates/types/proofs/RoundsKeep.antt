@@ -34,7 +34,7 @@ step-added (for d) ds ds′ e = record { def = d; is = refl; next = cc }
 step-added (against r) ds ds′ e = record { def = noDef; is = cc; next = cc }
 
 module _ (book : List ℕ) (b : Bytes book) where
-  keeps : (ds ds′ : List Def) (i : ℕ) → Good ds → addIn book ds i ≡ ok ds′ → Good ds′
+  pub keeps : (ds ds′ : List Def) (i : ℕ) → Good ds → addIn book ds i ≡ ok ds′ → Good ds′
   unfolding addIn viewOf
   keeps ds ds′ i g e =
       let a = step-added (verdictOn book (viewOf ds) i) ds ds′ e in

@@ -14,8 +14,9 @@ use Rattle.types.specs.declared.used.Used.{Used}
 use Rattle.types.specs.Book.{typesIn}
 use Rattle.types.specs.Build.{waits}
 use Rattle.types.specs.Defs.{Def}
+use Rattle.types.specs.OneRound.{roundIn, Reached}
 use Rattle.types.specs.Registry.{Stands}
-use Rattle.types.specs.Rounds.{no, ok, Out, stop, went, Answer, refused, accepted}
+use Rattle.types.specs.Rounds.{no, ok, stop, went, Answer, refused, accepted}
 use Rattle.types.specs.Rounds.{keep, onStep, onRound, round, rounds}
 use Rattle.types.specs.Turns.{entriesAt, countOf, readyIn, addIn, roundsFrom}
 use Rattle.types.proofs.RoundLaws.{rounds-none, rounds-some}
@@ -24,10 +25,7 @@ use Rattle.types.proofs.SoundLaws.{entries-first, entries-next}
 use Rattle.types.proofs.WaitLaws.{waits-on, waits-off, waits-end, snoc-on, snoc-off, after-set, set-snoc}
 use Rattle.types.proofs.WaitLaws.{waits-all, up-length, keepAll, keep-one, keep-none}
 
--- one round over a book, and at most so many
-abbrev pub roundIn : List ℕ → List Def → List ℕ → Out (List Def) Refusal
-roundIn book ds ws = round TypesUnknown (readyIn book) (addIn book) ds ws
-
+-- at most so many rounds over a book
 abbrev pub roundsIn : List ℕ → ℕ → List Def → List ℕ → Answer (List Def) Refusal
 roundsIn book k ds ws = rounds TypesUnknown (readyIn book) (addIn book) k ds ws
 
@@ -44,7 +42,6 @@ pub record Inner (book : List ℕ) (ds₀ : List Def) (f₀ : List ℕ) (T : ℕ
   pub goes : roundIn book ds₀ (waits f₀ 0 T) ≡ keepAll (waits f 0 i) (roundIn book ds (waits f i (T - i)))
   pub count : left ≡ length (waits f 0 i) + length (waits f i (T - i))
   pub flags : T ≤ length f
-  pub most : left ≤ length (waits f₀ 0 T)
 
 pub inner-start : {book f t m n : List ℕ} {ds : List Def} {u : Used} {left T : ℕ} → Shown ds → Stands ds t m n u
     → T ≡ typesIn book → left ≡ length (waits f 0 T) → T ≤ length f
@@ -60,7 +57,6 @@ inner-start {book} {ds = ds} s h e q g =
       goes = rw sub-zero (sym (keep-none _));
       count = rw (sub-zero, zero-add) q;
       flags = g;
-      most = omega (arith, q);
     }
 
 module _ {book f₀ t m n f : List ℕ} {ds₀ : List Def} {u : Used} {left i at T : ℕ}
@@ -81,7 +77,6 @@ module _ {book f₀ t m n f : List ℕ} {ds₀ : List Def} {u : Used} {left i at
         goes = w .goes ∙ rw (waits-off f T i l o, snoc-off f i o);
         count = w .count ∙ rw (waits-off f T i l o, snoc-off f i o);
         flags = w .flags;
-        most = w .most;
       }
 
   round-on : (ds : List Def) (ws : List ℕ) → roundIn book ds (i ∷ ws)
@@ -103,7 +98,6 @@ module _ {book f₀ t m n f : List ℕ} {ds₀ : List Def} {u : Used} {left i at
             (keep-one (waits f 0 i) i (roundIn book (w .ds) (waits f (i + 1) (T - (i + 1)))));
         count = w .count ∙ rw (waits-on f T i l o, snoc-on f i o, length-append) (omega arith);
         flags = w .flags;
-        most = w .most;
       }
 
   -- one that is refused
@@ -127,7 +121,6 @@ module _ {book f₀ t m n f : List ℕ} {ds₀ : List Def} {u : Used} {left i at
         goes = w .goes ∙ rw (waits-on f T i l o, round-on, r, a, z, y);
         count = rw (z, y) (omega (arith, w .count, ap length (waits-on f T i l o)));
         flags = omega (arith, length-set f i 1, w .flags);
-        most = omega (arith, w .most);
       }
 
 -- at the end of a round
@@ -146,14 +139,14 @@ inner-end {f = f} {i = i} {T = T} w l =
 pub record Outer (book : List ℕ) (start : List Def) (T : ℕ) (t m n f : List ℕ) (u : Used) (left : ℕ) : Type 0 where
   pub ds : List Def
   pub fuel : ℕ
-  pub shown : Shown ds
+  pub reached : Reached book ds
   pub stands : Stands ds t m n u
   pub goes : roundsFrom book start ≡ roundsIn book fuel ds (waits f 0 T)
   pub enough : left ≤ fuel
   pub count : left ≡ length (waits f 0 T)
   pub flags : T ≤ length f
 
-pub outer-start : {book t m n f : List ℕ} {ds : List Def} {u : Used} {T : ℕ} → Shown ds → Stands ds t m n u
+pub outer-start : {book t m n f : List ℕ} {ds : List Def} {u : Used} {T : ℕ} → Reached book ds → Stands ds t m n u
     → T ≡ typesIn book → ((k : ℕ) → getD f k 0 ≡ 0) → T ≤ length f → Outer book ds T t m n f u T
 unfolding roundsFrom
 outer-start {f = f} {ds = ds} {T = T} s h e z g =
@@ -161,7 +154,7 @@ outer-start {f = f} {ds = ds} {T = T} s h e z g =
     record {
       ds = ds;
       fuel = T;
-      shown = s;
+      reached = s;
       stands = h;
       goes = rw (q, e);
       enough = omega arith;
@@ -191,13 +184,13 @@ module _ {book t m n f : List ℕ} {start : List Def} {u : Used} {T left : ℕ} 
       outer-stuck r e = o .goes ∙ some ∙ rw r (simp (eq-eqb _ _ (e ∙ o .count)))
 
       pub outer-next : {ds : List Def} {t′ m′ n′ g : List ℕ} {u′ : Used} {left′ : ℕ}
-          → roundIn book (o .ds) (waits f 0 T) ≡ went ds (waits g 0 T) → Shown ds → Stands ds t′ m′ n′ u′
+          → roundIn book (o .ds) (waits f 0 T) ≡ went ds (waits g 0 T) → Reached book ds → Stands ds t′ m′ n′ u′
           → left′ ≡ length (waits g 0 T) → T ≤ length g → left′ < left → Outer book start T t′ m′ n′ g u′ left′
       outer-next {ds} {g = g} r s h e y d =
           record {
             ds = ds;
             fuel = o .fuel - 1;
-            shown = s;
+            reached = s;
             stands = h;
             goes = o .goes ∙ some ∙ rw r
                 (simp (ne-eqb (length (waits g 0 T)) (length (waits f 0 T)) (λ q. omega (arith, o .count))));

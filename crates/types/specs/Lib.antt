@@ -33,4 +33,5 @@ pub mod Turns
 pub mod Predefined
 pub mod Ordering
 pub mod Build
+pub mod OneRound
 pub mod Kept

@@ -9,10 +9,11 @@ ghost use Rattle.types.specs.Predefined.{predefined};
 ghost use Rattle.types.specs.Turns.{roundsFrom};
 use crate::book::book_ok;
 use crate::book::count_of;
-use crate::book::type_entry;
 use crate::predefined::ids_ok;
 use crate::predefined::put_predefined;
 use crate::refusal::Refusal;
+use crate::round::Round;
+use crate::round::turns;
 use crate::tables::MEMBER_WORDS;
 use crate::tables::MEMBERS;
 use crate::tables::MemberTable;
@@ -21,8 +22,6 @@ use crate::tables::NameTable;
 use crate::tables::TYPE_WORDS;
 use crate::tables::TYPES;
 use crate::tables::TypeTable;
-use crate::turn::take_turn;
-use crate::used::Turn;
 use words::load16;
 
 // So many types stand in the tables, or the book was refused.
@@ -79,34 +78,33 @@ fn run(
     let mut u = put_predefined(types, members, names, timer, counter, control, string);
     let mut left = t;
     while 0 < left {
-        let before = left;
-        let mut i: usize = 0;
-        let mut at: usize = 4 + 16 * t;
-        while i < t {
-            let e = type_entry(book, i);
-            let n = count_of(e.count);
-            if done[i] == 0 {
-                let r = take_turn(book, i, at, types, members, names, u, tys, stuck, tried);
-                match r {
-                    Turn::Waits => {}
-                    Turn::Refused(x) => {
-                        clear(types, members, names);
-                        return Built::Refused(x);
-                    }
-                    Turn::Added(next) => {
-                        u = next;
-                        done[i] = 1;
-                        left -= 1;
-                    }
-                }
+        let r = turns(
+            book,
+            t,
+            u,
+            left,
+            types,
+            members,
+            names,
+            tys,
+            done,
+            stuck,
+            tried,
+        );
+        match r {
+            Round::Refused(x) => {
+                clear(types, members, names);
+                return Built::Refused(x);
             }
-            at += 16 * n;
-            i += 1;
-        }
-        if left == before {
-            clear(types, members, names);
-            let w = first_waiting(done, t);
-            return Built::Refused(Refusal::TypesUnknown(w as u32));
+            Round::Went(next, rest) => {
+                if rest == left {
+                    clear(types, members, names);
+                    let w = first_waiting(done, t);
+                    return Built::Refused(Refusal::TypesUnknown(w as u32));
+                }
+                u = next;
+                left = rest;
+            }
         }
     }
     Built::Types(u.types as u32)

@@ -25,6 +25,7 @@ mod pieces;
 mod predefined;
 mod refusal;
 mod resolve;
+mod round;
 mod shape;
 mod sink;
 mod store;

@@ -1,0 +1,66 @@
+-- One round in code (document 01, "Order of building"): what it asks of the tables and of the scratch, and what it
+-- leaves in them.
+use Prim.Native.Nat.{ℕ, _≤_}
+use mathlib.Core.Path.{_≡_}
+use mathlib.Core.Bool.{true}
+use mathlib.Core.List.{List}
+use lib.ListN.{length}
+use Rattle.types.specs.declared.refusal.Refusal.{Refusal}
+use Rattle.types.specs.declared.refusal.Refusal.the-variants.{TypesUnknown}
+use Rattle.types.specs.declared.round.Round.{Round}
+use Rattle.types.specs.declared.round.Round.the-variants.{Refused, Went}
+use Rattle.types.specs.declared.used.Used.{Used}
+use Rattle.types.specs.Book.{typesIn, membersIn, bookOk}
+use Rattle.types.specs.Build.{waits}
+use Rattle.types.specs.Defs.{Def}
+use Rattle.types.specs.Lookup.{rowNames}
+use Rattle.types.specs.Predefined.{predefinedIds, predefined}
+use Rattle.types.specs.Registry.{Stands}
+use Rattle.types.specs.Rounds.{ok, Out, stop, went, round}
+use Rattle.types.specs.Turns.{readyIn, addIn, Tries}
+
+-- one round over the types of a book that wait
+abbrev pub roundIn : List ℕ → List Def → List ℕ → Out (List Def) Refusal
+roundIn book ds ws = round TypesUnknown (readyIn book) (addIn book) ds ws
+
+-- a registry that rounds over a book can reach: the predefined types under good ids, then types of the book
+pub data Reached (book : List ℕ) : List Def → Type 0 where
+  first : (timer counter control string : ℕ) → predefinedIds timer counter control string ≡ true
+      → Reached book (predefined timer counter control string)
+  more : (ds ds′ : List Def) (i : ℕ) → Reached book ds → addIn book ds i ≡ ok ds′ → Reached book ds′
+
+-- what a round asks: a good book of t types; tables of a registry that rounds reach, of which so much is used; a flag
+-- for each type, by which so many wait; a scratch for a type's members, and what is known of earlier turns
+pub record RoundIn (book : List ℕ) (t : ℕ) (u : Used) (left : ℕ)
+    (types members names tys done stuck tried : List ℕ) : Type 0 where
+  pub okay : bookOk book ≡ true
+  pub is : t ≡ typesIn book
+  pub defs : List Def
+  pub reached : Reached book defs
+  pub stands : Stands defs types members names u
+  pub flags : t ≤ length done
+  pub count : left ≡ length (waits done 0 t)
+  pub room : membersIn book ≤ length tys
+  pub tries : Tries book (rowNames types names (u .types)) stuck tried
+
+-- what a round leaves that refused no type: the tables of the registry after it, flags of the types that still wait
+pub record Goes (book : List ℕ) (t : ℕ) (o : Out (List Def) Refusal) (types members names done stuck tried : List ℕ)
+    (u : Used) (left : ℕ) : Type 0 where
+  pub defs : List Def
+  pub is : o ≡ went defs (waits done 0 t)
+  pub stands : Stands defs types members names u
+  pub count : left ≡ length (waits done 0 t)
+  pub tries : Tries book (rowNames types names (u .types)) stuck tried
+
+-- a round was made: the refusal of the definition, or its registry
+abbrev pub Leaves : List ℕ → ℕ → Out (List Def) Refusal → List ℕ → List ℕ → List ℕ → List ℕ → List ℕ → List ℕ → Round
+    → Type 0
+Leaves book t o types members names done stuck tried (Refused x) = o ≡ stop x
+Leaves book t o types members names done stuck tried (Went u left) =
+    Goes book t o types members names done stuck tried u left
+
+-- so for any registry that stood in the tables before, and the flags of that time
+pub record RoundMade (book : List ℕ) (t : ℕ) (u : Used) (types₀ members₀ names₀ done₀ : List ℕ)
+    (types members names done stuck tried : List ℕ) (r : Round) : Type 0 where
+  pub each : (ds : List Def) → Reached book ds → Stands ds types₀ members₀ names₀ u
+      → Leaves book t (roundIn book ds (waits done₀ 0 t)) types members names done stuck tried r
