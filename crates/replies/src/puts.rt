@@ -115,10 +115,3 @@ pub fn refuse_with(out: &mut [u8], number: u8) -> usize {
 pub fn malformed(out: &mut [u8]) -> usize {
     put_head(out, NOT_A_QUESTION, 0)
 }
-
-pub fn least(a: usize, b: usize) -> usize {
-    if a < b {
-        return a;
-    }
-    b
-}

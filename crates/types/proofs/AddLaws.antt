@@ -5,7 +5,7 @@ use native.Mathlib.Omega.{arith}
 use mathlib.Core.Path.{_≡_, sym, ap, _∙_}
 use mathlib.Core.Bool.{Bool, true, false}
 use mathlib.Core.List.{List, [], _∷_, _++_}
-use lib.ListN.{length}
+use lib.ListN.{length, getD}
 use lib.Seq.{sets}
 use Rattle.types.specs.declared.layout.Cursor.{Cursor}
 use Rattle.types.specs.declared.layout.Decl.{Decl}
@@ -40,6 +40,13 @@ pub every-append : {A : Type 0} (P : A → Type 0) (xs ys : List A) → Every P 
 unfolding Every
 every-append P [] ys p q = q
 every-append P (x ∷ xs) ys (p, ps) q = (p, every-append P xs ys ps q)
+
+pub every-nth : {A : Type 0} (P : A → Type 0) (z : A) (xs : List A) (k : ℕ) → Every P xs → k < length xs
+    → P (getD xs k z)
+unfolding Every
+every-nth P z [] k a l = absurd (let y : ⊥ = omega arith in y)
+every-nth P z (x ∷ xs) zero (a, rest) l = a
+every-nth P z (x ∷ xs) (suc k) (a, rest) l = every-nth P z xs k rest (omega arith)
 
 hosts-fit : (n i h : ℕ) → Every (PartFits n) (hostParts i h)
 unfolding hostParts Every

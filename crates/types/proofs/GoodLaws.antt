@@ -1,10 +1,11 @@
 -- What every caller may count on in the tables of a registry that our own calls made (document 01, "What promises shut
--- out"): each type can be read, counted and listed, is laid out well, and is a string where its kind says so. The rows
--- after them are zero.
+-- out"): each type can be read, counted and listed, is laid out well, and is a string where its kind says so. No two
+-- hold the same id or have the same name. The rows after them are zero.
 use Prim.Native.Nat.{ℕ, zero, suc, _+_, _*_, _^_, _<_, _≤_}
 use native.Mathlib.Nat.{add-zero}
 use native.Mathlib.Omega.{arith}
 use mathlib.Core.Path.{_≡_, refl, sym, ap, _∙_}
+use mathlib.Core.Bool.{false}
 use mathlib.Core.List.{List, [], _∷_, map}
 use lib.ListN.{length, getD, drop, length-append}
 use Rattle.words.proofs.Lists.{length-part}
@@ -15,20 +16,22 @@ use Rattle.types.specs.declared.member.StructKind.the-variants.{Udt, Str
 use Rattle.types.specs.declared.member.Ty.{Ty}
 use Rattle.types.specs.declared.member.Ty.the-variants.{Atomic, Struct}
 use Rattle.types.specs.Defs.{Part, Def, partAt, partsAt, defOf}
-use Rattle.types.specs.Laid.{Earlier, Lies, Laid, Every}
+use Rattle.types.specs.Laid.{Earlier, Lies, Laid}
 use Rattle.types.specs.Layout.{times}
 use Rattle.types.specs.Listing.{Short, TypeNamed, Listable}
-use Rattle.types.specs.Lookup.{NamesInside}
+use Rattle.types.specs.Lookup.{NamesInside, rowName}
+use Rattle.types.specs.Names.{sameName}
 use Rattle.types.specs.Registry.{typesTable, membersTable, namesTable}
 use Rattle.types.specs.Registry.{typeCount}
 use Rattle.types.specs.Structs.{namesOf, stringParts}
 use Rattle.types.specs.Tables.{kindOf, memberAt, nameAt, typeAt}
 use Rattle.types.specs.Waste.{sizeIn, sizesIn, bitsOf, Countable}
+use Rattle.types.proofs.AddLaws.{every-nth}
 use Rattle.types.proofs.CountLaws.{count-of}
 use Rattle.types.proofs.LaidLaws.{part-lies}
 use Rattle.types.proofs.RegistryLaws.{names-long, word-after}
 use Rattle.types.proofs.RoundsKeep.{Good}
-use Rattle.types.proofs.ShownLaws.{noDef, Row, sizes-same, names-inside, all-readable}
+use Rattle.types.proofs.ShownLaws.{noDef, Row, name-same, sizes-same, names-inside, all-readable}
 use Rattle.types.proofs.ShortLaws.{ShortPart}
 use Rattle.types.proofs.StringLaws.{StringRow, string-bytes}
 use Rattle.types.proofs.TemplateLaws.{parts-long}
@@ -54,12 +57,6 @@ unfolding partAt
 row-lies sizes i size m n row count k laid l =
     let e = ap (λ (p : Part). p .member) (parts-nth m n row count k l) in
     rw e at (part-lies sizes i size noPart (partsAt m n row count) k laid (omega (arith, parts-long m n row count)))
-
-every-nth : (P : Part → Type 0) (ps : List Part) (k : ℕ) → Every P ps → k < length ps → P (getD ps k noPart)
-unfolding Every
-every-nth P [] k a l = absurd (let z : ⊥ = omega arith in z)
-every-nth P (p ∷ ps) zero (a, rest) l = a
-every-nth P (p ∷ ps) (suc k) (a, rest) l = every-nth P ps k rest (omega arith)
 
 -- the row of no type
 abbrev pub noType : StructDef
@@ -104,6 +101,19 @@ module _ (ds : List Def) (g : Good ds) where
       let word : (k : ℕ) → getD types (8 * i + k) 0 ≡ 0 = λ k. word-after ds (8 * i + k) (omega arith) in
       let first : getD types (8 * i) 0 ≡ 0 = rw add-zero at (word 0) in
       rw (first, word 1, word 2, word 3, word 4, word 5, word 6, word 7)
+
+  module _ (i j : ℕ) (l : i < j) (h : j < length ds) where
+    -- no two types hold the same id
+    pub good-ids-apart : typeAt types i .id ≡ typeAt types j .id → ⊥
+    good-ids-apart =
+        let r = g .shown .rows i (omega arith) in
+        rw (r .head, g .shown .rows j h .head) (g .unlike i j l h .id)
+
+    -- and no two have the same name
+    pub good-names-apart : sameName (rowName types names i) (rowName types names j) ≡ false
+    good-names-apart =
+        let e = name-same ds i (getD ds i noDef) (g .shown .rows i (omega arith)) in
+        rw (e, name-same ds j (getD ds j noDef) (g .shown .rows j h)) (g .unlike i j l h .name)
 
   module _ (i : ℕ) (l : i < length ds) where
     abbrev d : Def
@@ -198,7 +208,7 @@ module _ (ds : List Def) (g : Good ds) where
         (omega (arith, inside, names-long ds)) in
         record {
           inside = inside;
-          most = omega (arith, is, long, every-nth ShortPart (d .parts) k (g .well i l .short) h);
+          most = omega (arith, is, long, every-nth ShortPart noPart (d .parts) k (g .well i l .short) h);
         }
 
 module _ (ds : List Def) (g : Good ds) where

@@ -191,3 +191,27 @@ picked-range ids false id = go (ltb (lowestFrom ids 0x100 0xE00) 0xF00) refl
         let l : lowestFrom ids 0x100 0xE00 < 0xF00 = ltb-true _ _ e in
         (low-from ids 0xE00 0x100 .low, omega arith)
     go false e = tt
+
+-- and no type holds it
+abbrev pub Unheld : List ℕ → Picked → Type 0
+Unheld ids (Free id) = inUse id ids ≡ false
+Unheld ids OutsideRange = Unit {0}
+Unheld ids InUse = Unit {0}
+Unheld ids NoneFree = Unit {0}
+
+pub picked-unheld : (ids : List ℕ) (given : Bool) (id : ℕ) → Unheld ids (idFor ids given id)
+unfolding idFor lowestFree
+picked-unheld ids true id = go (leb 0x100 id && leb id 0xEFF) (inUse id ids) refl
+  where
+    go : (b u : Bool) → inUse id ids ≡ u → Unheld ids (cond b (cond u InUse (Free id)) OutsideRange)
+    go true true e = tt
+    go true false e = e
+    go false u e = tt
+picked-unheld ids false id = go (ltb (lowestFrom ids 0x100 0xE00) 0xF00) refl
+  where
+    go : (b : Bool) → ltb (lowestFrom ids 0x100 0xE00) 0xF00 ≡ b
+        → Unheld ids (cond b (Free (lowestFrom ids 0x100 0xE00)) NoneFree)
+    go true e =
+        let l : lowestFrom ids 0x100 0xE00 < 0xF00 = ltb-true _ _ e in
+        low-from ids 0xE00 0x100 .free (omega arith)
+    go false e = tt

@@ -1,5 +1,5 @@
 -- What follows from tables as our own calls left them (document 01, "What promises shut out"): each call's conditions,
--- and that every type is laid out well. A build keeps it.
+-- that every type is laid out well, and that no two hold the same id or have the same name. A build keeps it.
 use Prim.Native.Nat.{ℕ, _+_, _^_, _<_, _≤_}
 use mathlib.Core.Path.{_≡_, refl}
 use mathlib.Core.Bool.{Bool, true, false, cond}
@@ -14,7 +14,8 @@ use Rattle.types.specs.Build.{buildOf, Ended}
 use Rattle.types.specs.Defs.{Def, AllReadable, partsAt}
 use Rattle.types.specs.Kept.{Made, none, built, Kept, Listed}
 use Rattle.types.specs.Laid.{Laid}
-use Rattle.types.specs.Lookup.{NamesInside}
+use Rattle.types.specs.Lookup.{NamesInside, rowName}
+use Rattle.types.specs.Names.{sameName}
 use Rattle.types.specs.Predefined.{predefinedIds, predefined}
 use Rattle.types.specs.Registry.{noTypes, noMembers, noNames, typesTable, membersTable, namesTable, typeCount}
 use Rattle.types.specs.Registry.{typeRows, memberRows, bytesOf}
@@ -23,12 +24,13 @@ use Rattle.types.specs.Tables.{typeAt}
 use Rattle.types.specs.Turns.{roundsFrom}
 use Rattle.types.specs.Waste.{sizesIn}
 use Rattle.types.proofs.GoodLaws.{noType, good-count, good-inside, good-laid, good-most, good-listable}
-use Rattle.types.proofs.GoodLaws.{good-string, good-unused}
+use Rattle.types.proofs.GoodLaws.{good-string, good-unused, good-ids-apart, good-names-apart}
 use Rattle.types.proofs.PredefinedLaws.{predefined-shown}
 use Rattle.types.proofs.PredefinedWell.{predefined-well}
 use Rattle.types.proofs.RoundsKeep.{Good, rounds-good}
 use Rattle.types.proofs.ShownLaws.{shown-none, all-readable, ids-fit}
 use Rattle.types.proofs.StringLaws.{StringRow}
+use Rattle.types.proofs.UniqueLaws.{unlike-none, predefined-unlike}
 use Rattle.types.proofs.WellLaws.{well-none}
 
 -- ---- what a build makes is good
@@ -49,13 +51,14 @@ accepted-both timer counter control string book ds e =
     passed (predefinedIds timer counter control string) (bookOk book) _ ds e
 
 pub made-good : (ds : List Def) → Made ds → Good ds
-made-good ds (none e) = rw e (record { shown = shown-none; well = well-none })
+made-good ds (none e) = rw e (record { shown = shown-none; well = well-none; unlike = unlike-none })
 made-good ds (built timer counter control string book bytes e) =
     let a = accepted-both timer counter control string book ds e in
     rounds-good book bytes (predefined timer counter control string) ds
     (record {
       shown = predefined-shown timer counter control string (a .0);
       well = predefined-well timer counter control string;
+      unlike = predefined-unlike timer counter control string (a .0);
     })
     (a .1)
 
@@ -97,6 +100,17 @@ module _ {types members names : List ℕ} (k : Kept types members names) where
   pub kept-string : (i : ℕ) → i < typeCount types → typeAt types i .kind ≡ Str → StringRow members (typeAt types i)
   kept-string =
       rw (k .rows, k .parts) (λ i l. good-string (k .defs) good i (rw (good-count (k .defs) good) at l))
+
+  -- no two types hold the same template id, and no two have the same name
+  pub kept-ids-apart : (i j : ℕ) → i < j → j < typeCount types → typeAt types i .id ≡ typeAt types j .id → ⊥
+  kept-ids-apart =
+      rw (k .rows) (λ i j l h. good-ids-apart (k .defs) good i j l (rw (good-count (k .defs) good) at h))
+
+  pub kept-names-apart : (i j : ℕ) → i < j → j < typeCount types
+      → sameName (rowName types names i) (rowName types names j) ≡ false
+  kept-names-apart =
+      rw (k .rows, k .bytes)
+      (λ i j l h. good-names-apart (k .defs) good i j l (rw (good-count (k .defs) good) at h))
 
   -- the rows after the types are zero
   pub kept-unused : (i : ℕ) → typeCount types ≤ i → typeAt types i ≡ noType

@@ -46,6 +46,7 @@ pub mod AddStringLaws
 pub mod AddTypeLaws
 pub mod PredefinedLaws
 pub mod CountLaws
+pub mod UniqueLaws
 pub mod VerdictLaws
 pub mod WellLaws
 pub mod PredefinedWell

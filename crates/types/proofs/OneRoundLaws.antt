@@ -34,6 +34,7 @@ use Rattle.types.proofs.ShownLaws.{Shown, shown-more}
 use Rattle.types.proofs.SoundLaws.{Sound, sound, among-all}
 use Rattle.types.proofs.StandLaws.{turn-in, turn-same, turn-waits, turn-refused, turn-added}
 use Rattle.types.proofs.StandLaws.{AddedBy, tries-stand}
+use Rattle.types.proofs.UniqueLaws.{predefined-unlike}
 use Rattle.types.proofs.VerdictLaws.{verdict-fits}
 use Rattle.types.proofs.WaitLaws.{waits-on}
 
@@ -44,6 +45,7 @@ reached-good book b _ (first timer counter control string q) =
     record {
       shown = predefined-shown timer counter control string q;
       well = predefined-well timer counter control string;
+      unlike = predefined-unlike timer counter control string q;
     }
 reached-good book b _ (more ds ds′ i r e) = keeps book b ds ds′ i (reached-good book b ds r) e
 

@@ -1,4 +1,5 @@
--- What rounds over a book keep: the tables show every type that was added, and every one is laid out well.
+-- What rounds over a book keep: the tables show every type that was added, every one is laid out well, and no two hold
+-- the same id or have the same name.
 use Prim.Native.Nat.{ℕ}
 use mathlib.Core.Path.{_≡_, refl}
 use mathlib.Core.List.{List, [], _∷_, _++_}
@@ -13,14 +14,16 @@ use Rattle.types.specs.Rounds.{Step, ok, accepted}
 use Rattle.types.specs.Turns.{readyIn, verdictOn, stepOf, addIn, upFrom, roundsFrom}
 use Rattle.types.proofs.RoundLaws.{rounds-keep}
 use Rattle.types.proofs.ShownLaws.{noDef, Shown, shown-more}
+use Rattle.types.proofs.UniqueLaws.{Unlike, new-differs, unlike-more}
 use Rattle.types.proofs.VerdictLaws.{verdict-fits, verdict-laid, verdict-most, verdict-long, verdict-short}
-use Rattle.types.proofs.VerdictLaws.{verdict-string}
+use Rattle.types.proofs.VerdictLaws.{verdict-string, verdict-unheld, verdict-unknown}
 use Rattle.types.proofs.WellLaws.{Well, well-more}
 
 -- a registry that our own calls make
 pub record Good (ds : List Def) : Type 0 where
   pub shown : Shown ds
   pub well : Well ds
+  pub unlike : Unlike ds
 
 -- a step that went on added a type
 record Added (s : Verdict) (ds ds′ : List Def) : Type 0 where
@@ -50,6 +53,10 @@ module _ (book : List ℕ) (b : Bytes book) where
               short = verdict-short book ds i (a .def) (a .is);
               string = verdict-string book ds i (a .def) (a .is);
             });
+        unlike =
+            unlike-more ds (a .def) (g .unlike)
+            (new-differs ds (a .def) (verdict-unheld book ds i (a .def) (a .is))
+            (verdict-unknown book ds i (a .def) (a .is)));
       })
 
   pub rounds-good : (start ds : List Def) → Good start → roundsFrom book start ≡ accepted ds → Good ds

@@ -237,7 +237,8 @@ map-same : {B : Type 0} (f : ℕ → B) (g : Def → B) (ds : List Def)
 map-same f g ds h = list-map f g ds noDef 0 (λ k l. rw zero-add (h k l))
 
 -- a row's name, id and size are the type's
-name-same : (ds : List Def) (i : ℕ) (d : Def) → Row ds i d → rowName (typesTable ds) (namesTable ds) i ≡ d .name
+pub name-same : (ds : List Def) (i : ℕ) (d : Def) → Row ds i d
+    → rowName (typesTable ds) (namesTable ds) i ≡ d .name
 unfolding defOf
 name-same ds i d r = rw (r .head) (ap (λ (x : Def). x .name) (r .def))
 

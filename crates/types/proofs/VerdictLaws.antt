@@ -1,9 +1,10 @@
 -- Laws of a type's verdict (document 01, "Refusal numbers" and "Order of building"): a type that is added fits into the
--- registry and has the name of its entry, and no way out of adding is refusal 10.
+-- registry, has the name of its entry and an id and a name that no earlier type has, and no way out of adding is
+-- refusal 10.
 use Prim.Native.Nat.{ℕ, zero, suc, _+_, _*_, _^_, _<_, _≤_}
 use native.Mathlib.Omega.{arith}
 use mathlib.Core.Path.{_≡_, refl, sym}
-use mathlib.Core.Bool.{Bool}
+use mathlib.Core.Bool.{Bool, false}
 use mathlib.Core.List.{List, [], _∷_}
 use lib.ListN.{length, length-map}
 use Rattle.words.specs.Words.{Bytes}
@@ -32,7 +33,7 @@ use Rattle.types.specs.Checks.{checked, entriesFrom}
 use Rattle.types.specs.Defs.{Part, Def, nameIn}
 use Rattle.types.specs.Digits.{hostName}
 use Rattle.types.specs.Entries.{storedTy, resolved, declared}
-use Rattle.types.specs.Ids.{idFor}
+use Rattle.types.specs.Ids.{inUse, idFor}
 use Rattle.types.specs.Laid.{Laid as Lies, Resolved, Every}
 use Rattle.types.specs.Lookup.{typeAmong}
 use Rattle.types.specs.Names.{goodName}
@@ -50,7 +51,7 @@ use Rattle.types.proofs.DefLaws.{PartFits}
 use Rattle.types.proofs.EntryLaws.{align-fair}
 use Rattle.types.proofs.FoundLaws.{stored-earlier}
 use Rattle.types.proofs.HandleLaws.{handle-small}
-use Rattle.types.proofs.IdLaws.{InRange, picked-range}
+use Rattle.types.proofs.IdLaws.{InRange, picked-range, Unheld, picked-unheld}
 use Rattle.types.proofs.LaidLaws.{udt-laid, aoi-laid, string-laid}
 use Rattle.types.proofs.ResolveLaws.{found-earlier}
 use Rattle.types.proofs.RoundLaws.{either}
@@ -61,8 +62,8 @@ use Rattle.types.proofs.StringLaws.{IsString, string-is, other-kind}
 
 -- ---- the ways out of adding
 
--- what a type that is added has: the name, an id in the range, room in the tables, and a handle of 16 bits; its parts
--- can be stored where the declared members can
+-- what a type that is added has: the name, an id in the range, both new, room in the tables, and a handle of 16 bits;
+-- its parts can be stored where the declared members can
 pub record Made (v : View) (s : List ℕ) (ds : List Decl) (d : Def) : Type 0 where
   pub name : d .name ≡ s
   pub id : (0x100 ≤ d .id) × (d .id ≤ 0xEFF)
@@ -74,6 +75,8 @@ pub record Made (v : View) (s : List ℕ) (ds : List Decl) (d : Def) : Type 0 wh
   pub long : length s ≤ 40
   pub short : Every ShortPart (d .parts)
   pub string : d .kind ≡ Str → IsString (d .size) (d .parts)
+  pub unheld : inUse (d .id) (v .ids) ≡ false
+  pub unknown : isFound (typeAmong (v .names) s) ≡ false
 
 -- a refusal is not 10, or the type is made so
 abbrev pub Judged : View → List ℕ → List Decl → Verdict → Type 0
@@ -85,7 +88,8 @@ module _ (v : View) (book : List ℕ) (i at : ℕ) (e : TypeEntry) (name : List 
   abbrev Ends : Verdict → Type 0
   Ends s = Judged v name ds s
 
-  module _ (good : length name ≤ 40) (id : ℕ) (range : InRange (Free id)) where
+  module _ (good : length name ≤ 40) (new : isFound (typeAmong (v .names) name) ≡ false) (id : ℕ)
+      (range : InRange (Free id)) (free : Unheld (v .ids) (Free id)) where
     fitted-ends : (size : ℕ) (kind : StructKind) (parts : List Part)
         → ((n : ℕ) → Every (Able n) ds → Every (PartFits n) parts)
         → ((n : ℕ) → Every (Resolved (sizeAt v) n) ds → Lies (sizeAt v) n size parts)
@@ -107,6 +111,8 @@ module _ (v : View) (book : List ℕ) (i at : ℕ) (e : TypeEntry) (name : List 
           long = good;
           short = k;
           string = s;
+          unheld = free;
+          unknown = new;
         })
         (λ q z. omega arith)
 
@@ -166,17 +172,18 @@ module _ (v : View) (book : List ℕ) (i at : ℕ) (e : TypeEntry) (name : List 
     named-ends = either Ends (isString e) _ _ (λ q. string-ends) (λ q. members-ends (isAoi e))
 
   -- 4, 5, 6
-  picked-ends : (p : Picked) (k : ℕ → Verdict) → InRange p → ((id : ℕ) → InRange (Free id) → Ends (k id))
-      → Ends (onId p i k)
-  picked-ends (Free id) k range f = f id range
-  picked-ends OutsideRange k range f = λ z. omega arith
-  picked-ends InUse k range f = λ z. omega arith
-  picked-ends NoneFree k range f = λ z. omega arith
+  picked-ends : (p : Picked) (k : ℕ → Verdict) → InRange p → Unheld (v .ids) p
+      → ((id : ℕ) → InRange (Free id) → Unheld (v .ids) (Free id) → Ends (k id)) → Ends (onId p i k)
+  picked-ends (Free id) k range free f = f id range free
+  picked-ends OutsideRange k range free f = λ z. omega arith
+  picked-ends InUse k range free f = λ z. omega arith
+  picked-ends NoneFree k range free f = λ z. omega arith
 
-  fresh-ends : length name ≤ 40 → Ends (addFresh v book i at e name ds)
+  fresh-ends : length name ≤ 40 → isFound (typeAmong (v .names) name) ≡ false → Ends (addFresh v book i at e name ds)
   unfolding addFresh
-  fresh-ends good =
-      picked-ends (idFor (v .ids) (hasId e) (e .id)) _ (picked-range (v .ids) (hasId e) (e .id)) (named-ends good)
+  fresh-ends good new =
+      picked-ends (idFor (v .ids) (hasId e) (e .id)) _ (picked-range (v .ids) (hasId e) (e .id))
+      (picked-unheld (v .ids) (hasId e) (e .id)) (named-ends good new)
 
   -- 2, 3
   pub entry-ends : Ends (addEntry v book i at e name ds)
@@ -184,7 +191,7 @@ module _ (v : View) (book : List ℕ) (i at : ℕ) (e : TypeEntry) (name : List 
   entry-ends =
       either Ends (goodName name) _ _
       (λ q. either Ends (isFound (typeAmong (v .names) name)) _ _ (λ r z. omega arith)
-      (λ r. fresh-ends (good-long name q)))
+      (λ r. fresh-ends (good-long name q) r))
       (λ q z. omega arith)
 
 -- ---- the declared members of a book's type
@@ -321,3 +328,12 @@ module _ (book : List ℕ) (ds : List Def) (i : ℕ) (d : Def) (e : verdictOn bo
   -- and a string where its kind says so
   pub verdict-string : d .kind ≡ Str → IsString (d .size) (d .parts)
   verdict-string = verdict-made book ds i d e .string
+
+  -- its id and its name are those of no earlier type
+  pub verdict-unheld : inUse (d .id) (viewOf ds .ids) ≡ false
+  verdict-unheld = verdict-made book ds i d e .unheld
+
+  pub verdict-unknown : isFound (typeAmong (viewOf ds .names) (d .name)) ≡ false
+  verdict-unknown =
+      let m = verdict-made book ds i d e in
+      rw (m .name) (m .unknown)

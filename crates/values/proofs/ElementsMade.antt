@@ -1,9 +1,9 @@
 -- Elements of an array of structures made normal one after another (document 01, "Normal image"): each has its bytes
 -- after those of the one before it, and what is left to do is what was to be done at first.
 use Prim.Native.Nat.{ℕ, zero, suc, _+_, _*_, _<_, _≤_}
-use native.Mathlib.Nat.{mul-add, mul-le-mul-left, mul-one, mul-suc}
+use native.Mathlib.Nat.{mul-add, mul-le-mul-left, mul-one, mul-suc, mul-zero}
 use native.Mathlib.Omega.{arith}
-use mathlib.Core.Path.{_≡_, refl, ap, _∙_, subst}
+use mathlib.Core.Path.{_≡_, refl, sym, ap, _∙_, fun-ext, subst}
 use mathlib.Core.List.{List}
 use lib.ListN.{length}
 use Rattle.words.specs.Bits.{Bits, flat}
@@ -12,12 +12,31 @@ use Rattle.values.specs.InPlace.{Standing, eachMade, made}
 use Rattle.values.specs.Rows.{AllHere, Here, treeIn}
 use Rattle.values.specs.Tree.{Tree, array, span}
 use Rattle.values.proofs.ArrayMade.{array-made}
+use Rattle.values.proofs.MadeLaws.{made-beside}
+use Rattle.values.proofs.OnlyHeld.{not-inside}
 use Rattle.values.proofs.SpanLaws.{tree-span}
 use Rattle.values.proofs.StandingLaws.{standing-placed, standing-walkable}
 
 -- n elements of a tree from a bit on
 abbrev elementsMade : ℕ → Tree → ℕ → Bits → Bits
 elementsMade n tree p x = eachMade n (made tree) (span tree) p x
+
+-- elements of no bytes have no bit
+pub elements-none : {types members : List ℕ} {i size : ℕ} (count : ℕ) → Standing types members → i < 200
+    → size ≡ sizesIn types i → size ≡ 0 → (p : ℕ) (x : Bits) → x ≡ made (array count (treeIn types members i)) p x
+unfolding span
+elements-none {types} {members} {i} count standing low z n p x =
+    fun-ext (λ k. sym (made-beside (array count tree) p x k
+    (not-inside p (count * span tree) k (λ a b. omega (arith, all)))))
+  where
+    tree : Tree
+    tree = treeIn types members i
+
+    one : span tree ≡ 0
+    one = omega (arith, tree-span types members (standing-walkable standing) i low, z, n)
+
+    all : count * span tree ≡ 0
+    all = ap (count *_) one ∙ mul-zero count
 
 -- the elements before element e are made normal, and so many are left
 pub record Elements (types members : List ℕ) (i count : ℕ) (image : List ℕ) (base size e : ℕ) (now : List ℕ)

@@ -32,6 +32,7 @@ use types::Refusal;
 use types::Ty;
 use types::TypeTable;
 use types::is_there;
+use words::least;
 use words::store32;
 
 // The longest stream.
@@ -64,15 +65,6 @@ pub fn is_product(long: usize, size: usize, n: usize) -> bool
         return false;
     }
     long / size == n
-}
-
-fn least(a: usize, b: usize) -> usize
-    ensures { λ r. ⌜ r ≡ min a b ⌝ }
-{
-    if a < b {
-        return a;
-    }
-    b
 }
 
 // How many entries a value has, and whether one is a text.

@@ -119,7 +119,7 @@ fn normal_member(
     }
 }
 
-// An array of structures i.
+// An array of structures i; elements of no bytes are not walked, however many there are.
 pub fn normal_elements(
     types: &TypeTable,
     members: &MemberTable,
@@ -134,6 +134,9 @@ pub fn normal_elements(
         (flat (now (image .entry))) ⌝ }
 {
     let size = struct_size(types, i);
+    if size == 0 {
+        return;
+    }
     let mut e: usize = 0;
     while e < count {
         normal_struct(types, members, i, image, base + size * e);

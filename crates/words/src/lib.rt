@@ -1,12 +1,14 @@
 // Little-endian words and single bits of byte slices: the few functions, and all the laws, that the
 // crates `types` and `values` share. Each function asks only that its place lies inside the slice.
 mod bits;
+mod bounds;
 mod load;
 mod store;
 mod widen;
 
 pub use bits::bit_at;
 pub use bits::set_bit;
+pub use bounds::least;
 pub use load::load8;
 pub use load::load16;
 pub use load::load32;

@@ -3,12 +3,6 @@ use Rattle.values.proofs.KeptWalkable.{kept-walkable}
 use borrow.Author.Needs.{needs}
 use Rattle.replies.proofs.streams.put_stored.Statement.{statement}
 use Rattle.replies.proofs.streams.put_stored.Tie as tie
-use Rattle.replies.proofs.streams.put_stored.Reads as reads
-use Rattle.replies.proofs.streams.put_stored.Lts as lts
-use Rattle.replies.proofs.puts.accept.Reads as accept-reads
-use Rattle.replies.proofs.puts.put_bytes.Reads as put-bytes-reads
-use Rattle.replies.proofs.puts.refuse_with.Reads as refuse-with-reads
-use Rattle.values.proofs.text.Reads as text-reads
 
 text-requires : tie.Need-text-requires
 text-requires c κs = kept-walkable (c .before .before .before .pre)

@@ -5,12 +5,6 @@ use Rattle.values.proofs.ReadingLaws.{read-short}
 use borrow.Author.Needs.{needs}
 use Rattle.replies.proofs.streams.put_stream.Statement.{statement}
 use Rattle.replies.proofs.streams.put_stream.Tie as tie
-use Rattle.replies.proofs.streams.put_stream.Reads as reads
-use Rattle.replies.proofs.streams.put_stream.Lts as lts
-use Rattle.replies.proofs.puts.accept.Reads as accept-reads
-use Rattle.replies.proofs.puts.malformed.Reads as malformed-reads
-use Rattle.replies.proofs.puts.refuse.Reads as refuse-reads
-use Rattle.values.proofs.read.Reads as read-reads
 
 malformed-requires : tie.Need-malformed-requires
 malformed-requires c κs = search needs

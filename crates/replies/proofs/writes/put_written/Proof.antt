@@ -3,13 +3,6 @@ use Rattle.values.proofs.KeptWalkable.{kept-walkable}
 use borrow.Author.Needs.{needs}
 use Rattle.replies.proofs.writes.put_written.Statement.{statement}
 use Rattle.replies.proofs.writes.put_written.Tie as tie
-use Rattle.replies.proofs.writes.put_written.Reads as reads
-use Rattle.replies.proofs.writes.put_written.Lts as lts
-use Rattle.replies.proofs.puts.accept.Reads as accept-reads
-use Rattle.replies.proofs.puts.malformed.Reads as malformed-reads
-use Rattle.replies.proofs.puts.put_bytes.Reads as put-bytes-reads
-use Rattle.replies.proofs.puts.refuse.Reads as refuse-reads
-use Rattle.values.proofs.write.Reads as write-reads
 
 malformed-requires : tie.Need-malformed-requires
 malformed-requires c κs = search needs

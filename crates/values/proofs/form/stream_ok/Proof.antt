@@ -7,11 +7,6 @@ use Rattle.values.proofs.FormLaws.{too-short, too-long, too-many, all-o
 use borrow.Author.Needs.{needs}
 use Rattle.values.proofs.form.stream_ok.Statement.{statement}
 use Rattle.values.proofs.form.stream_ok.Tie as tie
-use Rattle.values.proofs.form.stream_ok.Reads as reads
-use Rattle.values.proofs.form.stream_ok.Lts as lts
-use Rattle.values.proofs.form.entries_ok.Reads as entries-ok-reads
-use Rattle.words.proofs.load32.Reads as load32-reads
-use Rattle.words.proofs.wide.Reads as wide-reads
 
 -- the number of entries is the first word
 counted : (c : tie.After-wide) → c .wide .result ≡ countIn (c .before .before .before .before .before .args .s .now)

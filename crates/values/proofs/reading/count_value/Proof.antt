@@ -6,10 +6,6 @@ use Rattle.values.proofs.CountLaws.{counted-same}
 use borrow.Author.Needs.{needs}
 use Rattle.values.proofs.reading.count_value.Statement.{statement}
 use Rattle.values.proofs.reading.count_value.Tie as tie
-use Rattle.values.proofs.reading.count_value.Reads as reads
-use Rattle.values.proofs.reading.count_value.Lts as lts
-use Rattle.values.proofs.count.count_atomics.Reads as count-atomics-reads
-use Rattle.values.proofs.count.count_structs.Reads as count-structs-reads
 
 enum-known-ty : tie.Need-enum-known-ty
 enum-known-ty c = search needs

@@ -3,8 +3,6 @@ use Rattle.values.proofs.ReadingLaws.{product-none, product-not, produc
 use borrow.Author.Needs.{needs}
 use Rattle.values.proofs.reading.is_product.Statement.{statement}
 use Rattle.values.proofs.reading.is_product.Tie as tie
-use Rattle.values.proofs.reading.is_product.Reads as reads
-use Rattle.values.proofs.reading.is_product.Lts as lts
 
 returns : tie.Need-returns
 returns c = product-none (c .before .args .long) (c .before .args .size) (c .before .args .n) (c .if1 .taken)

@@ -15,15 +15,6 @@ use Rattle.values.proofs.ReadingLaws.{answered, no-image, no-room, no-s
 use borrow.Author.Needs.{needs}
 use Rattle.values.proofs.reading.read.Statement.{statement}
 use Rattle.values.proofs.reading.read.Tie as tie
-use Rattle.values.proofs.reading.read.Reads as reads
-use Rattle.values.proofs.reading.read.Lts as lts
-use Rattle.types.proofs.is_there.Reads as is-there-reads
-use Rattle.values.proofs.tokens.as_size.Reads as as-size-reads
-use Rattle.values.proofs.reading.is_product.Reads as is-product-reads
-use Rattle.values.proofs.reading.least.Reads as least-reads
-use Rattle.values.proofs.reading.read_within.Reads as read-within-reads
-use Rattle.values.proofs.reading.size_of_ty.Reads as size-of-ty-reads
-use Rattle.values.proofs.rows.times_of.Reads as times-of-reads
 
 -- the type is there
 there : (c : tie.Else1) → isThere (c .before .before .before .before .args .types .now)

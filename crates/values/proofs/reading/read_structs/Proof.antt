@@ -4,10 +4,6 @@ use Rattle.values.proofs.ReadingLaws.{image-one, image-some, value-one,
 use borrow.Author.Needs.{needs}
 use Rattle.values.proofs.reading.read_structs.Statement.{statement}
 use Rattle.values.proofs.reading.read_structs.Tie as tie
-use Rattle.values.proofs.reading.read_structs.Reads as reads
-use Rattle.values.proofs.reading.read_structs.Lts as lts
-use Rattle.values.proofs.walk.read_elements.Reads as read-elements-reads
-use Rattle.values.proofs.walk.read_struct.Reads as read-struct-reads
 
 read-struct-requires : tie.Need-read-struct-requires
 read-struct-requires c κs =

@@ -10,10 +10,6 @@ use Rattle.values.proofs.LeafLaws.{textless-atomics}
 use borrow.Author.Needs.{needs}
 use Rattle.values.proofs.reading.read_value.Statement.{statement}
 use Rattle.values.proofs.reading.read_value.Tie as tie
-use Rattle.values.proofs.reading.read_value.Reads as reads
-use Rattle.values.proofs.reading.read_value.Lts as lts
-use Rattle.values.proofs.atomics.put_atomics.Reads as put-atomics-reads
-use Rattle.values.proofs.reading.read_structs.Reads as read-structs-reads
 
 enum-known-ty : tie.Need-enum-known-ty
 enum-known-ty c = search needs

@@ -9,12 +9,6 @@ use Rattle.values.proofs.ReadingLaws.{no-room, over-room, read-all, str
 use borrow.Author.Needs.{needs}
 use Rattle.values.proofs.reading.read_within.Statement.{statement}
 use Rattle.values.proofs.reading.read_within.Tie as tie
-use Rattle.values.proofs.reading.read_within.Reads as reads
-use Rattle.values.proofs.reading.read_within.Lts as lts
-use Rattle.values.proofs.reading.count_value.Reads as count-value-reads
-use Rattle.values.proofs.reading.read_value.Reads as read-value-reads
-use Rattle.values.proofs.reading.text_value.Reads as text-value-reads
-use Rattle.words.proofs.store32.Reads as store32-reads
 
 -- the stream is that of the walk's entries
 same : (c : tie.After-shared-slice-known) →

@@ -2,10 +2,6 @@
 use borrow.Author.Needs.{needs}
 use Rattle.values.proofs.reading.size_of_ty.Statement.{statement}
 use Rattle.values.proofs.reading.size_of_ty.Tie as tie
-use Rattle.values.proofs.reading.size_of_ty.Reads as reads
-use Rattle.values.proofs.reading.size_of_ty.Lts as lts
-use Rattle.values.proofs.numbers.size_of.Reads as size-of-reads
-use Rattle.values.proofs.rows.struct_size.Reads as struct-size-reads
 
 enum-known-ty : tie.Need-enum-known-ty
 enum-known-ty c = search needs

@@ -4,10 +4,6 @@ use Rattle.values.proofs.ReadingLaws.{image-one, image-some, value-one,
 use Rattle.values.proofs.TextCountLaws.{texts-as}
 use Rattle.values.proofs.reading.text_structs.Statement.{statement}
 use Rattle.values.proofs.reading.text_structs.Tie as tie
-use Rattle.values.proofs.reading.text_structs.Reads as reads
-use Rattle.values.proofs.reading.text_structs.Lts as lts
-use Rattle.values.proofs.lengths.text_elements.Reads as text-elements-reads
-use Rattle.values.proofs.lengths.text_struct.Reads as text-struct-reads
 
 text-struct-requires : tie.Need-text-struct-requires
 text-struct-requires c κs =

@@ -10,9 +10,6 @@ use borrow.Author.Needs.{needs}
 use borrow.Author.Tests.{not-true}
 use Rattle.values.proofs.reading.text_value.Statement.{statement}
 use Rattle.values.proofs.reading.text_value.Tie as tie
-use Rattle.values.proofs.reading.text_value.Reads as reads
-use Rattle.values.proofs.reading.text_value.Lts as lts
-use Rattle.values.proofs.reading.text_structs.Reads as text-structs-reads
 
 returns : tie.Need-returns
 returns c = no-texts (c .before .before .pre .1 (not-true _ (c .if1 .taken)))

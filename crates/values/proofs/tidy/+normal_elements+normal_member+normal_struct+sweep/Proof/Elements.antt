@@ -3,7 +3,7 @@
 use Prim.Native.Nat.{ℕ, _-_}
 use native.Mathlib.Omega.{arith}
 use borrow.Fn.Kinds.{In, Out}
-use Rattle.values.proofs.ElementsMade.{Elements, element-here, element-inside, element-made}
+use Rattle.values.proofs.ElementsMade.{Elements, element-here, element-inside, element-made, elements-none}
 use Rattle.values.proofs.ElementsMade.{elements-done, elements-start}
 use Rattle.values.proofs.rows.struct_size.Reads as struct-size-reads
 use Rattle.values.proofs.tidy.normal_struct.Reads as struct-reads
@@ -34,13 +34,19 @@ module _ (t : ℕ) where
   struct-size-requires : so lts.Need-struct-size-requires
   struct-size-requires c κs = c .before .pre .1 .1 .low
 
+  returns : so lts.Need-returns
+  returns c =
+      let at-size = c .before in
+      let asked = at-size .before .before .pre .1 in
+      elements-none _ (asked .0) (asked .1 .low) (at-size .struct-size .ensures) (c .if1 .taken) _ _
+
   loop-holds : so lts.Need-loop-holds
-  loop-holds c = elements-start (c .struct-size .ensures)
+  loop-holds c = elements-start (c .before .struct-size .ensures)
 
   mul-normal-struct : so lts.Need-mul-normal-struct
   mul-normal-struct c =
       let in-loop = c .before in
-      let start = in-loop .before .before .before .before in
+      let start = in-loop .before .before .before .before .before in
       let asked = start .pre .1 in
       omega (
         arith,
@@ -51,7 +57,7 @@ module _ (t : ℕ) where
   add-normal-struct : so lts.Need-add-normal-struct
   add-normal-struct c =
       let in-loop = c .before in
-      let start = in-loop .before .before .before .before in
+      let start = in-loop .before .before .before .before .before in
       let asked = start .pre .1 in
       omega (
         arith,
@@ -62,7 +68,7 @@ module _ (t : ℕ) where
   normal-struct-requires : so lts.Need-normal-struct-requires
   normal-struct-requires c κs =
       let in-loop = c .before in
-      let start = in-loop .before .before .before .before in
+      let start = in-loop .before .before .before .before .before in
       let asked = start .pre .1 in (
         omega (arith, start .pre .0),
         (asked .0, element-here (asked .0) (asked .1) (in-loop .before .loop .inv) (in-loop .loop-test .taken)),
@@ -71,7 +77,7 @@ module _ (t : ℕ) where
   add-e : so lts.Need-add-e
   add-e c =
       let in-loop = c .before .before .before .before in
-      let start = in-loop .before .before .before .before in
+      let start = in-loop .before .before .before .before .before in
       omega (arith, in-loop .loop-test .taken, start .fits .count)
 
   loop-less : so lts.Need-loop-less
@@ -81,20 +87,20 @@ module _ (t : ℕ) where
   loop-again c =
       let at-struct = c .before .before in
       let in-loop = at-struct .before .before in
-      let asked = in-loop .before .before .before .before .pre .1 in
+      let asked = in-loop .before .before .before .before .before .pre .1 in
       element-made (asked .0) (asked .1) (in-loop .before .loop .inv) (in-loop .loop-test .taken) _
       (at-struct .normal-struct .ensures) (at-struct .normal-struct .kept .1 .1 .1 .0)
 
   same-length : so lts.Need-same-length
   same-length c = c .before .loop .inv .whole
 
-  returns : so lts.Need-returns
-  returns c =
+  returns-2 : so lts.Need-returns-2
+  returns-2 c =
       let at-loop = c .before in
-      let asked = at-loop .before .before .before .pre .1 in
+      let asked = at-loop .before .before .before .before .pre .1 in
       elements-done (asked .0) (asked .1) (at-loop .loop .inv) (c .loop-test .left)
 
   pub closed : {M : Type 1} → lts.Closed (claims t) (measures.elements-at t) reads.Post M
   closed =
-      lts.spec (claims t) (measures.elements-at t) reads.Post Inv μ struct-size-requires loop-holds mul-normal-struct
-      add-normal-struct normal-struct-requires add-e loop-less loop-again same-length returns
+      lts.spec (claims t) (measures.elements-at t) reads.Post Inv μ struct-size-requires returns loop-holds
+      mul-normal-struct add-normal-struct normal-struct-requires add-e loop-less loop-again same-length returns-2

@@ -9,7 +9,6 @@ use Rattle.values.proofs.ReadLaws.{Elements, elements-room, elements-st
 use Rattle.values.proofs.ReadLaws.{element-asks, element-on}
 use Rattle.values.proofs.walk.read_elements.Reads as elements
 use Rattle.values.proofs.walk.+read_elements+read_members+read_nested+read_struct.Lts-read_elements as lts
-use Rattle.values.proofs.walk.read_members.Reads as members
 use Rattle.values.proofs.walk.read_struct.Reads as struct
 use Rattle.values.proofs.entry.put_entry.Reads as put-entry-reads
 use Rattle.values.proofs.rows.struct_size.Reads as struct-size-reads

@@ -8,7 +8,6 @@ use Rattle.values.proofs.PartLaws.{held-earlier, one-fits, some-fits}
 use Rattle.values.proofs.ReadLaws.{nested-not, nested-low, held-row, nested-room, Nesting}
 use Rattle.values.proofs.ReadLaws.{one-asks, one-wrote, some-asks, some-wrote}
 use Rattle.values.proofs.walk.read_elements.Reads as elements
-use Rattle.values.proofs.walk.read_members.Reads as members
 use Rattle.values.proofs.walk.read_nested.Reads as nested
 use Rattle.values.proofs.walk.+read_elements+read_members+read_nested+read_struct.Lts-read_nested as nested-lts
 use Rattle.values.proofs.walk.read_struct.Reads as struct

@@ -1,0 +1,138 @@
+-- No two types of a registry hold the same template id, and no two have the same name without ASCII case (document 01,
+-- "Ids": "that no type holds"; refusals 3, 5 and 22). It holds of the predefined types, and stays when a type with a
+-- new id and a new name is added.
+use Prim.Native.Nat.{ℕ, _+_, _<_}
+use native.Mathlib.Decide.{decLt}
+use native.Mathlib.Omega.{arith}
+use mathlib.Core.Path.{_≡_, refl, sym, ap, _∙_}
+use mathlib.Core.Bool.{Bool, true, false, cond, not, _||_, true≢false}
+use mathlib.Core.List.{List, [], _∷_, _++_, map}
+use borrow.Author.Tests.{eqb-false, eq-eqb}
+use lib.Dec.{eqb}
+use lib.ListN.{length, getD, List·getD-append}
+use lib.Seq.{getD-append-seam}
+use Rattle.types.specs.declared.atomic.FoundAtomic.{FoundAtomic}
+use Rattle.types.specs.declared.atomic.FoundAtomic.the-variants.{Is as found, Nothing as none}
+use Rattle.types.specs.declared.lookups.FoundTy.{FoundTy}
+use Rattle.types.specs.declared.lookups.FoundTy.the-variants.{Is}
+use Rattle.types.specs.declared.member.Ty.the-variants.{Struct}
+use Rattle.types.specs.Add.{newDef}
+use Rattle.types.specs.Atomic.{atomicNamed}
+use Rattle.types.specs.Defs.{Def}
+use Rattle.types.specs.Ids.{inUse}
+use Rattle.types.specs.Laid.{Every}
+use Rattle.types.specs.Lookup.{namedAmong, atomicOr, typeAmong}
+use Rattle.types.specs.Names.{lowerOf, sameName}
+use Rattle.types.specs.Predefined.{distinct, predefinedIds, withTimer, withCounter, withControl, predefined}
+use Rattle.types.specs.Registry.{viewOf}
+use Rattle.types.specs.Resolve.{isFound}
+use Rattle.types.proofs.AddLaws.{every-nth}
+use Rattle.types.proofs.PredefinedLaws.{same-1, same-2, same-3, same-4, same-5, same-6, ids-differ, ids-good}
+use Rattle.types.proofs.RegistryLaws.{length-snoc}
+use Rattle.types.proofs.ShownLaws.{noDef}
+
+-- a type holds another id and has another name than an earlier one
+pub record Differs (d x : Def) : Type 0 where
+  pub id : x .id ≡ d .id → ⊥
+  pub name : sameName (x .name) (d .name) ≡ false
+
+-- each type of a registry differs from each earlier one
+abbrev pub Unlike : List Def → Type 0
+Unlike ds = (i j : ℕ) → i < j → j < length ds → Differs (getD ds j noDef) (getD ds i noDef)
+
+pub unlike-none : Unlike []
+unlike-none i j l h = absurd (let z : ⊥ = omega arith in z)
+
+pub unlike-more : (ds : List Def) (d : Def) → Unlike ds → Every (Differs d) ds → Unlike (ds ++ d ∷ [])
+unlike-more ds d u n i j l h = go (decLt j (length ds))
+  where
+    go : Dec (j < length ds) → Differs (getD (ds ++ d ∷ []) j noDef) (getD (ds ++ d ∷ []) i noDef)
+    go (yes o) =
+        let e = List·getD-append ds (d ∷ []) noDef i (omega arith) in
+        rw (e, List·getD-append ds (d ∷ []) noDef j o) (u i j l o)
+    go (no o) =
+        let q : j ≡ length ds = omega (arith, o, length-snoc ds d) in
+        let k : i < length ds = omega arith in
+        let e : getD (ds ++ d ∷ []) (length ds) noDef ≡ d = getD-append-seam ds d [] noDef in
+        rw (q, e, List·getD-append ds (d ∷ []) noDef i k) (every-nth (Differs d) noDef ds i n k)
+
+-- ---- a new id and a new name
+
+module _ (d : Def) where
+  abbrev held : List Def → Bool
+  held ds = inUse (d .id) (map (λ (x : Def). x .id) ds)
+
+  abbrev named : List Def → ℕ → FoundTy
+  named ds i = namedAmong (map (λ (x : Def). x .name) ds) (d .name) i
+
+  each-differs : (ds : List Def) (i : ℕ) → held ds ≡ false → isFound (named ds i) ≡ false → Every (Differs d) ds
+  unfolding Every inUse namedAmong
+  each-differs [] i u n = tt
+  each-differs (x ∷ ds) i u n =
+      go (eqb (x .id) (d .id)) (sameName (x .name) (d .name)) refl refl u n (each-differs ds (i + 1))
+    where
+      go : (p q : Bool) → eqb (x .id) (d .id) ≡ p → sameName (x .name) (d .name) ≡ q → (p || held ds) ≡ false
+          → isFound (cond q (Is (Struct i)) (named ds (i + 1))) ≡ false
+          → (held ds ≡ false → isFound (named ds (i + 1)) ≡ false → Every (Differs d) ds)
+          → Differs d x × Every (Differs d) ds
+      go true q a b u n rest = absurd (true≢false u)
+      go false true a b u n rest = absurd (true≢false n)
+      go false false a b u n rest = (record { id = eqb-false _ _ a; name = b }, rest u n)
+
+not-atomic : (a : FoundAtomic) (f : FoundTy) → isFound (atomicOr a f) ≡ false → isFound f ≡ false
+not-atomic (found a) f e = absurd (true≢false e)
+not-atomic none f e = e
+
+-- what is not in use and not known is new
+pub new-differs : (ds : List Def) (d : Def) → inUse (d .id) (viewOf ds .ids) ≡ false
+    → isFound (typeAmong (viewOf ds .names) (d .name)) ≡ false → Every (Differs d) ds
+unfolding viewOf typeAmong
+new-differs ds d u n = each-differs d ds 0 u (not-atomic (atomicNamed (d .name)) _ n)
+
+-- ---- the predefined types
+
+module _ (a b c d : ℕ) (good : predefinedIds a b c d ≡ true) where
+  apart : false ≡ distinct a b c d → ⊥
+  apart e =
+      let i = ids-good a b c d good in
+      true≢false (sym (e ∙ ids-differ a b c d (i .timer) (i .counter) (i .control) (i .string) ∙ good))
+
+  ab : a ≡ b → ⊥
+  ab e = apart (same-1 a b c d e)
+
+  ac : a ≡ c → ⊥
+  ac e = apart (same-2 a b c d ab e)
+
+  ad : a ≡ d → ⊥
+  ad e = apart (same-3 a b c d ab ac e)
+
+  bc : b ≡ c → ⊥
+  bc e = apart (same-4 a b c d ab ac ad e)
+
+  bd : b ≡ d → ⊥
+  bd e = apart (same-5 a b c d ab ac ad bc e)
+
+  cd : c ≡ d → ⊥
+  cd e = apart (sym (ap not (eq-eqb c d e)) ∙ same-6 a b c d ab ac ad bc bd)
+
+  timer-unlike : Unlike (withTimer a)
+  unfolding withTimer Every
+  timer-unlike = unlike-more [] _ unlike-none tt
+
+  counter-unlike : Unlike (withCounter a b)
+  unfolding withTimer withCounter newDef Every sameName lowerOf
+  counter-unlike = unlike-more (withTimer a) _ timer-unlike (record { id = ab; name = refl }, tt)
+
+  control-unlike : Unlike (withControl a b c)
+  unfolding withTimer withCounter withControl newDef Every sameName lowerOf
+  control-unlike =
+      unlike-more (withCounter a b) _ counter-unlike
+      (record { id = ac; name = refl }, (record { id = bc; name = refl }, tt))
+
+  pub predefined-unlike : Unlike (predefined a b c d)
+  unfolding withTimer withCounter withControl predefined newDef Every sameName lowerOf
+  predefined-unlike =
+      unlike-more (withControl a b c) _ control-unlike (
+        record { id = ad; name = refl },
+        (record { id = bd; name = refl }, (record { id = cd; name = refl }, tt)),
+      )
