@@ -1,5 +1,5 @@
-//! The works whose pace is measured. `pace` lists them, each with the port's program and its entries; `pace ask N TIMES`
-//! prints the port's questions of work N; `pace original N TIMES` does it with the original.
+//! The works whose pace is measured. `pace` lists them, each with the port's program and its entries; `pace ask N
+//! TIMES` prints the port's questions of work N; `pace original N TIMES` does it with the original.
 
 use oracle::pace::{WORKS, Work};
 use std::io::{self, Write};
