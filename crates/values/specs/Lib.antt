@@ -28,3 +28,4 @@ pub mod ReadingCases
 pub mod WritingCases
 pub mod NormalCases
 pub mod ValueCases
+pub mod Reference
