@@ -95,54 +95,54 @@ module _ {book tys₀ f₀ k₀ r₀ t m n tys f k r : List ℕ} {start : List D
         tries = g .tries;
       }
 
-  module _ {t′ m′ n′ f′ k′ r′ : List ℕ} {x : Round} (h : RoundMade book T u t m n f t′ m′ n′ f′ k′ r′ x) (l : 0 < left)
-    where
-      pub ended-no : {a b c : List ℕ} (y : Refusal) → x ≡ Stopped y → Cleared a b c
-          → Ended (roundsFrom book start) a b c (Refused y)
-      ended-no y e =
+  module _ {t′ m′ n′ f′ k′ r′ : List ℕ} {x : Round}
+      (h : RoundMade book T u t m n f t′ m′ n′ f′ k′ r′ x) (l : 0 < left) where
+    pub ended-no : {a b c : List ℕ} (y : Refusal) → x ≡ Stopped y → Cleared a b c
+        → Ended (roundsFrom book start) a b c (Refused y)
+    ended-no y e =
+        let o = g .outer in
+        ended-refused (roundsFrom book start) y
+        (outer-stop o l y ((rw e at h) .each (o .ds) (o .reached) (o .stands)))
+
+    -- a round that refused no type
+    module _ (u′ : Used) (left′ : ℕ) (e : x ≡ Went u′ left′) where
+      goes : Goes book T (roundIn book (g .outer .ds) (waits f 0 T)) t′ m′ n′ f′ k′ r′ u′ left′
+      goes =
           let o = g .outer in
-          ended-refused (roundsFrom book start) y
-          (outer-stop o l y ((rw e at h) .each (o .ds) (o .reached) (o .stands)))
+          (rw e at h) .each (o .ds) (o .reached) (o .stands)
 
-      -- a round that refused no type
-      module _ (u′ : Used) (left′ : ℕ) (e : x ≡ Went u′ left′) where
-        goes : Goes book T (roundIn book (g .outer .ds) (waits f 0 T)) t′ m′ n′ f′ k′ r′ u′ left′
-        goes =
-            let o = g .outer in
-            (rw e at h) .each (o .ds) (o .reached) (o .stands)
+      pub ended-stuck : {a b c : List ℕ} (p : ℕ) → left′ ≡ left → FirstWaits f′ T p → Cleared a b c
+          → Ended (roundsFrom book start) a b c (Refused (TypesUnknown p))
+      ended-stuck p q w =
+          ended-refused (roundsFrom book start) (TypesUnknown p)
+          (outer-stuck (g .outer) l (goes .is) (sym (goes .count) ∙ q) ∙ rw (w .is))
 
-        pub ended-stuck : {a b c : List ℕ} (p : ℕ) → left′ ≡ left → FirstWaits f′ T p → Cleared a b c
-            → Ended (roundsFrom book start) a b c (Refused (TypesUnknown p))
-        ended-stuck p q w =
-            ended-refused (roundsFrom book start) (TypesUnknown p)
-            (outer-stuck (g .outer) l (goes .is) (sym (goes .count) ∙ q) ∙ rw (w .is))
+      pub going-less : (left′ ≡ left → ⊥) → left′ < left
+      going-less q =
+          omega (
+            arith,
+            goes .count,
+            g .outer .count,
+            round-fewer TypesUnknown (readyIn book) (addIn book) (g .outer .ds) (waits f 0 T) (goes .defs) _
+                (goes .is),
+            q,
+          )
 
-        pub going-less : (left′ ≡ left → ⊥) → left′ < left
-        going-less q =
-            omega (
-              arith,
-              goes .count,
-              g .outer .count,
-              round-fewer TypesUnknown (readyIn book) (addIn book) (g .outer .ds) (waits f 0 T) (goes .defs) _
-                  (goes .is),
-              q,
-            )
-
-        pub going-next : {tys′ : List ℕ} → (left′ ≡ left → ⊥) → length tys′ ≡ length tys → length f′ ≡ length f
-            → length k′ ≡ length k → length r′ ≡ length r
-            → Going book start T tys₀ f₀ k₀ r₀ t′ m′ n′ tys′ f′ k′ r′ u′ left′
-        going-next q kept kept-f kept-k kept-r =
-            let o = g .outer in
-            record {
-              const = const-kept (g .const) kept;
-              outer = outer-next o l (goes .is) (reached-round _ _ (o .reached) (goes .is)) (goes .stands)
-                  (goes .count) (rw kept-f (o .flags)) (going-less q);
-              words = kept ∙ g .words;
-              flags = kept-f ∙ g .flags;
-              tries = goes .tries;
-              members = kept-k ∙ g .members;
-              rows = kept-r ∙ g .rows;
-            }
+      pub going-next : {tys′ : List ℕ} → (left′ ≡ left → ⊥) → length tys′ ≡ length tys → length f′ ≡ length f
+          → length k′ ≡ length k → length r′ ≡ length r
+          → Going book start T tys₀ f₀ k₀ r₀ t′ m′ n′ tys′ f′ k′ r′ u′ left′
+      going-next q kept kept-f kept-k kept-r =
+          let o = g .outer in
+          record {
+            const = const-kept (g .const) kept;
+            outer = outer-next o l (goes .is) (reached-round _ _ (o .reached) (goes .is)) (goes .stands)
+                (goes .count) (rw kept-f (o .flags)) (going-less q);
+            words = kept ∙ g .words;
+            flags = kept-f ∙ g .flags;
+            tries = goes .tries;
+            members = kept-k ∙ g .members;
+            rows = kept-r ∙ g .rows;
+          }
 
 -- ---- before the rounds
 

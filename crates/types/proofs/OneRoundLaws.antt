@@ -225,7 +225,8 @@ module _ {book t₀ m₀ n₀ tys₀ f₀ k₀ r₀ t m n tys f k r : List ℕ} 
       module _ {tys′ k′ r′ : List ℕ} (kept : length tys′ ≡ length tys) (kept-k : length k′ ≡ length k)
           (kept-r : length r′ ≡ length r) (tries : Tries book (rowNames t n (u .types)) k′ r′) where
         pub within-wait : x ≡ Waits
-            → Within book T t₀ m₀ n₀ tys₀ f₀ k₀ r₀ u₀ t′ m′ n′ tys′ f k′ r′ u left (i + 1) (at + 16 * countOf book i)
+            → Within book T t₀ m₀ n₀ tys₀ f₀ k₀ r₀ u₀ t′ m′ n′ tys′ f k′ r′ u left (i + 1)
+            (at + 16 * countOf book i)
         within-wait e =
             let d = turn-waits (turned within-now) e in
             rw (d .1 .0, d .1 .1 .0, d .1 .1 .1)

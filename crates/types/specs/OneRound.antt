@@ -53,11 +53,10 @@ pub record Goes (book : List ℕ) (t : ℕ) (o : Out (List Def) Refusal) (types 
   pub tries : Tries book (rowNames types names (u .types)) stuck tried
 
 -- a round was made: the refusal of the definition, or its registry
-abbrev pub Leaves : List ℕ → ℕ → Out (List Def) Refusal → List ℕ → List ℕ → List ℕ → List ℕ → List ℕ → List ℕ → Round
-    → Type 0
-Leaves book t o types members names done stuck tried (Refused x) = o ≡ stop x
-Leaves book t o types members names done stuck tried (Went u left) =
-    Goes book t o types members names done stuck tried u left
+module _ (book : List ℕ) (t : ℕ) (o : Out (List Def) Refusal) (types members names done stuck tried : List ℕ) where
+  abbrev pub Leaves : Round → Type 0
+  Leaves (Refused x) = o ≡ stop x
+  Leaves (Went u left) = Goes book t o types members names done stuck tried u left
 
 -- so for any registry that stood in the tables before, and the flags of that time
 pub record RoundMade (book : List ℕ) (t : ℕ) (u : Used) (types₀ members₀ names₀ done₀ : List ℕ)

@@ -1,4 +1,4 @@
--- What a value stream is, what reading gives, and the walk that the code makes.
+-- What a value stream is, what reading gives, what writing does, the normal image, and the steps that the code makes.
 pub mod Stream
 pub mod Entry
 pub mod Form

@@ -98,6 +98,9 @@ module _ (t : ℕ) where
 
   -- ---- atomics
 
+  abbrev atomics-clear : so lts.After-times-of → so lts.After-clear
+  atomics-clear c = c .before .before .before .before .before .before .before .before .before .before .before
+
   -- they end in the image
   atomics-fit : (c : so lts.After-times-of)
       → let at-size = c .before in
@@ -132,14 +135,10 @@ module _ (t : ℕ) where
   times-of-requires c κs = search needs
 
   mul-result : so lts.Need-mul-result
-  mul-result c =
-      let at-clear = c .before .before .before .before .before .before .before .before .before .before .before in
-      omega (arith, atomics-fit c, start-of at-clear .good)
+  mul-result c = omega (arith, atomics-fit c, start-of (atomics-clear c) .good)
 
   add-result : so lts.Need-add-result
-  add-result c =
-      let at-clear = c .before .before .before .before .before .before .before .before .before .before .before in
-      omega (arith, atomics-fit c, start-of at-clear .good)
+  add-result c = omega (arith, atomics-fit c, start-of (atomics-clear c) .good)
 
   same-length : so lts.Need-same-length
   same-length c = search needs
@@ -205,6 +204,9 @@ module _ (t : ℕ) where
 
   -- ---- an array of structures
 
+  abbrev all-clear : so lts.After-slice-known5 → so lts.After-clear
+  all-clear c = c .before .before .before .before .before .before .before .before .before .before .before
+
   -- they end in the image
   all-fit : (c : so lts.After-slice-known5)
       → let at-size = c .before .before .before .before .before in
@@ -235,14 +237,10 @@ module _ (t : ℕ) where
       )
 
   mul-result-2 : so lts.Need-mul-result-2
-  mul-result-2 c =
-      let at-clear = c .before .before .before .before .before .before .before .before .before .before .before in
-      omega (arith, all-fit c, start-of at-clear .good)
+  mul-result-2 c = omega (arith, all-fit c, start-of (all-clear c) .good)
 
   add-result-3 : so lts.Need-add-result-3
-  add-result-3 c =
-      let at-clear = c .before .before .before .before .before .before .before .before .before .before .before in
-      omega (arith, all-fit c, start-of at-clear .good)
+  add-result-3 c = omega (arith, all-fit c, start-of (all-clear c) .good)
 
   same-length-3 : so lts.Need-same-length-3
   same-length-3 c = search needs
