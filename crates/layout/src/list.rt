@@ -11,8 +11,8 @@ use crate::lines::add_type;
 use types::MemberTable;
 use types::NameTable;
 use types::TypeTable;
-use types::type_at;
 use types::type_count;
+use types::type_row;
 use words::wide;
 
 // The predefined types come first in the tables and are never shown.
@@ -31,7 +31,7 @@ fn add_members(
         × ((from ≤ length (now out)) × (512 ≤ length (now out)))) ⌝ }
     ensures { λ r. ⌜ r ≤ length (now (out .entry)) ⌝ }
 {
-    let d = type_at(types, i);
+    let d = type_row(types, i);
     let count = wide(d.count);
     let mut at = from;
     let mut k: usize = 0;

@@ -13,7 +13,7 @@ use Rattle.types.specs.declared.shape.Shaped.{Shaped}
 use Rattle.types.specs.Ids.{idWord}
 use Rattle.types.specs.Kept.{Kept}
 use Rattle.types.specs.Registry.{countFrom, typeCount}
-use Rattle.types.specs.Shape.{given, shapeOf, Symbolic}
+use Rattle.types.specs.Shape.{fitSays, given, saidBy, shapeOf, Symbolic}
 use Rattle.types.specs.Tables.{typeAt}
 use Rattle.types.specs.Waste.{Countable}
 use Rattle.types.proofs.KeptLaws.{kept-ids, kept-listed}
@@ -39,9 +39,9 @@ pub kept-countable : {types members names : List ℕ} (k : Kept types members na
 kept-countable k i l e = rw e (kept-listed k .each i l .rows)
 
 -- a shape that fits is one that was given
-whole : (x : Shaped) → x .fit ≡ Fits → x ≡ given (x .shape)
-whole x e = ap (λ (f : Fit). record { fit = f; shape = x .shape }) e
+whole : (x : Shaped) → x .fit ≡ Fits → saidBy x ≡ given (x .shape)
+whole x e = ap (λ (f : Fit). record { said = fitSays f; shape = x .shape }) e
 
 pub kept-symbolic : {types members names : List ℕ} (k : Kept types members names) (t : Ty) (s : List ℕ) (x : Shaped)
-    → x ≡ shapeOf types t s → x .fit ≡ Fits → Symbolic types (x .shape)
+    → saidBy x ≡ shapeOf types t s → x .fit ≡ Fits → Symbolic types (x .shape)
 kept-symbolic {types} k t s x e f = shape-symbolic types (kept-ids k) t s (x .shape) (sym e ∙ whole x f)

@@ -20,12 +20,12 @@ use types::Refusal;
 use types::StructDef;
 use types::StructKind;
 use types::TypeTable;
-use types::member_at;
-use types::name_at;
+use types::member_row;
+use types::name_row;
 use types::object_definition_size;
 use types::template_len;
-use types::type_at;
 use types::type_count;
+use types::type_row;
 use types::waste;
 use words::load16;
 use words::wide;
@@ -82,8 +82,8 @@ fn put_member(members: &MemberTable, names: &[u8], row: usize, out: &mut [u8], a
     if MEMBERS <= row {
         return at;
     }
-    let m = member_at(members, row);
-    let name = name_at(members, row);
+    let m = member_row(members, row);
+    let name = name_row(members, row);
     let k = put_name(out, at, names, name);
     put_member_fields(m, out, k)
 }
@@ -135,7 +135,7 @@ fn put_type(
 ) -> usize
     requires { ⌜ Kept (now types) (now members) (now names) × (i < typeCount (now types)) ⌝ }
 {
-    let d = type_at(types, i);
+    let d = type_row(types, i);
     let bytes = template_len(types, members, names, d);
     let bits = waste(types, members, d);
     let k1 = accept(out);

@@ -10,7 +10,6 @@ use lib.Seq.{sets}
 use Rattle.types.specs.declared.layout.Cursor.{Cursor}
 use Rattle.types.specs.declared.layout.Decl.{Decl}
 use Rattle.types.specs.declared.member.StructKind.{StructKind}
-use Rattle.types.specs.declared.refusal.Refusal.the-variants.{TablesFull}
 use Rattle.types.specs.declared.used.Used.{Used}
 use Rattle.types.specs.Add.{no, yes, hasRoom, usedIn, newDef, fitted, Usable}
 use Rattle.types.specs.Defs.{Part, Def}
@@ -149,7 +148,7 @@ module _ (types members names : List ℕ) (u : Used) (name : List ℕ) (id size 
       (length-list (rowName types names) 0 (u .types))
 
   module _ (i : ℕ) (r : Bool) (e : r ≡ hasRoom u (length parts) (length (name ++ namesOf parts))) where
-    pub fitted-no : r ≡ false → fitted view i new ≡ no (TablesFull i)
+    pub fitted-no : r ≡ false → fitted view i new ≡ no (13, i)
     unfolding fitted newDef
     fitted-no q = rw (view-used, sym e ∙ q)
 

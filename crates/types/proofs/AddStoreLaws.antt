@@ -9,6 +9,7 @@ use borrow.Author.Tests.{ltb-true, leb-true}
 use lib.Dec.{leb, ltb}
 use lib.ListN.{length, getD}
 use lib.Seq.{sets}
+use Rattle.types.specs.Said.{whyOf}
 use Rattle.words.specs.Words.{Bytes}
 use Rattle.words.proofs.Lists.{sets-append}
 use Rattle.words.proofs.WordLaws.{word-below}
@@ -142,7 +143,7 @@ module _ (types members names : List ℕ) (u : Used) (name : List ℕ) (id size 
       (record { is = refl; types = refl; members = refl; names = refl })
 
 -- a refusal was answered, and nothing stored
-pub took-no : {s : Verdict} {u : Used} (r : Refusal) (types members names : List ℕ) → s ≡ no r
+pub took-no : {s : Verdict} {u : Used} (r : Refusal) (types members names : List ℕ) → s ≡ no (whyOf r)
     → Took s u types members names types members names (Refused r)
 took-no r types members names e = rw e (record { is = refl; types = refl; members = refl; names = refl })
 

@@ -16,8 +16,6 @@ use Rattle.types.specs.declared.lookups.FoundTy.{FoundTy}
 use Rattle.types.specs.declared.lookups.FoundTy.the-variants.{Is, Nothing}
 use Rattle.types.specs.declared.member.StructKind.the-variants.{Str}
 use Rattle.types.specs.declared.member.Ty.{Ty}
-use Rattle.types.specs.declared.refusal.Refusal.the-variants.{NameOutsideRule, NameKnown, IdOutsideRange, IdInUse}
-use Rattle.types.specs.declared.refusal.Refusal.the-variants.{NoIdFree, StringWrong, MemberTwice, LocalOutsideAoi}
 use Rattle.types.specs.Add.{no, addUdt, addAoi, addMembers, addString, addNamed, addFresh, addEntry}
 use Rattle.types.specs.Add.{isAoi, isString, hasId, stringOk, newDef, fitted}
 use Rattle.types.specs.Checks.{checked, entriesFrom}
@@ -40,15 +38,15 @@ module _ (v : View) (book : List ℕ) (i at n : ℕ) (aoi : Bool) (name : List �
   unfolding addMembers
   members-udt q a = rw (← e, q, a)
 
-  pub members-name : c ≡ NameWrong → addMembers v book i at n aoi name id ds ≡ no (NameOutsideRule i)
+  pub members-name : c ≡ NameWrong → addMembers v book i at n aoi name id ds ≡ no (2, i)
   unfolding addMembers
   members-name q = rw (← e, q)
 
-  pub members-twice : c ≡ Twice → addMembers v book i at n aoi name id ds ≡ no (MemberTwice i)
+  pub members-twice : c ≡ Twice → addMembers v book i at n aoi name id ds ≡ no (8, i)
   unfolding addMembers
   members-twice q = rw (← e, q)
 
-  pub members-local : c ≡ LocalOutside → addMembers v book i at n aoi name id ds ≡ no (LocalOutsideAoi i)
+  pub members-local : c ≡ LocalOutside → addMembers v book i at n aoi name id ds ≡ no (9, i)
   unfolding addMembers
   members-local q = rw (← e, q)
 
@@ -99,7 +97,7 @@ module _ (v : View) (book : List ℕ) (i at : ℕ) (e : TypeEntry) (name : List 
     unfolding addNamed addString
     named-string p = rw (sym es ∙ q, sym ek ∙ p)
 
-    pub named-wrong : k ≡ false → addNamed v book i at e name id ds ≡ no (StringWrong i)
+    pub named-wrong : k ≡ false → addNamed v book i at e name id ds ≡ no (7, i)
     unfolding addNamed addString
     named-wrong p = rw (sym es ∙ q, sym ek ∙ p)
 
@@ -116,15 +114,15 @@ module _ (v : View) (book : List ℕ) (i at : ℕ) (e : TypeEntry) (name : List 
   unfolding addFresh
   fresh-free id q = rw (← ep, q)
 
-  pub fresh-outside : p ≡ OutsideRange → addFresh v book i at e name ds ≡ no (IdOutsideRange i)
+  pub fresh-outside : p ≡ OutsideRange → addFresh v book i at e name ds ≡ no (4, i)
   unfolding addFresh
   fresh-outside q = rw (← ep, q)
 
-  pub fresh-used : p ≡ InUse → addFresh v book i at e name ds ≡ no (IdInUse i)
+  pub fresh-used : p ≡ InUse → addFresh v book i at e name ds ≡ no (5, i)
   unfolding addFresh
   fresh-used q = rw (← ep, q)
 
-  pub fresh-none : p ≡ NoneFree → addFresh v book i at e name ds ≡ no (NoIdFree i)
+  pub fresh-none : p ≡ NoneFree → addFresh v book i at e name ds ≡ no (6, i)
   unfolding addFresh
   fresh-none q = rw (← ep, q)
 
@@ -140,12 +138,12 @@ good-long s q =
 
 module _ (v : View) (book : List ℕ) (i at : ℕ) (e : TypeEntry) (name : List ℕ) (ds : List Decl) (g : Bool)
     (eg : g ≡ goodName name) where
-  pub entry-bad : g ≡ false → addEntry v book i at e name ds ≡ no (NameOutsideRule i)
+  pub entry-bad : g ≡ false → addEntry v book i at e name ds ≡ no (2, i)
   unfolding addEntry
   entry-bad q = rw (sym eg ∙ q)
 
   module _ (q : g ≡ true) (f : FoundTy) (ef : f ≡ typeAmong (v .names) name) where
-    pub entry-known : (ty : Ty) → f ≡ Is ty → addEntry v book i at e name ds ≡ no (NameKnown i)
+    pub entry-known : (ty : Ty) → f ≡ Is ty → addEntry v book i at e name ds ≡ no (3, i)
     unfolding addEntry
     entry-known ty p = rw (sym eg ∙ q, sym ef ∙ p)
 

@@ -6,6 +6,8 @@ use mathlib.Core.Path.{_≡_, refl, sym, _∙_}
 use mathlib.Core.Bool.{true, false}
 use mathlib.Core.List.{List}
 use lib.ListN.{length}
+use Rattle.types.specs.Said.{Why, whyOf}
+use Rattle.types.specs.Turns.{stuckAt}
 use Rattle.words.specs.Words.{Bytes}
 use Rattle.types.specs.declared.building.Built.{Built}
 use Rattle.types.specs.declared.building.Built.the-variants.{Types, Refused}
@@ -58,7 +60,7 @@ going-start {a = a} {b} {c} {e} p bytes s =
 
 -- ---- the ways out
 
-ended-refused : {t m n : List ℕ} (a : Answer (List Def) Refusal) (x : Refusal) → a ≡ refused x → Cleared t m n
+ended-refused : {t m n : List ℕ} (a : Answer (List Def) Why) (x : Refusal) → a ≡ refused (whyOf x) → Cleared t m n
     → Ended a t m n (Refused x)
 ended-refused a x e c =
     record { is = rw e; types = rw e (c .types); members = rw e (c .members); names = rw e (c .names) }
@@ -102,7 +104,7 @@ module _ {book tys₀ f₀ k₀ r₀ t m n tys f k r : List ℕ} {start : List D
     ended-no y e =
         let o = g .outer in
         ended-refused (roundsFrom book start) y
-        (outer-stop o l y ((rw e at h) .each (o .ds) (o .reached) (o .stands)))
+        (outer-stop o l (whyOf y) ((rw e at h) .each (o .ds) (o .reached) (o .stands)))
 
     -- a round that refused no type
     module _ (u′ : Used) (left′ : ℕ) (e : x ≡ Went u′ left′) where
@@ -123,7 +125,7 @@ module _ {book tys₀ f₀ k₀ r₀ t m n tys f k r : List ℕ} {start : List D
             arith,
             goes .count,
             g .outer .count,
-            round-fewer TypesUnknown (readyIn book) (addIn book) (g .outer .ds) (waits f 0 T) (goes .defs) _
+            round-fewer stuckAt (readyIn book) (addIn book) (g .outer .ds) (waits f 0 T) (goes .defs) _
                 (goes .is),
             q,
           )

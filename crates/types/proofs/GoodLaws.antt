@@ -12,7 +12,7 @@ use Rattle.words.proofs.Lists.{length-part}
 use Rattle.types.specs.declared.member.Bit.the-variants.{None}
 use Rattle.types.specs.declared.member.Member.{Member}
 use Rattle.types.specs.declared.member.StructDef.{StructDef}
-use Rattle.types.specs.declared.member.StructKind.the-variants.{Udt, Str}
+use Rattle.types.specs.declared.member.StructKind.the-variants.{Str}
 use Rattle.types.specs.declared.member.Ty.{Ty}
 use Rattle.types.specs.declared.member.Ty.the-variants.{Atomic, Struct}
 use Rattle.types.specs.Defs.{Part, Def, partAt, partsAt, defOf}
@@ -24,7 +24,7 @@ use Rattle.types.specs.Names.{sameName}
 use Rattle.types.specs.Registry.{typesTable, membersTable, namesTable}
 use Rattle.types.specs.Registry.{typeCount}
 use Rattle.types.specs.Structs.{namesOf, stringParts}
-use Rattle.types.specs.Tables.{kindOf, memberAt, nameAt, typeAt}
+use Rattle.types.specs.Tables.{kindOf, memberAt, nameAt, noType, typeAt}
 use Rattle.types.specs.Waste.{sizeIn, sizesIn, bitsOf, Countable}
 use Rattle.types.proofs.AddLaws.{every-nth}
 use Rattle.types.proofs.CountLaws.{count-of}
@@ -57,19 +57,6 @@ unfolding partAt
 row-lies sizes i size m n row count k laid l =
     let e = ap (λ (p : Part). p .member) (parts-nth m n row count k l) in
     rw e at (part-lies sizes i size noPart (partsAt m n row count) k laid (omega (arith, parts-long m n row count)))
-
--- the row of no type
-abbrev pub noType : StructDef
-noType =
-    record {
-      name = record { at = 0; long = 0 };
-      id = 0;
-      handle = 0;
-      size = 0;
-      kind = Udt;
-      first = 0;
-      count = 0;
-    }
 
 -- ---- one type of the registry
 

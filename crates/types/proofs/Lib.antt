@@ -22,6 +22,8 @@ pub mod LaidLaws
 pub mod BookLaws
 pub mod CheckLaws
 pub mod BoundLaws
+pub mod PastLaws
+pub mod SaidLaws
 pub mod ShapeLaws
 pub mod ShownLaws
 pub mod SinkLaws

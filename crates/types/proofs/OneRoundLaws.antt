@@ -6,10 +6,11 @@ use mathlib.Core.Path.{_≡_, refl, ap, _∙_}
 use mathlib.Core.Bool.{true}
 use mathlib.Core.List.{List, [], _∷_, _++_}
 use lib.ListN.{length, getD, set, length-set}
+use Rattle.types.specs.Said.{Why, whyOf}
+use Rattle.types.specs.Turns.{stuckAt}
 use Rattle.words.specs.Words.{Bytes}
 use Rattle.words.proofs.WordLaws.{word-below}
 use Rattle.types.specs.declared.refusal.Refusal.{Refusal}
-use Rattle.types.specs.declared.refusal.Refusal.the-variants.{TypesUnknown}
 use Rattle.types.specs.declared.round.Round.the-variants.{Refused, Went}
 use Rattle.types.specs.declared.used.Turn.{Turn}
 use Rattle.types.specs.declared.used.Turn.the-variants.{Waits, Refused as Against, Added}
@@ -56,7 +57,7 @@ reached-shown {book} {ds} b r = reached-good book b ds r .shown
 pub reached-round : {book : List ℕ} {ds ds′ : List Def} (ws ws′ : List ℕ) → Reached book ds
     → roundIn book ds ws ≡ went ds′ ws′ → Reached book ds′
 reached-round {book} {ds} {ds′} ws ws′ r e =
-    round-keep TypesUnknown (readyIn book) (addIn book) (Reached book) (λ s s′ i p h q. more s s′ i p q) ds ws ds′ ws′
+    round-keep stuckAt (readyIn book) (addIn book) (Reached book) (λ s s′ i p h q. more s s′ i p q) ds ws ds′ ws′
     r e
 
 -- ---- what the loop keeps
@@ -110,7 +111,7 @@ within-start p b =
 
 -- ---- adding, from the verdict
 
-add-no : (book : List ℕ) (ds : List Def) (i : ℕ) (x : Refusal) → verdictOn book (viewOf ds) i ≡ against x
+add-no : (book : List ℕ) (ds : List Def) (i : ℕ) (x : Why) → verdictOn book (viewOf ds) i ≡ against x
     → addIn book ds i ≡ no x
 unfolding addIn
 add-no book ds i x q = rw q
@@ -201,7 +202,7 @@ module _ {book t₀ m₀ n₀ tys₀ f₀ k₀ r₀ t m n tys f k r : List ℕ} 
             each = λ ds q s.
                 let v = w .each ds q s in
                 let d = turn-refused (turned v) y e in
-                inner-no v l y o (d .0) (add-no book (v .ds) i y (d .1));
+                inner-no v l (whyOf y) o (d .0) (add-no book (v .ds) i (whyOf y) (d .1));
           }
 
       -- with the type that was added

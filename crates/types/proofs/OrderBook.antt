@@ -7,12 +7,12 @@ use mathlib.Core.Bool.{Bool, true, false, cond, _||_, true≢false}
 use mathlib.Core.List.{List, [], _∷_, _++_, map, map-append}
 use mathlib.Core.Logic.{_⊎_, inl, inr, ⊎-elim}
 use lib.ListN.{length}
+use Rattle.types.specs.Turns.{stuckAt}
 use Rattle.types.specs.declared.atomic.Atomic.{Atomic as Kind}
 use Rattle.types.specs.declared.atomic.FoundAtomic.{FoundAtomic}
 use Rattle.types.specs.declared.atomic.FoundAtomic.the-variants.{Is as found, Nothing as none-found}
 use Rattle.types.specs.declared.lookups.FoundTy.the-variants.{Is, Nothing}
 use Rattle.types.specs.declared.member.Ty.the-variants.{Struct}
-use Rattle.types.specs.declared.refusal.Refusal.the-variants.{TypesUnknown}
 use Rattle.types.specs.Add.{Verdict, no as against, yes as for}
 use Rattle.types.specs.Atomic.{atomics, nameOf, firstOf, atomicNamed}
 use Rattle.types.specs.Book.{typesIn, every}
@@ -123,12 +123,12 @@ module _ (book : List ℕ) (ds : List Def) (i : ℕ) where
       let z : ds ++ d ∷ [] ≡ es = cc in
       rw (← z) (map-append (λ (x : Def). x .name) ds (d ∷ []) ∙ rw (verdict-name book ds i d e))
 
-  step-never : (s : Verdict) → verdictOn book (viewOf ds) i ≡ s → (p : ℕ) → stepOf s ds ≡ no (TypesUnknown p) → ⊥
+  step-never : (s : Verdict) → verdictOn book (viewOf ds) i ≡ s → (p : ℕ) → stepOf s ds ≡ no (stuckAt p) → ⊥
   step-never (against r) e p q = verdict-never book ds i p (cc)
   step-never (for d) e p q = let z : true ≡ false = cc in true≢false z
 
 pub book-ties : (book : List ℕ)
-    → Ties hasName (typeNamed book) (usesOf book) (λ ds. viewOf ds .names) TypesUnknown (readyIn book) (addIn book)
+    → Ties hasName (typeNamed book) (usesOf book) (λ ds. viewOf ds .names) stuckAt (readyIn book) (addIn book)
 unfolding readyIn addIn
 book-ties book =
     record {
@@ -154,7 +154,7 @@ module _ (book : List ℕ) (start : List Def) where
       (s .order, record { same = s .same; ordered = s .ordered }, s .names)
 
   -- refusal 10 means that there is none
-  pub refused-unordered : (p : ℕ) → roundsFrom book start ≡ refused (TypesUnknown p)
+  pub refused-unordered : (p : ℕ) → roundsFrom book start ≡ refused (stuckAt p)
       → (o : List ℕ) → Ordering book start o → ⊥
   unfolding roundsFrom
   refused-unordered p e o g =

@@ -12,6 +12,7 @@ use lib.Seq.{sets, length-sets}
 use Rattle.words.proofs.Lists.{sets-append, getD-beside}
 use Rattle.types.specs.declared.used.Turn.the-variants.{Added}
 use Rattle.types.specs.declared.used.Used.{Used}
+use Rattle.types.specs.Add.{added}
 use Rattle.types.specs.Add.{yes, Took}
 use Rattle.types.specs.Defs.{Def}
 use Rattle.types.specs.Registry.{ownNames, membersOf, bytesOf, headOf, typeRows, memberRows, usedBy, usedMore}
@@ -155,7 +156,7 @@ word-after ds k l =
 
 -- ---- tables that stand for a registry, with one type more
 
-used-then : (u u′ : Used) (d : Def) → Added u′ ≡ Added (usedMore u d) → u′ ≡ usedMore u d
+used-then : (u u′ : Used) (d : Def) → added u′ ≡ added (usedMore u d) → u′ ≡ usedMore u d
 used-then u u′ d e = cc
 
 pub stands-more : {ds : List Def} {t m n t′ m′ n′ : List ℕ} {u u′ : Used} (d : Def) → Stands ds t m n u

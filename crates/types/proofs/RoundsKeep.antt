@@ -3,9 +3,10 @@
 use Prim.Native.Nat.{ℕ}
 use mathlib.Core.Path.{_≡_, refl}
 use mathlib.Core.List.{List, [], _∷_, _++_}
+use Rattle.types.specs.Said.{Why}
+use Rattle.types.specs.Turns.{stuckAt}
 use Rattle.words.specs.Words.{Bytes}
 use Rattle.types.specs.declared.refusal.Refusal.{Refusal}
-use Rattle.types.specs.declared.refusal.Refusal.the-variants.{TypesUnknown}
 use Rattle.types.specs.Add.{Verdict, no as against, yes as for}
 use Rattle.types.specs.Book.{typesIn}
 use Rattle.types.specs.Defs.{Def}
@@ -31,7 +32,7 @@ record Added (s : Verdict) (ds ds′ : List Def) : Type 0 where
   pub is : s ≡ for def
   pub next : ds′ ≡ ds ++ def ∷ []
 
-step-added : (s : Verdict) (ds ds′ : List Def) → _≡_ {A = Step (List Def) Refusal} (stepOf s ds) (ok ds′)
+step-added : (s : Verdict) (ds ds′ : List Def) → _≡_ {A = Step (List Def) Why} (stepOf s ds) (ok ds′)
     → Added s ds ds′
 step-added (for d) ds ds′ e = record { def = d; is = refl; next = cc }
 step-added (against r) ds ds′ e = record { def = noDef; is = cc; next = cc }
@@ -62,5 +63,5 @@ module _ (book : List ℕ) (b : Bytes book) where
   pub rounds-good : (start ds : List Def) → Good start → roundsFrom book start ≡ accepted ds → Good ds
   unfolding roundsFrom
   rounds-good start ds g e =
-      rounds-keep TypesUnknown (readyIn book) (addIn book) Good (λ s s′ i h r q. keeps s s′ i h q) (typesIn book) start
+      rounds-keep stuckAt (readyIn book) (addIn book) Good (λ s s′ i h r q. keeps s s′ i h q) (typesIn book) start
       (upFrom 0 (typesIn book)) ds g e

@@ -8,8 +8,9 @@ use mathlib.Core.Bool.{true, false, cond}
 use mathlib.Core.List.{List, [], _∷_, append-nil}
 use borrow.Author.Tests.{eq-eqb, ne-eqb}
 use lib.ListN.{length, getD, set, length-append, length-set}
+use Rattle.types.specs.Said.{Why}
+use Rattle.types.specs.Turns.{stuckAt}
 use Rattle.types.specs.declared.refusal.Refusal.{Refusal}
-use Rattle.types.specs.declared.refusal.Refusal.the-variants.{TypesUnknown}
 use Rattle.types.specs.declared.used.Used.{Used}
 use Rattle.types.specs.Book.{typesIn}
 use Rattle.types.specs.Build.{waits}
@@ -26,8 +27,8 @@ use Rattle.types.proofs.WaitLaws.{waits-on, waits-off, waits-end, snoc-
 use Rattle.types.proofs.WaitLaws.{waits-all, up-length, keepAll, keep-one, keep-none}
 
 -- at most so many rounds over a book
-abbrev pub roundsIn : List ℕ → ℕ → List Def → List ℕ → Answer (List Def) Refusal
-roundsIn book k ds ws = rounds TypesUnknown (readyIn book) (addIn book) k ds ws
+abbrev pub roundsIn : List ℕ → ℕ → List Def → List ℕ → Answer (List Def) Why
+roundsIn book k ds ws = rounds stuckAt (readyIn book) (addIn book) k ds ws
 
 -- ---- one round
 
@@ -101,7 +102,7 @@ module _ {book f₀ t m n f : List ℕ} {ds₀ : List Def} {u : Used} {left i at
       }
 
   -- one that is refused
-  pub inner-no : (x : Refusal) → getD f i 0 ≡ 0 → readyIn book (w .ds) i ≡ true → addIn book (w .ds) i ≡ no x
+  pub inner-no : (x : Why) → getD f i 0 ≡ 0 → readyIn book (w .ds) i ≡ true → addIn book (w .ds) i ≡ no x
       → roundIn book ds₀ (waits f₀ 0 T) ≡ stop x
   inner-no x o r a = w .goes ∙ rw (waits-on f T i l o, round-on, r, a)
 
@@ -166,21 +167,21 @@ module _ {book t m n f : List ℕ} {start : List Def} {u : Used} {T left : ℕ} 
   where
     pub outer-end : left ≡ 0 → roundsFrom book start ≡ accepted (o .ds)
     outer-end e =
-        o .goes ∙ rounds-none TypesUnknown (readyIn book) (addIn book) (o .fuel) (o .ds) _ (sym (o .count) ∙ e)
+        o .goes ∙ rounds-none stuckAt (readyIn book) (addIn book) (o .fuel) (o .ds) _ (sym (o .count) ∙ e)
 
     module _ (l : 0 < left) where
       some : roundsIn book (o .fuel) (o .ds) (waits f 0 T)
-          ≡ onRound TypesUnknown (length (waits f 0 T)) (roundIn book (o .ds) (waits f 0 T))
+          ≡ onRound stuckAt (length (waits f 0 T)) (roundIn book (o .ds) (waits f 0 T))
           (λ s ws. roundsIn book (o .fuel - 1) s ws)
       some =
-          rounds-some TypesUnknown (readyIn book) (addIn book) (o .fuel) (o .ds) (waits f 0 T)
+          rounds-some stuckAt (readyIn book) (addIn book) (o .fuel) (o .ds) (waits f 0 T)
           (omega (arith, o .count)) (omega (arith, o .count, o .enough))
 
-      pub outer-stop : (x : Refusal) → roundIn book (o .ds) (waits f 0 T) ≡ stop x → roundsFrom book start ≡ refused x
+      pub outer-stop : (x : Why) → roundIn book (o .ds) (waits f 0 T) ≡ stop x → roundsFrom book start ≡ refused x
       outer-stop x r = o .goes ∙ some ∙ rw r
 
       pub outer-stuck : {ds : List Def} {ws : List ℕ} → roundIn book (o .ds) (waits f 0 T) ≡ went ds ws
-          → length ws ≡ left → roundsFrom book start ≡ refused (TypesUnknown (getD ws 0 0))
+          → length ws ≡ left → roundsFrom book start ≡ refused (stuckAt (getD ws 0 0))
       outer-stuck r e = o .goes ∙ some ∙ rw r (simp (eq-eqb _ _ (e ∙ o .count)))
 
       pub outer-next : {ds : List Def} {t′ m′ n′ g : List ℕ} {u′ : Used} {left′ : ℕ}

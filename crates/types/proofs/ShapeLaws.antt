@@ -20,16 +20,14 @@ use Rattle.types.specs.declared.atomic.Atomic.the-variants.{ULInt, Real,
 use Rattle.types.specs.declared.member.StructDef.{StructDef}
 use Rattle.types.specs.declared.member.Ty.{Ty}
 use Rattle.types.specs.declared.member.Ty.the-variants.{Atomic, Struct}
-use Rattle.types.specs.declared.refusal.Refusal.{Refusal}
-use Rattle.types.specs.declared.refusal.Refusal.the-variants.{NoSuchType, LengthsWrong, TagTooLarge}
-use Rattle.types.specs.declared.shape.Fit.the-variants.{Fits, Refused}
 use Rattle.types.specs.declared.shape.Product.{Product}
 use Rattle.types.specs.declared.shape.Product.the-variants.{Is, Over}
 use Rattle.types.specs.declared.shape.Shape.{Shape}
-use Rattle.types.specs.declared.shape.Shaped.{Shaped}
 use Rattle.types.specs.Atomic.{codeOf}
 use Rattle.types.specs.Layout.{most, isBool, alignUp}
-use Rattle.types.specs.Shape.{given, refused, isThere, mostLengths, noneZero, lengthsOk, product, three, within}
+use Rattle.types.specs.Said.{done}
+use Rattle.types.specs.Said as say
+use Rattle.types.specs.Shape.{Told, given, refused, isThere, mostLengths, noneZero, lengthsOk, product, three, within}
 use Rattle.types.specs.Shape.{boolTag, boolShape, plainShape, shapeOf, productOf, IdFits, Symbolic}
 use Rattle.types.specs.Tables.{TyFits, typeAt}
 use Rattle.types.specs.Template.{typeIn, idsIn}
@@ -170,12 +168,12 @@ module _ (sizes : ℕ → ℕ) (t : Ty) (lengths : List ℕ) (used n : ℕ) {siz
   unfolding within
   within-fits f = rw (← e) (simp f)
 
-  pub within-over : leb (size * n) most ≡ false → refused TagTooLarge ≡ within sizes t lengths used n
+  pub within-over : leb (size * n) most ≡ false → refused 24 0 ≡ within sizes t lengths used n
   unfolding within
   within-over f = rw (← e) (simp f)
 
 module _ (sizes : ℕ → ℕ) (n up : ℕ) (e : up ≡ alignUp n 32) where
-  pub bool-over : 2 ^ 32 - 1 < up → refused TagTooLarge ≡ boolShape sizes n
+  pub bool-over : 2 ^ 32 - 1 < up → refused 24 0 ≡ boolShape sizes n
   unfolding boolShape
   bool-over h = rw (← e) (simp (lt-leb up (2 ^ 32 - 1) h))
 
@@ -184,19 +182,19 @@ module _ (sizes : ℕ → ℕ) (n up : ℕ) (e : up ≡ alignUp n 32) where
   bool-within h = rw (← e) (simp (le-leb up (2 ^ 32 - 1) h))
 
 -- a product that was found decides
-over-go : (b : Bool) (n : ℕ) (s : Shaped) → cond b (Is n) Over ≡ Over
-    → refused TagTooLarge ≡ cond b s (refused TagTooLarge)
+over-go : (b : Bool) (n : ℕ) (s : Told) → cond b (Is n) Over ≡ Over
+    → refused 24 0 ≡ cond b s (refused 24 0)
 over-go true n s q = cc
 over-go false n s q = refl
 
-is-go : (b : Bool) (n m : ℕ) (f : ℕ → Shaped) → cond b (Is n) Over ≡ Is m → f m ≡ cond b (f n) (refused TagTooLarge)
+is-go : (b : Bool) (n m : ℕ) (f : ℕ → Told) → cond b (Is n) Over ≡ Is m → f m ≡ cond b (f n) (refused 24 0)
 is-go true n m f q =
     let z : m ≡ n = cc in
     ap f z
 is-go false n m f q = cc
 
 module _ (sizes : ℕ → ℕ) (t : Ty) (s : List ℕ) {p : Product} (e : p ≡ productOf s) where
-  pub plain-over : p ≡ Over → refused TagTooLarge ≡ plainShape sizes t s
+  pub plain-over : p ≡ Over → refused 24 0 ≡ plainShape sizes t s
   unfolding plainShape productOf
   plain-over q = over-go (leb (product s) (2 ^ 64 - 1)) _ _ (sym e ∙ q)
 
@@ -208,11 +206,11 @@ module _ (sizes : ℕ → ℕ) (t : Ty) (s : List ℕ) {p : Product} (e : p ≡ 
 -- ---- the ways out
 
 module _ (types : List ℕ) (t : Ty) (s : List ℕ) where
-  pub not-there : isThere types t ≡ false → refused NoSuchType ≡ shapeOf types t s
+  pub not-there : isThere types t ≡ false → refused 15 0 ≡ shapeOf types t s
   unfolding shapeOf
   not-there a = rw a
 
-  pub lengths-wrong : isThere types t ≡ true → lengthsOk t s ≡ false → refused LengthsWrong ≡ shapeOf types t s
+  pub lengths-wrong : isThere types t ≡ true → lengthsOk t s ≡ false → refused 23 0 ≡ shapeOf types t s
   unfolding shapeOf
   lengths-wrong a b = rw (a, b)
 
@@ -253,7 +251,7 @@ type-below types (Struct n) h = omega arith
 -- ---- the shapes that are given, over a table whose ids are below 0x1000
 
 -- a shape that is given can be asked for its symbol type
-record Asked (types : List ℕ) (r : Shaped) : Type 0 where
+record Asked (types : List ℕ) (r : Told) : Type 0 where
   ask : (x : Shape) → r ≡ given x → Symbolic types x
 
 module _ (types : List ℕ) (small : (n : ℕ) → n < 200 → typeAt types n .id < 0x1000) where
@@ -261,16 +259,16 @@ module _ (types : List ℕ) (small : (n : ℕ) → n < 200 → typeAt types n .i
   ids-fit (Atomic a) f = tt
   ids-fit (Struct n) f = small n f
 
-  asked-refused : (why : Refusal) → Asked types (refused why)
-  asked-refused why =
+  asked-refused : (number : ℕ) → Asked types (refused number 0)
+  asked-refused number =
       record {
         ask = λ x e.
-            let f : Refused why ≡ Fits = ap (λ (r : Shaped). r .fit) e in
+            let f : say.refused number 0 ≡ done tt = ap (λ (r : Told). r .said) e in
             let z : _≡_ {A = ℕ} 0 1 = cc in
             absurd (omega arith);
       }
 
-  asked-if : (b : Bool) {p q : Shaped} → (b ≡ true → Asked types p) → Asked types q → Asked types (cond b p q)
+  asked-if : (b : Bool) {p q : Told} → (b ≡ true → Asked types p) → Asked types q → Asked types (cond b p q)
   asked-if true f g = f refl
   asked-if false f g = g
 
@@ -282,11 +280,11 @@ module _ (types : List ℕ) (small : (n : ℕ) → n < 200 → typeAt types n .i
       (λ b.
       record {
         ask = λ x e.
-            let p : t ≡ x .ty = ap (λ (r : Shaped). r .shape .ty) e in
-            let q : used ≡ x .used = ap (λ (r : Shaped). r .shape .used) e in
+            let p : t ≡ x .ty = ap (λ (r : Told). r .shape .ty) e in
+            let q : used ≡ x .used = ap (λ (r : Told). r .shape .used) e in
             record { ty = rw p at f; id = rw p at (ids-fit t f); used = omega arith };
       })
-      (asked-refused TagTooLarge)
+      (asked-refused 24)
 
   most-three : (t : Ty) → mostLengths t ≤ 3
   unfolding mostLengths
@@ -308,12 +306,12 @@ module _ (types : List ℕ) (small : (n : ℕ) → n < 200 → typeAt types n .i
       (λ d.
       asked-if (leb (alignUp (getD s 0 0) 32) (2 ^ 32 - 1))
       (λ h. asked-within (sizesIn types) (Atomic DWord) _ 1 _ tt (omega arith))
-      (asked-refused TagTooLarge))
+      (asked-refused 24))
       (asked-if (leb (product s) (2 ^ 64 - 1))
       (λ h. asked-within (sizesIn types) t _ (length s) _ (there-fits types t a) few)
-      (asked-refused TagTooLarge)))
-      (asked-refused LengthsWrong))
-      (asked-refused NoSuchType)
+      (asked-refused 24)))
+      (asked-refused 23))
+      (asked-refused 15)
 
   pub shape-symbolic : (t : Ty) (s : List ℕ) (x : Shape) → shapeOf types t s ≡ given x → Symbolic types x
   shape-symbolic t s = asked-shape t s .ask

@@ -6,6 +6,7 @@ use mathlib.Core.Path.{_≡_, refl, ap}
 use mathlib.Core.Bool.{Bool, true, false, true≢false}
 use mathlib.Core.List.{List, [], _∷_, _++_, map-append}
 use lib.ListN.{length}
+use Rattle.types.specs.Said.{whyOf}
 use Rattle.words.specs.Words.{Bytes}
 use Rattle.words.proofs.WordLaws.{word-below}
 use Rattle.types.specs.declared.refusal.Refusal.{Refusal}
@@ -89,7 +90,7 @@ waits-of true (for d) u r h e =
     cc
 
 refused-of : (x : Refusal) (b : Bool) (v : Verdict) (u : Used) (r : Turn) {t m n t′ m′ n′ : List ℕ}
-    → Turned b v u t m n t′ m′ n′ r → r ≡ Refused x → (b ≡ true) × (v ≡ against x)
+    → Turned b v u t m n t′ m′ n′ r → r ≡ Refused x → (b ≡ true) × (v ≡ against (whyOf x))
 refused-of x false v u r h e =
     let q = h .waits refl .0 in
     (cc, cc)
@@ -127,7 +128,7 @@ module _ {b : Bool} {v : Verdict} {u : Used} {t m n t′ m′ n′ : List ℕ} {
         let q = waits-of b v u r h e in
         (q, h .waits q .1)
 
-    pub turn-refused : (x : Refusal) → r ≡ Refused x → (b ≡ true) × (v ≡ against x)
+    pub turn-refused : (x : Refusal) → r ≡ Refused x → (b ≡ true) × (v ≡ against (whyOf x))
     turn-refused x e = refused-of x b v u r h e
 
     pub turn-added : (u′ : Used) → r ≡ Added u′ → AddedBy b v u t m n t′ m′ n′ u′

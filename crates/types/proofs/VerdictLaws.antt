@@ -7,6 +7,7 @@ use mathlib.Core.Path.{_≡_, refl, sym}
 use mathlib.Core.Bool.{Bool, false}
 use mathlib.Core.List.{List, [], _∷_}
 use lib.ListN.{length, length-map}
+use Rattle.types.specs.Turns.{stuckAt}
 use Rattle.words.specs.Words.{Bytes}
 use Rattle.words.proofs.WordLaws.{word-below}
 use Rattle.types.specs.declared.book.MemberEntry.{MemberEntry}
@@ -24,7 +25,6 @@ use Rattle.types.specs.declared.measure.Measured.the-variants.{Laid, Acc
 use Rattle.types.specs.declared.member.StructKind.{StructKind}
 use Rattle.types.specs.declared.member.StructKind.the-variants.{Udt, Str, Aoi}
 use Rattle.types.specs.declared.member.Ty.{Ty}
-use Rattle.types.specs.declared.refusal.Refusal.the-variants.{TypesUnknown}
 use Rattle.types.specs.Add.{Verdict, no, yes, hasRoom, usedIn, newDef, fitted, onMeasured, addUdt, addAoi}
 use Rattle.types.specs.Add.{onChecked, isAoi, isString, hasId, addMembers, stringOk, addString, addNamed, onId}
 use Rattle.types.specs.Add.{addFresh, addEntry}
@@ -37,7 +37,6 @@ use Rattle.types.specs.Ids.{inUse, idFor}
 use Rattle.types.specs.Laid.{Laid as Lies, Resolved, Every}
 use Rattle.types.specs.Lookup.{typeAmong}
 use Rattle.types.specs.Names.{goodName}
-use Rattle.types.specs.Refusal.{numberOf}
 use Rattle.types.specs.Registry.{View, sizeAt, ownNames, viewOf}
 use Rattle.types.specs.Resolve.{isFound}
 use Rattle.types.specs.Structs.{namedIn, udtStart, measured, measuredAoi}
@@ -80,7 +79,7 @@ pub record Made (v : View) (s : List ℕ) (ds : List Decl) (d : Def) : Type 0 wh
 
 -- a refusal is not 10, or the type is made so
 abbrev pub Judged : View → List ℕ → List Decl → Verdict → Type 0
-Judged v name ds (no r) = numberOf r ≡ 10 → ⊥
+Judged v name ds (no r) = r .0 ≡ 10 → ⊥
 Judged v name ds (yes d) = Made v name ds d
 
 module _ (v : View) (book : List ℕ) (i at : ℕ) (e : TypeEntry) (name : List ℕ) (ds : List Decl)
@@ -256,9 +255,9 @@ module _ (book : List ℕ) (ds : List Def) (i : ℕ) where
   verdict-name d e = verdict-made d e .name
 
   -- no way out is refusal 10
-  pub verdict-never : (p : ℕ) → verdictOn book (viewOf ds) i ≡ no (TypesUnknown p) → ⊥
+  pub verdict-never : (p : ℕ) → verdictOn book (viewOf ds) i ≡ no (stuckAt p) → ⊥
   verdict-never p e =
-      let z : numberOf (TypesUnknown p) ≡ 10 → ⊥ = rw e at verdict-ends in
+      let z : stuckAt p .0 ≡ 10 → ⊥ = rw e at verdict-ends in
       z refl
 
 -- a type that is added fits into the registry

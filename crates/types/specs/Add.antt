@@ -17,12 +17,8 @@ use Rattle.types.specs.declared.measure.Measured.{Measured}
 use Rattle.types.specs.declared.measure.Measured.the-variants.{Laid, AccessWrong as accessWrong, TooFar as tooFar}
 use Rattle.types.specs.declared.member.StructKind.{StructKind}
 use Rattle.types.specs.declared.member.StructKind.the-variants.{Udt, Str, Aoi}
-use Rattle.types.specs.declared.refusal.Refusal.{Refusal}
-use Rattle.types.specs.declared.refusal.Refusal.the-variants.{NameOutsideRule, NameKnown, IdOutsideRange, IdInUse}
-use Rattle.types.specs.declared.refusal.Refusal.the-variants.{NoIdFree, StringWrong, MemberTwice, LocalOutsideAoi}
-use Rattle.types.specs.declared.refusal.Refusal.the-variants.{AccessWrong, MemberTooFar, TablesFull}
 use Rattle.types.specs.declared.used.Turn.{Turn}
-use Rattle.types.specs.declared.used.Turn.the-variants.{Refused, Added}
+use Rattle.types.specs.declared.used.Turn.the-variants.{Waits, Refused, Added}
 use Rattle.types.specs.declared.used.Used.{Used}
 use Rattle.types.specs.Book.{typeEntry}
 use Rattle.types.specs.Checks.{checked, entriesFrom, EntriesInside}
@@ -35,6 +31,7 @@ use Rattle.types.specs.Lookup.{typeAmong, NamesInside}
 use Rattle.types.specs.Names.{goodName}
 use Rattle.types.specs.Registry.{View, idAt, ownNames, headOf, usedMore}
 use Rattle.types.specs.Resolve.{isFound}
+use Rattle.types.specs.Said.{Why, whyOf}
 use Rattle.types.specs.Structs.{rowsOf, namedIn, sizeAt, udtStart, udtParts, aoiParts, measured}
 use Rattle.types.specs.Structs.{measuredAoi}
 use Rattle.types.specs.Structs.{stringParts, stringSize}
@@ -43,7 +40,7 @@ use Rattle.types.specs.Template.{templateOf}
 
 -- a refusal, or the new type
 pub data Verdict : Type 0 where
-  no : Refusal → Verdict
+  no : Why → Verdict
   yes : Def → Verdict
 
 -- ---- 13, or the new type
@@ -71,14 +68,14 @@ newDef v name id size kind parts =
     }
 
 unfoldable pub fitted : View → ℕ → Def → Verdict
-fitted v i d = cond (hasRoom (usedIn v) (length (d .parts)) (length (ownNames d))) (yes d) (no (TablesFull i))
+fitted v i d = cond (hasRoom (usedIn v) (length (d .parts)) (length (ownNames d))) (yes d) (no (13, i))
 
 -- ---- 11, 12
 
 abbrev pub onMeasured : Measured → ℕ → (ℕ → Verdict) → Verdict
 onMeasured (Laid c n) i k = k (sizeAt c)
-onMeasured accessWrong i k = no (AccessWrong i)
-onMeasured tooFar i k = no (MemberTooFar i)
+onMeasured accessWrong i k = no (11, i)
+onMeasured tooFar i k = no (12, i)
 
 unfoldable pub addUdt : View → List ℕ → ℕ → List ℕ → ℕ → List Decl → Verdict
 addUdt v book i name id ds =
@@ -94,9 +91,9 @@ addAoi v book i name id ds =
 
 abbrev pub onChecked : Checked → ℕ → Verdict → Verdict
 onChecked Good i k = k
-onChecked NameWrong i k = no (NameOutsideRule i)
-onChecked Twice i k = no (MemberTwice i)
-onChecked LocalOutside i k = no (LocalOutsideAoi i)
+onChecked NameWrong i k = no (2, i)
+onChecked Twice i k = no (8, i)
+onChecked LocalOutside i k = no (9, i)
 
 -- flags: 1 AOI, 2 string, 4 id given
 abbrev pub isAoi : TypeEntry → Bool
@@ -123,7 +120,7 @@ stringOk e = leb 1 (e .string) && leb (e .string) (2 ^ 26 - 4) && eqb (e .count)
 unfoldable pub addString : View → ℕ → TypeEntry → List ℕ → ℕ → Verdict
 addString v i e name id =
     cond (stringOk e) (fitted v i (newDef v name id (stringSize (e .string)) Str (stringParts (e .string))))
-    (no (StringWrong i))
+    (no (7, i))
 
 unfoldable pub addNamed : View → List ℕ → ℕ → ℕ → TypeEntry → List ℕ → ℕ → List Decl → Verdict
 addNamed v book i at e name id ds =
@@ -133,9 +130,9 @@ addNamed v book i at e name id ds =
 
 abbrev pub onId : Picked → ℕ → (ℕ → Verdict) → Verdict
 onId (Free id) i k = k id
-onId OutsideRange i k = no (IdOutsideRange i)
-onId InUse i k = no (IdInUse i)
-onId NoneFree i k = no (NoIdFree i)
+onId OutsideRange i k = no (4, i)
+onId InUse i k = no (5, i)
+onId NoneFree i k = no (6, i)
 
 unfoldable pub addFresh : View → List ℕ → ℕ → ℕ → TypeEntry → List ℕ → List Decl → Verdict
 addFresh v book i at e name ds =
@@ -146,8 +143,8 @@ addFresh v book i at e name ds =
 unfoldable pub addEntry : View → List ℕ → ℕ → ℕ → TypeEntry → List ℕ → List Decl → Verdict
 addEntry v book i at e name ds =
     cond (goodName name)
-    (cond (isFound (typeAmong (v .names) name)) (no (NameKnown i)) (addFresh v book i at e name ds))
-    (no (NameOutsideRule i))
+    (cond (isFound (typeAmong (v .names) name)) (no (3, i)) (addFresh v book i at e name ds))
+    (no (2, i))
 
 -- the i-th type of the book, whose members' entries begin at a place and were resolved
 abbrev pub addTo : View → List ℕ → ℕ → ℕ → List Decl → Verdict
@@ -155,9 +152,20 @@ addTo v book i at ds = addEntry v book i at (typeEntry book i) (nameIn book (typ
 
 -- ---- what the tables hold afterwards
 
-abbrev pub turnAfter : Verdict → Used → Turn
-turnAfter (no r) u = Refused r
-turnAfter (yes d) u = Added (usedMore u d)
+-- what a turn says: a type waits, is refused, or was added, and so much is used then
+pub data Said : Type 0 where
+  waiting : Said
+  refused : Why → Said
+  added : Used → Said
+
+abbrev pub saidBy : Turn → Said
+saidBy Waits = waiting
+saidBy (Refused r) = refused (whyOf r)
+saidBy (Added u) = added u
+
+abbrev pub turnAfter : Verdict → Used → Said
+turnAfter (no r) u = refused r
+turnAfter (yes d) u = added (usedMore u d)
 
 abbrev pub typesAfter : Verdict → Used → List ℕ → List ℕ
 typesAfter (no r) u t = t
@@ -173,7 +181,7 @@ namesAfter (yes d) u t = sets t (u .bytes) (ownNames d)
 
 -- a verdict was carried out: the answer, and the three tables
 pub record Took (s : Verdict) (u : Used) (t₀ m₀ n₀ t m n : List ℕ) (r : Turn) : Type 0 where
-  pub is : r ≡ turnAfter s u
+  pub is : saidBy r ≡ turnAfter s u
   pub types : t ≡ typesAfter s u t₀
   pub members : m ≡ membersAfter s u m₀
   pub names : n ≡ namesAfter s u n₀

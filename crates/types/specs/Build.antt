@@ -8,44 +8,49 @@ use lib.Dec.{eqb}
 use lib.ListN.{length, getD}
 use Rattle.types.specs.declared.building.Built.{Built}
 use Rattle.types.specs.declared.building.Built.the-variants.{Types, Refused}
-use Rattle.types.specs.declared.refusal.Refusal.{Refusal}
-use Rattle.types.specs.declared.refusal.Refusal.the-variants.{PredefinedIds, BookMalformed}
 use Rattle.types.specs.Book.{typesIn, membersIn, bookOk}
 use Rattle.types.specs.Defs.{Def}
 use Rattle.types.specs.Predefined.{predefinedIds, predefined}
 use Rattle.types.specs.Registry.{noTypes, noMembers, noNames}
 use Rattle.types.specs.Registry.{typesTable, membersTable, namesTable}
 use Rattle.types.specs.Rounds.{Answer, refused, accepted}
+use Rattle.types.specs.Said.{Said, Why, done, why}
+use Rattle.types.specs.Said as say
 use Rattle.types.specs.Turns.{roundsFrom}
 
 -- ---- the whole
 
-unfoldable pub buildOf : ℕ → ℕ → ℕ → ℕ → List ℕ → Answer (List Def) Refusal
+unfoldable pub buildOf : ℕ → ℕ → ℕ → ℕ → List ℕ → Answer (List Def) Why
 buildOf timer counter control string book =
     cond (predefinedIds timer counter control string)
-    (cond (bookOk book) (roundsFrom book (predefined timer counter control string)) (refused BookMalformed))
-    (refused PredefinedIds)
+    (cond (bookOk book) (roundsFrom book (predefined timer counter control string)) (refused (1, 0)))
+    (refused (22, 0))
 
-abbrev pub builtOf : Answer (List Def) Refusal → Built
-builtOf (refused r) = Refused r
-builtOf (accepted ds) = Types (length ds)
+-- what an answer says: how many types there are, or a refusal
+abbrev pub saidBy : Built → Said ℕ
+saidBy (Types n) = done n
+saidBy (Refused r) = why r
+
+abbrev pub builtOf : Answer (List Def) Why → Said ℕ
+builtOf (refused r) = say.refused (r .0) (r .1)
+builtOf (accepted ds) = done (length ds)
 
 -- after a refusal all three tables are zero
-abbrev pub typesBuilt : Answer (List Def) Refusal → List ℕ
+abbrev pub typesBuilt : Answer (List Def) Why → List ℕ
 typesBuilt (refused r) = noTypes
 typesBuilt (accepted ds) = typesTable ds
 
-abbrev pub membersBuilt : Answer (List Def) Refusal → List ℕ
+abbrev pub membersBuilt : Answer (List Def) Why → List ℕ
 membersBuilt (refused r) = noMembers
 membersBuilt (accepted ds) = membersTable ds
 
-abbrev pub namesBuilt : Answer (List Def) Refusal → List ℕ
+abbrev pub namesBuilt : Answer (List Def) Why → List ℕ
 namesBuilt (refused r) = noNames
 namesBuilt (accepted ds) = namesTable ds
 
 -- a build ended: the answer, and the three tables
-pub record Ended (a : Answer (List Def) Refusal) (t m n : List ℕ) (r : Built) : Type 0 where
-  pub is : r ≡ builtOf a
+pub record Ended (a : Answer (List Def) Why) (t m n : List ℕ) (r : Built) : Type 0 where
+  pub is : saidBy r ≡ builtOf a
   pub types : t ≡ typesBuilt a
   pub members : m ≡ membersBuilt a
   pub names : n ≡ namesBuilt a

@@ -8,10 +8,9 @@ use Rattle.types.specs.declared.header.Headed.{Headed}
 use Rattle.types.specs.declared.header.Header.{Header}
 use Rattle.types.specs.declared.member.Ty.{Ty}
 use Rattle.types.specs.declared.member.Ty.the-variants.{Atomic, Struct}
-use Rattle.types.specs.declared.refusal.Refusal.the-variants.{NoSuchType}
-use Rattle.types.specs.declared.shape.Fit.the-variants.{Fits, Refused}
 use Rattle.types.specs.Atomic.{codeOf}
-use Rattle.types.specs.Shape.{isThere}
+use Rattle.types.specs.Said.{Said, done, refused}
+use Rattle.types.specs.Shape.{isThere, fitSays}
 use Rattle.types.specs.Tables.{typeAt}
 
 abbrev pub headerOf : (ℕ → ℕ) → Ty → List ℕ
@@ -26,7 +25,16 @@ handlesIn types n = typeAt types n .handle
 abbrev pub held : List ℕ → Header
 held s = record { bytes = take 4 (s ++ 0 ∷ 0 ∷ 0 ∷ 0 ∷ []); long = length s }
 
-unfoldable pub headedOf : List ℕ → Ty → Headed
+-- what is said, and the bytes beside it
+pub record Told : Type 0 where
+  pub said : Said (Unit {0})
+  pub header : Header
+
+-- what an answer says
+abbrev pub saidBy : Headed → Told
+saidBy r = record { said = fitSays (r .fit); header = r .header }
+
+unfoldable pub headedOf : List ℕ → Ty → Told
 headedOf types ty =
-    cond (isThere types ty) (record { fit = Fits; header = held (headerOf (handlesIn types) ty) })
-    (record { fit = Refused NoSuchType; header = held [] })
+    cond (isThere types ty) (record { said = done tt; header = held (headerOf (handlesIn types) ty) })
+    (record { said = refused 15 0; header = held [] })

@@ -24,6 +24,20 @@ pub record Kept (types members names : List ℕ) : Type 0 where
   pub parts : members ≡ membersTable defs
   pub bytes : names ≡ namesTable defs
 
+-- tables that are kept beside others: for a call that is lent no names, no members, or neither
+pub record KeptRows (types members : List ℕ) : Type 0 where
+  pub names : List ℕ
+  pub kept : Kept types members names
+
+pub record KeptNames (types names : List ℕ) : Type 0 where
+  pub members : List ℕ
+  pub kept : Kept types members names
+
+pub record KeptTypes (types : List ℕ) : Type 0 where
+  pub members : List ℕ
+  pub names : List ℕ
+  pub kept : Kept types members names
+
 -- the first n types can be listed
 pub record Listed (types members : List ℕ) (n : ℕ) : Type 0 where
   pub few : n ≤ 200

@@ -14,6 +14,7 @@ pub mod Names
 pub mod Order
 pub mod Pieces
 pub mod Refusal
+pub mod Said
 pub mod Shape
 pub mod Registry
 pub mod Rounds

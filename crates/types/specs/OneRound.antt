@@ -5,8 +5,6 @@ use mathlib.Core.Path.{_≡_}
 use mathlib.Core.Bool.{true}
 use mathlib.Core.List.{List}
 use lib.ListN.{length}
-use Rattle.types.specs.declared.refusal.Refusal.{Refusal}
-use Rattle.types.specs.declared.refusal.Refusal.the-variants.{TypesUnknown}
 use Rattle.types.specs.declared.round.Round.{Round}
 use Rattle.types.specs.declared.round.Round.the-variants.{Refused, Went}
 use Rattle.types.specs.declared.used.Used.{Used}
@@ -16,12 +14,13 @@ use Rattle.types.specs.Defs.{Def}
 use Rattle.types.specs.Lookup.{rowNames}
 use Rattle.types.specs.Predefined.{predefinedIds, predefined}
 use Rattle.types.specs.Registry.{Stands}
+use Rattle.types.specs.Said.{Why, whyOf}
 use Rattle.types.specs.Rounds.{ok, Out, stop, went, round}
-use Rattle.types.specs.Turns.{readyIn, addIn, Tries}
+use Rattle.types.specs.Turns.{readyIn, addIn, stuckAt, Tries}
 
 -- one round over the types of a book that wait
-abbrev pub roundIn : List ℕ → List Def → List ℕ → Out (List Def) Refusal
-roundIn book ds ws = round TypesUnknown (readyIn book) (addIn book) ds ws
+abbrev pub roundIn : List ℕ → List Def → List ℕ → Out (List Def) Why
+roundIn book ds ws = round stuckAt (readyIn book) (addIn book) ds ws
 
 -- a registry that rounds over a book can reach: the predefined types under good ids, then types of the book
 pub data Reached (book : List ℕ) : List Def → Type 0 where
@@ -44,7 +43,7 @@ pub record RoundIn (book : List ℕ) (t : ℕ) (u : Used) (left : ℕ)
   pub tries : Tries book (rowNames types names (u .types)) stuck tried
 
 -- what a round leaves that refused no type: the tables of the registry after it, flags of the types that still wait
-pub record Goes (book : List ℕ) (t : ℕ) (o : Out (List Def) Refusal) (types members names done stuck tried : List ℕ)
+pub record Goes (book : List ℕ) (t : ℕ) (o : Out (List Def) Why) (types members names done stuck tried : List ℕ)
     (u : Used) (left : ℕ) : Type 0 where
   pub defs : List Def
   pub is : o ≡ went defs (waits done 0 t)
@@ -53,9 +52,9 @@ pub record Goes (book : List ℕ) (t : ℕ) (o : Out (List Def) Refusal) (types 
   pub tries : Tries book (rowNames types names (u .types)) stuck tried
 
 -- a round was made: the refusal of the definition, or its registry
-module _ (book : List ℕ) (t : ℕ) (o : Out (List Def) Refusal) (types members names done stuck tried : List ℕ) where
+module _ (book : List ℕ) (t : ℕ) (o : Out (List Def) Why) (types members names done stuck tried : List ℕ) where
   abbrev pub Leaves : Round → Type 0
-  Leaves (Refused x) = o ≡ stop x
+  Leaves (Refused x) = o ≡ stop (whyOf x)
   Leaves (Went u left) = Goes book t o types members names done stuck tried u left
 
 -- so for any registry that stood in the tables before, and the flags of that time

@@ -9,27 +9,41 @@ use lib.ListN.{length, getD}
 use Rattle.types.specs.declared.atomic.Atomic.the-variants.{Bool as BOOL, DWord}
 use Rattle.types.specs.declared.member.Ty.{Ty}
 use Rattle.types.specs.declared.member.Ty.the-variants.{Atomic, Struct}
-use Rattle.types.specs.declared.refusal.Refusal.{Refusal}
-use Rattle.types.specs.declared.refusal.Refusal.the-variants.{NoSuchType, LengthsWrong, TagTooLarge}
+use Rattle.types.specs.declared.shape.Fit.{Fit}
 use Rattle.types.specs.declared.shape.Fit.the-variants.{Fits, Refused}
 use Rattle.types.specs.declared.shape.Product.{Product}
 use Rattle.types.specs.declared.shape.Product.the-variants.{Is, Over}
 use Rattle.types.specs.declared.shape.Shape.{Shape}
 use Rattle.types.specs.declared.shape.Shaped.{Shaped}
 use Rattle.types.specs.Layout.{most, isBool, alignUp}
+use Rattle.types.specs.Said.{Said, done, why}
+use Rattle.types.specs.Said as say
 use Rattle.types.specs.Tables.{TyFits, typeAt}
 use Rattle.types.specs.Template.{typeIn, hasTemplate}
 use Rattle.types.specs.Waste.{sizeIn, sizesIn}
 
+-- what is said, and the shape beside it
+pub record Told : Type 0 where
+  pub said : Said (Unit {0})
+  pub shape : Shape
+
+abbrev pub fitSays : Fit → Said (Unit {0})
+fitSays Fits = done tt
+fitSays (Refused r) = why r
+
+-- what an answer says
+abbrev pub saidBy : Shaped → Told
+saidBy r = record { said = fitSays (r .fit); shape = r .shape }
+
 -- a shape that is given; and a refusal, with zeros for a shape
-abbrev pub given : Shape → Shaped
-given s = record { fit = Fits; shape = s }
+abbrev pub given : Shape → Told
+given s = record { said = done tt; shape = s }
 
 abbrev pub noShape : Shape
 noShape = record { ty = Atomic BOOL; lengths = 0 ∷ 0 ∷ 0 ∷ []; used = 0; elements = 0; bytes = 0 }
 
-abbrev pub refused : Refusal → Shaped
-refused why = record { fit = Refused why; shape = noShape }
+abbrev pub refused : ℕ → ℕ → Told
+refused number place = record { said = say.refused number place; shape = noShape }
 
 -- an atomic is always there; a structure where the table has it, as for its template
 abbrev pub isThere : List ℕ → Ty → Bool
@@ -57,35 +71,35 @@ abbrev pub three : List ℕ → List ℕ
 three ns = getD ns 0 0 ∷ getD ns 1 0 ∷ getD ns 2 0 ∷ []
 
 -- n elements of a stored type, not above 2^26 bytes
-unfoldable pub within : (ℕ → ℕ) → Ty → List ℕ → ℕ → ℕ → Shaped
+unfoldable pub within : (ℕ → ℕ) → Ty → List ℕ → ℕ → ℕ → Told
 within sizes ty lengths used n =
     cond (leb (sizeIn sizes ty * n) most)
     (given (record { ty = ty; lengths = lengths; used = used; elements = n; bytes = sizeIn sizes ty * n }))
-    (refused TagTooLarge)
+    (refused 24 0)
 
 -- BOOL with a length
 unfoldable pub boolTag : Ty → List ℕ → Bool
 boolTag ty ns = isBool ty && ltb 0 (length ns)
 
 -- its length is rounded up to 32s, not above 2^32 - 1, and stored as DWORDs
-unfoldable pub boolShape : (ℕ → ℕ) → ℕ → Shaped
+unfoldable pub boolShape : (ℕ → ℕ) → ℕ → Told
 boolShape sizes n =
     cond (leb (alignUp n 32) (2 ^ 32 - 1))
     (within sizes (Atomic DWord) (three (alignUp n 32 ∷ [])) 1 (alignUp n 32 / 32))
-    (refused TagTooLarge)
+    (refused 24 0)
 
 -- any other tag has as many elements as the product of its lengths says, not above 2^64 - 1
-unfoldable pub plainShape : (ℕ → ℕ) → Ty → List ℕ → Shaped
+unfoldable pub plainShape : (ℕ → ℕ) → Ty → List ℕ → Told
 plainShape sizes ty ns =
-    cond (leb (product ns) (2 ^ 64 - 1)) (within sizes ty (three ns) (length ns) (product ns)) (refused TagTooLarge)
+    cond (leb (product ns) (2 ^ 64 - 1)) (within sizes ty (three ns) (length ns) (product ns)) (refused 24 0)
 
-unfoldable pub shapeOf : List ℕ → Ty → List ℕ → Shaped
+unfoldable pub shapeOf : List ℕ → Ty → List ℕ → Told
 shapeOf types ty ns =
     cond (isThere types ty)
     (cond (lengthsOk ty ns)
     (cond (boolTag ty ns) (boolShape (sizesIn types) (getD ns 0 0)) (plainShape (sizesIn types) ty ns))
-    (refused LengthsWrong))
-    (refused NoSuchType)
+    (refused 23 0))
+    (refused 15 0)
 
 -- code or 0x8000 plus id, plus 8,192 per length
 abbrev pub symbolOf : (ℕ → ℕ) → Ty → ℕ → ℕ

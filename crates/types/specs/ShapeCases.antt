@@ -6,15 +6,13 @@ use mathlib.Core.List.{List, [], _∷_}
 use Rattle.types.specs.declared.atomic.Atomic.{Atomic as AtomicType}
 use Rattle.types.specs.declared.atomic.Atomic.the-variants.{Bool as BOOL, SInt, DInt, DWord}
 use Rattle.types.specs.declared.member.Ty.the-variants.{Atomic}
-use Rattle.types.specs.declared.refusal.Refusal.the-variants.{TagTooLarge}
-use Rattle.types.specs.declared.shape.Shaped.{Shaped}
 use Rattle.types.specs.Atomic.{codeOf, sizeOf}
 use Rattle.types.specs.Layout.{isBool, alignUp}
-use Rattle.types.specs.Shape.{given, refused, mostLengths, noneZero, lengthsOk, product, within, boolTag}
+use Rattle.types.specs.Shape.{Told, given, refused, mostLengths, noneZero, lengthsOk, product, within, boolTag}
 use Rattle.types.specs.Shape.{boolShape, plainShape, shapeOf, symbolOf}
 
 -- what a case opens to compute a shape
-unfoldable pub shaped : List ℕ → AtomicType → List ℕ → Shaped
+unfoldable pub shaped : List ℕ → AtomicType → List ℕ → Told
 unfolding shapeOf plainShape boolShape boolTag within product lengthsOk noneZero mostLengths isBool alignUp sizeOf
 shaped types a ns = shapeOf types (Atomic a) ns
 
@@ -31,7 +29,7 @@ unfolding shaped
 dints-2-3 types = refl
 
 -- SINT with length 2^26 + 1
-pub sints-over : (types : List ℕ) → shaped types SInt ((2 ^ 26 + 1) ∷ []) ≡ refused TagTooLarge
+pub sints-over : (types : List ℕ) → shaped types SInt ((2 ^ 26 + 1) ∷ []) ≡ refused 24 0
 unfolding shaped
 sints-over types = refl
 

@@ -1,9 +1,10 @@
 -- Rows of the lent tables: a member or a structure as eight words, and the words of a row read back.
 use Prim.Native.Nat.{ℕ, _+_, _-_, _*_, _/_, _%_, _<_}
-use mathlib.Core.Bool.{Bool, cond}
+use mathlib.Core.Bool.{Bool, false, cond}
 use mathlib.Core.List.{List, [], _∷_}
 use lib.Dec.{eqb, ltb}
 use lib.ListN.{getD}
+use Rattle.types.specs.declared.atomic.Atomic.the-variants.{Bool as BOOL}
 use Rattle.types.specs.declared.member.Ty.{Ty}
 use Rattle.types.specs.declared.member.Ty.the-variants.{Atomic, Struct}
 use Rattle.types.specs.declared.member.Bit.{Bit}
@@ -86,3 +87,15 @@ typeAt t i =
       first = getD t (8 * i + 6) 0;
       count = getD t (8 * i + 7) 0;
     }
+
+-- ---- a row of zeros: one that is not in use, and one past a table's end
+
+abbrev pub noName : Span
+noName = record { at = 0; long = 0 }
+
+abbrev pub noMember : Member
+noMember =
+    record { ty = Atomic BOOL; count = 0; offset = 0; bit = None; hidden = false; local = false; access = 0 }
+
+abbrev pub noType : StructDef
+noType = record { name = noName; id = 0; handle = 0; size = 0; kind = Udt; first = 0; count = 0 }

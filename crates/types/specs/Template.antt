@@ -16,11 +16,11 @@ use Rattle.types.specs.declared.member.StructKind.{StructKind}
 use Rattle.types.specs.declared.member.StructKind.the-variants.{Udt, Predefined, Str, Aoi}
 use Rattle.types.specs.declared.member.Ty.{Ty}
 use Rattle.types.specs.declared.member.Ty.the-variants.{Atomic, Struct}
-use Rattle.types.specs.declared.refusal.Refusal.the-variants.{NoSuchType, NoRoom}
 use Rattle.types.specs.declared.templates.Wrote.{Wrote}
 use Rattle.types.specs.declared.templates.Wrote.the-variants.{Length, Refused}
 use Rattle.types.specs.Atomic.{codeOf}
 use Rattle.types.specs.Defs.{Part, Def, defOf}
+use Rattle.types.specs.Said.{Said, done, refused, why}
 use Rattle.types.specs.Tables.{typeAt}
 
 -- bit number, else the low 16 bits of the count
@@ -105,14 +105,19 @@ templateFor types members names (Atomic a) = []
 templateFor types members names (Struct n) = templateIn types members names (typeAt types n)
 
 -- the length of a template t that there is, or not, in a buffer; and what the buffer then holds
-unfoldable pub templateAnswer : Bool → List ℕ → List ℕ → Wrote
+unfoldable pub templateAnswer : Bool → List ℕ → List ℕ → Said ℕ
 templateAnswer there t out =
-    cond there (cond (leb (length t) (length out)) (Length (length t)) (Refused NoRoom)) (Refused NoSuchType)
+    cond there (cond (leb (length t) (length out)) (done (length t)) (refused 16 0)) (refused 15 0)
 
 unfoldable pub templateLeaves : Bool → List ℕ → List ℕ → List ℕ
 templateLeaves there t out = cond (there && leb (length t) (length out)) (sets out 0 t) out
 
+-- what an answer says
+abbrev pub saidBy : Wrote → Said ℕ
+saidBy (Length n) = done n
+saidBy (Refused r) = why r
+
 -- what a caller who asks for a type's template gets
 pub record Answered (types members names : List ℕ) (ty : Ty) (out : List ℕ) (r : Wrote) (left : List ℕ) : Type 0 where
-  pub is : r ≡ templateAnswer (hasTemplate types ty) (templateFor types members names ty) out
+  pub is : saidBy r ≡ templateAnswer (hasTemplate types ty) (templateFor types members names ty) out
   pub bytes : left ≡ templateLeaves (hasTemplate types ty) (templateFor types members names ty) out

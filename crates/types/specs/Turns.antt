@@ -10,11 +10,10 @@ use Rattle.types.specs.declared.layout.Decl.{Decl}
 use Rattle.types.specs.declared.lookups.FoundTy.{FoundTy}
 use Rattle.types.specs.declared.lookups.FoundTy.the-variants.{Is, Nothing}
 use Rattle.types.specs.declared.member.Ty.{Ty}
-use Rattle.types.specs.declared.refusal.Refusal.{Refusal}
-use Rattle.types.specs.declared.refusal.Refusal.the-variants.{TypesUnknown}
 use Rattle.types.specs.declared.used.Turn.{Turn}
 use Rattle.types.specs.declared.used.Turn.the-variants.{Waits}
 use Rattle.types.specs.declared.used.Used.{Used}
+use Rattle.types.specs.Said.{Why}
 use Rattle.types.specs.Add.{Verdict, no as against, yes as for, addTo, Took, Usable}
 use Rattle.types.specs.Book.{typesIn, typeEntry, listFrom, sumCounts}
 use Rattle.types.specs.Checks.{entryOf, entriesFrom, EntriesInside}
@@ -62,11 +61,11 @@ unfoldable pub verdictOn : List ℕ → View → ℕ → Verdict
 verdictOn book v i =
     addTo v book i (entriesAt book i) (declsOf v book (entriesFrom book (entriesAt book i) 0 (countOf book i)))
 
-abbrev pub stepOf : Verdict → List Def → Step (List Def) Refusal
+abbrev pub stepOf : Verdict → List Def → Step (List Def) Why
 stepOf (against r) ds = no r
 stepOf (for d) ds = ok (ds ++ d ∷ [])
 
-unfoldable pub addIn : List ℕ → List Def → ℕ → Step (List Def) Refusal
+unfoldable pub addIn : List ℕ → List Def → ℕ → Step (List Def) Why
 addIn book ds i = stepOf (verdictOn book (viewOf ds) i) ds
 
 -- the numbers from i on
@@ -74,9 +73,13 @@ unfoldable pub upFrom : ℕ → ℕ → List ℕ
 upFrom i zero = []
 upFrom i (suc n) = i ∷ upFrom (i + 1) n
 
-unfoldable pub roundsFrom : List ℕ → List Def → Answer (List Def) Refusal
+-- a round that adds nothing
+abbrev pub stuckAt : ℕ → Why
+stuckAt p = (10, p)
+
+unfoldable pub roundsFrom : List ℕ → List Def → Answer (List Def) Why
 roundsFrom book ds =
-    rounds TypesUnknown (readyIn book) (addIn book) (typesIn book) ds (upFrom 0 (typesIn book))
+    rounds stuckAt (readyIn book) (addIn book) (typesIn book) ds (upFrom 0 (typesIn book))
 
 -- ---- a turn in code
 

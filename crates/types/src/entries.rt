@@ -13,7 +13,7 @@ use crate::member::Span;
 use crate::member::Ty;
 use crate::tables::TypeTable;
 use crate::tables::ty_of;
-use crate::tables::type_at;
+use crate::tables::type_row;
 use words::wide8;
 use words::wide16;
 
@@ -46,7 +46,7 @@ fn plain(types: &TypeTable, ty: Ty, dim: u32, name: Span, local: bool, access: u
             }
         }
         Ty::Struct(n) => {
-            let d = type_at(types, n);
+            let d = type_row(types, n);
             Decl {
                 name,
                 ty,

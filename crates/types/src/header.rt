@@ -1,13 +1,13 @@
 // A type's header (document 01, "Atomic types"): an atomic's code and 0, or A0 02 and the structure's handle.
 ghost use mathlib.Core.Path.{_≡_};
-ghost use Rattle.types.specs.Header.{held, headerOf, handlesIn, headedOf};
+ghost use Rattle.types.specs.Header.{held, headerOf, handlesIn, headedOf, saidBy};
 ghost use Rattle.types.specs.Tables.{TyFits};
 use crate::member::Ty;
 use crate::refusal::Refusal;
 use crate::shape::Fit;
 use crate::shape::is_there;
 use crate::tables::TypeTable;
-use crate::tables::type_at;
+use crate::tables::type_row;
 use words::high8;
 use words::low8;
 
@@ -37,7 +37,7 @@ fn header_in(types: &TypeTable, ty: Ty) -> Header
             };
         }
         Ty::Struct(n) => {
-            let d = type_at(types, n);
+            let d = type_row(types, n);
             let handle = d.handle;
             let low = low8(handle);
             let high = high8(handle);
@@ -51,7 +51,7 @@ fn header_in(types: &TypeTable, ty: Ty) -> Header
 
 // The header that a reply has before the bytes of a value of the type; 15 where there is no such type.
 pub fn type_header(types: &TypeTable, ty: Ty) -> Headed
-    ensures { λ r. ⌜ r ≡ headedOf (now (types .entry)) ty ⌝ }
+    ensures { λ r. ⌜ saidBy r ≡ headedOf (now (types .entry)) ty ⌝ }
 {
     let there = is_there(types, ty);
     if there {

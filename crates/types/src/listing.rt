@@ -20,9 +20,9 @@ use crate::member::Ty;
 use crate::tables::MemberTable;
 use crate::tables::NameTable;
 use crate::tables::TypeTable;
-use crate::tables::member_at;
-use crate::tables::name_at;
-use crate::tables::type_at;
+use crate::tables::member_row;
+use crate::tables::name_row;
+use crate::tables::type_row;
 use crate::templates::template_len;
 use crate::waste_bits::waste;
 use words::copy;
@@ -141,7 +141,7 @@ fn put_type_name(types: &TypeTable, names: &[u8], ty: Ty, out: &mut [u8], at: us
             return put_atomic(out, at, a);
         }
         Ty::Struct(n) => {
-            let d = type_at(types, n);
+            let d = type_row(types, n);
             let name = d.name;
             return put_name(out, at, names, name, b' ');
         }
@@ -203,7 +203,7 @@ pub fn put_type_line(
     ensures { λ r. ⌜ Lined (typeLineIn (now (types .entry)) (now (members .entry)) (now (names .entry))
         (typeAt (now (types .entry)) i)) (now (out .entry)) r (now (out .exit)) ⌝ }
 {
-    let d = type_at(types, i);
+    let d = type_row(types, i);
     let name = d.name;
     let bytes = template_len(types, members, names, d);
     let bits = waste(types, members, d);
@@ -242,10 +242,10 @@ pub fn put_member_line(
     ensures { λ r. ⌜ Lined (memberLineIn (now (types .entry)) (now (members .entry)) (now (names .entry))
         (typeAt (now (types .entry)) i .first + k) k) (now (out .entry)) r (now (out .exit)) ⌝ }
 {
-    let d = type_at(types, i);
+    let d = type_row(types, i);
     let row = wide(d.first) + k;
-    let m = member_at(members, row);
-    let name = name_at(members, row);
+    let m = member_row(members, row);
+    let name = name_row(members, row);
     let ty = m.ty;
     let number = k as u64;
     let k1 = put_number(out, 0, number, b' ');

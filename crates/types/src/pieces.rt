@@ -19,9 +19,9 @@ use crate::sink::emit;
 use crate::tables::MemberTable;
 use crate::tables::TypeTable;
 use crate::tables::low16;
-use crate::tables::member_at;
-use crate::tables::name_at;
-use crate::tables::type_at;
+use crate::tables::member_row;
+use crate::tables::name_row;
+use crate::tables::type_row;
 use words::wide;
 
 // Bit number, else the low 16 bits of the count.
@@ -42,7 +42,7 @@ pub fn type_in(types: &TypeTable, ty: Ty) -> u32
     match ty {
         Ty::Atomic(a) => a.code() as u32,
         Ty::Struct(n) => {
-            let d = type_at(types, n);
+            let d = type_row(types, n);
             0x8000 + (d.id as u32)
         }
     }
@@ -53,7 +53,7 @@ fn info(types: &TypeTable, members: &MemberTable, row: usize) -> [u8; 8]
     requires { ⌜ (row < 2000) × TyFits (memberAt (now members) row .ty) ⌝ }
     ensures { λ r. ⌜ r ≡ infoBytes (idsIn (now (types .entry))) (memberAt (now (members .entry)) row) ⌝ }
 {
-    let m = member_at(members, row);
+    let m = member_row(members, row);
     let bit = m.bit;
     let ty = m.ty;
     let mut bytes = [0u8; 8];
@@ -162,7 +162,7 @@ pub fn emit_names(
     let mut k = sink;
     let mut i: usize = 0;
     while i < n {
-        let name = name_at(members, first + i);
+        let name = name_row(members, first + i);
         k = emit_name(names, name, k, out);
         k = emit(b"\0", k, out);
         i += 1;

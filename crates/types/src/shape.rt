@@ -5,9 +5,10 @@ ghost use Prim.Native.Nat.{_*_};
 ghost use mathlib.Core.Bool.{true};
 ghost use lib.Dec.{leb};
 ghost use lib.ListN.{getD};
+ghost use Rattle.types.specs.Refusal.{numberOf, placeOf};
 ghost use Rattle.types.specs.Shape.{isThere, mostLengths, noneZero, lengthsOk, boolTag, three, productOf, within};
 ghost use Rattle.types.specs.Shape.{refused as refusedFor, boolShape, plainShape, shapeOf, symbolOf};
-ghost use Rattle.types.specs.Shape.{Plain, Symbolic};
+ghost use Rattle.types.specs.Shape.{Plain, Symbolic, saidBy};
 ghost use Rattle.types.specs.Tables.{TyFits};
 ghost use Rattle.types.specs.Template.{idsIn};
 ghost use Rattle.types.specs.Waste.{sizesIn};
@@ -18,7 +19,7 @@ use crate::pieces::type_in;
 use crate::refusal::Refusal;
 use crate::tables::TYPES;
 use crate::tables::TypeTable;
-use crate::tables::type_at;
+use crate::tables::type_row;
 use crate::waste_bits::size_in;
 use words::wide64;
 
@@ -59,7 +60,7 @@ enum Product {
 
 // A refusal, with the shape that stands for none.
 fn refused(why: Refusal) -> Shaped
-    ensures { λ r. ⌜ r ≡ refusedFor why ⌝ }
+    ensures { λ r. ⌜ saidBy r ≡ refusedFor (numberOf why) (placeOf why) ⌝ }
 {
     let none = Shape {
         ty: Ty::Atomic(Atomic::Bool),
@@ -86,7 +87,7 @@ pub fn is_there(types: &TypeTable, ty: Ty) -> bool
             if TYPES <= n {
                 return false;
             }
-            let d = type_at(types, n);
+            let d = type_row(types, n);
             let id = d.id;
             return id != 0;
         }
@@ -190,7 +191,7 @@ fn multiplied(lengths: &[u32]) -> Product
 // A tag of n elements of a stored type.
 fn tag_within(types: &TypeTable, ty: Ty, lengths: [u32; 3], used: usize, n: u64) -> Shaped
     requires { ⌜ TyFits ty ⌝ }
-    ensures { λ r. ⌜ r ≡ within (sizesIn (now (types .entry))) ty lengths used n ⌝ }
+    ensures { λ r. ⌜ saidBy r ≡ within (sizesIn (now (types .entry))) ty lengths used n ⌝ }
 {
     let size = size_in(types, ty);
     let fits = product_fits(size, n, MOST);
@@ -212,7 +213,7 @@ fn tag_within(types: &TypeTable, ty: Ty, lengths: [u32; 3], used: usize, n: u64)
 
 // A tag of so many BOOLs: rounded up to 32s, and stored as DWORDs.
 fn bool_shape(types: &TypeTable, n: u32) -> Shaped
-    ensures { λ r. ⌜ r ≡ boolShape (sizesIn (now (types .entry))) n ⌝ }
+    ensures { λ r. ⌜ saidBy r ≡ boolShape (sizesIn (now (types .entry))) n ⌝ }
 {
     let up = (wide64(n) + 31) / 32 * 32;
     if 0xFFFFFFFF < up {
@@ -225,7 +226,7 @@ fn bool_shape(types: &TypeTable, n: u32) -> Shaped
 // A tag of any other type, or of one BOOL.
 fn plain_shape(types: &TypeTable, ty: Ty, lengths: &[u32]) -> Shaped
     requires { ⌜ Plain ty (now lengths) ⌝ }
-    ensures { λ r. ⌜ r ≡ plainShape (sizesIn (now (types .entry))) ty (now (lengths .entry)) ⌝ }
+    ensures { λ r. ⌜ saidBy r ≡ plainShape (sizesIn (now (types .entry))) ty (now (lengths .entry)) ⌝ }
 {
     let all = multiplied(lengths);
     match all {
@@ -241,7 +242,7 @@ fn plain_shape(types: &TypeTable, ty: Ty, lengths: &[u32]) -> Shaped
 
 // The shape of a tag of a type with lengths; or 15, 23 or 24.
 pub fn tag_shape(types: &TypeTable, ty: Ty, lengths: &[u32]) -> Shaped
-    ensures { λ r. ⌜ r ≡ shapeOf (now (types .entry)) ty (now (lengths .entry)) ⌝ }
+    ensures { λ r. ⌜ saidBy r ≡ shapeOf (now (types .entry)) ty (now (lengths .entry)) ⌝ }
 {
     let there = is_there(types, ty);
     if there {

@@ -1,5 +1,6 @@
 // The lent tables and their rows: a member's or a type's row of eight words, read into a struct by
-// value and stored from one. A template id of 0 marks an unused row.
+// value and stored from one. A template id of 0 marks an unused row. The readers ask for a row of the table;
+// `rows` has those for any number.
 ghost use mathlib.Core.Path.{_≡_};
 ghost use Prim.Native.Nat.{_*_, _<_, _%_};
 ghost use lib.Seq.{sets};
@@ -149,7 +150,7 @@ pub fn low16(x: u32) -> u16
 }
 
 // The member that a row holds.
-pub fn member_at(members: &MemberTable, row: usize) -> Member
+pub fn member_row(members: &MemberTable, row: usize) -> Member
     requires { ⌜ row < 2000 ⌝ }
     ensures { λ r. ⌜ r ≡ memberAt (now (members .entry)) row ⌝ }
 {
@@ -170,7 +171,7 @@ pub fn member_at(members: &MemberTable, row: usize) -> Member
 }
 
 // Where the name of the member in a row stands.
-pub fn name_at(members: &MemberTable, row: usize) -> Span
+pub fn name_row(members: &MemberTable, row: usize) -> Span
     requires { ⌜ row < 2000 ⌝ }
     ensures { λ r. ⌜ r ≡ nameAt (now (members .entry)) row ⌝ }
 {
@@ -200,7 +201,7 @@ pub fn put_member(members: &mut MemberTable, row: usize, name: Span, m: Member)
 }
 
 // The structure that a row holds.
-pub fn type_at(types: &TypeTable, i: usize) -> StructDef
+pub fn type_row(types: &TypeTable, i: usize) -> StructDef
     requires { ⌜ i < 200 ⌝ }
     ensures { λ r. ⌜ r ≡ typeAt (now (types .entry)) i ⌝ }
 {

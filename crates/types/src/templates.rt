@@ -26,7 +26,7 @@ use crate::tables::MemberTable;
 use crate::tables::NameTable;
 use crate::tables::TYPES;
 use crate::tables::TypeTable;
-use crate::tables::type_at;
+use crate::tables::type_row;
 use words::wide;
 
 // A template's length, or why there is none.
@@ -163,7 +163,7 @@ fn struct_template(
     if TYPES <= n {
         return Wrote::Refused(Refusal::NoSuchType);
     }
-    let d = type_at(types, n);
+    let d = type_row(types, n);
     let id = d.id;
     if id == 0 {
         return Wrote::Refused(Refusal::NoSuchType);

@@ -12,8 +12,8 @@ use crate::member::StructDef;
 use crate::member::Ty;
 use crate::tables::MemberTable;
 use crate::tables::TypeTable;
-use crate::tables::member_at;
-use crate::tables::type_at;
+use crate::tables::member_row;
+use crate::tables::type_row;
 use words::wide;
 use words::wide64;
 
@@ -25,7 +25,7 @@ pub fn size_in(types: &TypeTable, ty: Ty) -> u64
     match ty {
         Ty::Atomic(a) => a.size() as u64,
         Ty::Struct(n) => {
-            let d = type_at(types, n);
+            let d = type_row(types, n);
             wide64(d.size)
         }
     }
@@ -65,7 +65,7 @@ pub fn waste(types: &TypeTable, members: &MemberTable, d: StructDef) -> u64
     let mut bits: u64 = 0;
     let mut i: usize = 0;
     while i < n {
-        let m = member_at(members, first + i);
+        let m = member_row(members, first + i);
         bits += seen_bits(types, m);
         i += 1;
     }

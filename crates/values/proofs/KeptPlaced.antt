@@ -1,7 +1,6 @@
 -- Every type's tree has branches that share no bit and no number (document 01, "Layout", "Normal image"): what the
 -- layouts promise, carried over to trees, for tables as our own calls left them.
 use Prim.Native.Nat.{ℕ, zero, suc, _+_, _*_, _<_, _≤_}
-use native.Mathlib.Decide.{decLt}
 use native.Mathlib.Omega.{arith}
 use mathlib.Core.Path.{_≡_, refl}
 use mathlib.Core.Bool.{Bool, true, false, cond}
@@ -13,7 +12,6 @@ use Rattle.types.specs.Defs.{partAt, partsAt}
 use Rattle.types.specs.Kept.{Kept}
 use Rattle.types.specs.Laid.{Earlier, firstBit, Laid}
 use Rattle.types.specs.Laid.{Clear as ClearOf}
-use Rattle.types.specs.Registry.{typeCount}
 use Rattle.types.specs.Tables.{TyFits, memberAt, typeAt}
 use Rattle.types.specs.Waste.{bitsOf, sizesIn}
 use Rattle.types.specs.declared.atomic.Atomic.{Atomic}
@@ -23,7 +21,7 @@ use Rattle.types.specs.declared.member.Bit.the-variants.{None, At}
 use Rattle.types.specs.declared.member.Member.{Member}
 use Rattle.types.specs.declared.member.Ty.{Ty}
 use Rattle.types.specs.declared.member.Ty.the-variants as ty
-use Rattle.types.proofs.KeptLaws.{kept-laid, kept-unused}
+use Rattle.types.proofs.KeptLaws.{RowIs, holds, empty, kept-row}
 use Rattle.values.specs.Leaf.{leafOf, str}
 use Rattle.values.specs.Tree.{Tree, leaf, bits, array, struct, span}
 use Rattle.values.specs.Trees.{isString, membersAt, knownIn, secondCount, atomicsTree, structsTree, valueTree}
@@ -174,12 +172,12 @@ module _ (types members names : List ℕ) (trees : ℕ → Tree) (i : ℕ) (soun
 module _ {types members names : List ℕ} (k : Kept types members names) where
   pub laid-all : (i : ℕ) → Laid (sizesIn types) i (typeAt types i .size)
       (partsAt members names (typeAt types i .first) (typeAt types i .count))
-  laid-all i = go (decLt i (typeCount types))
+  laid-all i = go (kept-row k i)
     where
-      go : Dec (i < typeCount types) → Laid (sizesIn types) i (typeAt types i .size)
+      go : RowIs types members names i → Laid (sizesIn types) i (typeAt types i .size)
           (partsAt members names (typeAt types i .first) (typeAt types i .count))
-      go (yes l) = kept-laid k i l
-      go (no l) = rw (kept-unused k i (omega (arith, l))) (unfold partsAt Laid in tt)
+      go (holds r) = r .laid
+      go (empty e) = rw e (unfold partsAt Laid in tt)
 
   within-placed : (f i : ℕ) → f ≤ 200 → i < f → Placed (treeWithin (knownIn types members) f i)
   unfolding treeWithin

@@ -36,6 +36,7 @@ pub mod MemberMade
 pub mod NestedLaws
 pub mod NormalLaws
 pub mod NormalisedLaws
+pub mod NumberedLaws
 pub mod NumberLaws
 pub mod OnlyHeld
 pub mod OutcomeLaws
@@ -46,6 +47,7 @@ pub mod PutBack
 pub mod PutLaws
 pub mod ReadLaws
 pub mod ReadingLaws
+pub mod SaidLaws
 pub mod RunInLaws
 pub mod RunLaws
 pub mod SameStream

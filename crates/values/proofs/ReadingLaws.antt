@@ -25,6 +25,7 @@ use Rattle.values.specs.declared.reading.Streamed.{Streamed}
 use Rattle.values.specs.declared.reading.Streamed.the-variants.{Length, Refused}
 use Rattle.values.specs.Counting.{Texts}
 use Rattle.values.specs.Laying.{laid, Wrote}
+use Rattle.types.specs.Said.{done, refused}
 use Rattle.values.specs.Stream.{Token, bodies, mostBytes, streamBytes}
 use Rattle.values.specs.Tree.{items, read}
 use Rattle.values.specs.Trees.{knownIn, treeOfValue}
@@ -61,7 +62,7 @@ module _ (types members : List ℕ) (t : Ty) (n : ℕ) (image out : List ℕ) wh
       → k ≡ length (valueStream types members t n image) → new ≡ sets out 0 (valueStream types members t n image)
       → Written types members t n image out (Length k) new
   unfolding streamAnswer
-  all-room e f g = record { answer = rw e (ap Length f); leaves = rw e g }
+  all-room e f g = record { answer = rw e (ap done f); leaves = rw e g }
 
 -- ---- a product that is compared without being made
 
@@ -187,7 +188,7 @@ no-start types members t n image out l =
 -- ---- what a caller may count on: no stream is longer than its buffer, or than 2^31 bytes
 
 given : (p q r : Bool) (k m : ℕ)
-    → Length k ≡ cond p (cond q (cond r (Length m) (Refused NoRoom)) (Refused ImageLength)) (Refused NoSuchType)
+    → done k ≡ cond p (cond q (cond r (done m) (refused 16 0)) (refused 14 0)) (refused 15 0)
     → (k ≡ m) × (r ≡ true)
 given true true true k m e = (cc, refl)
 given true true false k m e = (cc, cc)

@@ -2,7 +2,6 @@
 -- calls left them: two images of a value whose streams have room give the same stream exactly when their normal images
 -- are equal, and normalising again changes nothing.
 use Prim.Native.Nat.{ℕ, _*_, _^_, _<_, _≤_}
-use native.Mathlib.Decide.{decLt}
 use native.Mathlib.Omega.{arith}
 use mathlib.Core.Path.{_≡_, refl, sym, ap, ap₂, _∙_}
 use mathlib.Core.Bool.{Bool, true, false}
@@ -13,11 +12,10 @@ use Rattle.words.specs.Bits.{Bits, flat}
 use Rattle.words.specs.Words.{Bytes}
 use Rattle.types.specs.Kept.{Kept}
 use Rattle.types.specs.Layout.{times}
-use Rattle.types.specs.Registry.{typeCount}
 use Rattle.types.specs.Tables.{TyFits, typeAt}
 use Rattle.types.specs.Waste.{sizeIn, sizesIn}
 use Rattle.types.specs.declared.member.Ty.{Ty}
-use Rattle.types.proofs.KeptLaws.{kept-listed, kept-unused}
+use Rattle.types.proofs.KeptLaws.{RowIs, holds, empty, kept-row}
 use Rattle.values.specs.Decode.{tokensIn}
 use Rattle.values.specs.Form.{streamOk}
 use Rattle.values.specs.Leaf.{chars}
@@ -86,11 +84,11 @@ module _ {types members names : List ℕ} (k : Kept types members names) (t : Ty
       go false e = refl
 
   few : (i : ℕ) → typeAt types i .count ≤ 2 ^ 32
-  few i = go (decLt i (typeCount types))
+  few i = go (kept-row k i)
     where
-      go : Dec (i < typeCount types) → typeAt types i .count ≤ 2 ^ 32
-      go (yes l) = omega (arith, walkable .each i (omega (arith, l, kept-listed k .few)) .rows)
-      go (no l) = rw (kept-unused k i (omega (arith, l))) (omega arith)
+      go : RowIs types members names i → typeAt types i .count ≤ 2 ^ 32
+      go (holds r) = omega (arith, walkable .each i (r .few) .rows)
+      go (empty e) = rw e (omega arith)
 
   module _ (x : List ℕ) (v : ValueImage types t n x) (b : Bytes x) where
     entries-are : valueOut types members t n x ≡ read is (flat x)

@@ -18,13 +18,13 @@ use Rattle.values.specs.Form.{countIn}
 use Rattle.values.specs.Leaf.{chars}
 use Rattle.values.specs.Normal.{held, normalImage}
 use Rattle.values.specs.Reading.{valueStream}
+use Rattle.types.specs.Said.{done}
 use Rattle.values.specs.Stream.{Token, mostBytes}
 use Rattle.values.specs.Tree.{Item, Tree, items, read}
 use Rattle.values.specs.Trees.{knownIn, treeOfValue}
 use Rattle.values.specs.Walkable.{ValueImage}
 use Rattle.values.specs.Writing.{Outcome, ok, ended, write, written}
 use Rattle.values.specs.Written.{Result, taking, valueWritten, writeResult}
-use Rattle.values.specs.declared.writing.Taken.the-variants.{Whole}
 use Rattle.values.proofs.CharLaws.{length-chars}
 use Rattle.values.proofs.KeptPlaced.{kept-placed}
 use Rattle.values.proofs.OverLaws.{over, over-bit}
@@ -35,7 +35,7 @@ use Rattle.values.proofs.WrittenHeld.{bytes-bit}
 
 -- what a write of the stream of x over z answers and leaves
 pub record WrittenBack (tree : Tree) (x z : List ℕ) (r : Result) : Type 0 where
-  pub accepted : r .answer ≡ Whole
+  pub accepted : r .answer ≡ done tt
   pub long : length (r .image) ≡ length z
   pub bits : (k : ℕ) → k < 8 * length z
       → flat (r .image) k ≡ cond (held (items tree 0) k) (flat (normalImage tree x) k) (flat z k)

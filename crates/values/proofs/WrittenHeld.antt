@@ -9,7 +9,6 @@ use borrow.Author.Tests.{lt-ltb}
 use Rattle.words.specs.Bits.{Bits, flat}
 use Rattle.types.specs.Shape.{isThere}
 use Rattle.types.specs.declared.member.Ty.{Ty}
-use Rattle.types.specs.declared.refusal.Refusal.the-variants.{ImageLength, NoSuchType, StreamMalformed}
 use Rattle.values.specs.Decode.{tokensIn}
 use Rattle.values.specs.Form.{countIn, streamOk}
 use Rattle.values.specs.Leaf.{chars}
@@ -48,7 +47,7 @@ module _ (types members : List ℕ) (t : Ty) (n : ℕ) (s image : List ℕ) (k :
     write-only-held = go (isThere types t) (imageFits types t n image) (streamOk s)
       where
         go : (a b c : Bool) → flat (cond a (cond b (cond c (taking (countIn s) (ended outcome) image)
-            (refusing StreamMalformed image)) (refusing ImageLength image)) (refusing NoSuchType image) .image) k
+            (refusing 17 image)) (refusing 14 image)) (refusing 15 image) .image) k
             ≡ flat image k
         go true true true = after-kept
         go true true false = refl

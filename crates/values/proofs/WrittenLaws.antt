@@ -12,20 +12,24 @@ use Rattle.words.specs.Bits.{Bits, flat}
 use Rattle.words.specs.Words.{Bytes, part}
 use Rattle.types.specs.Shape.{isThere}
 use Rattle.types.specs.declared.member.Ty.{Ty}
+use Rattle.types.specs.Refusal.{numberOf, placeOf}
+use Rattle.types.specs.declared.refusal.Refusal.{Refusal}
 use Rattle.types.specs.declared.refusal.Refusal.the-variants.{ImageLength, NoSuchType, StreamMalformed, EntryMisfit}
 use Rattle.values.specs.Decode.{tokensIn}
 use Rattle.values.specs.Form.{countIn, streamOk}
 use Rattle.values.specs.Leaf.{chars}
 use Rattle.values.specs.Passes.{Applied, Checked, accepted, leftAt}
 use Rattle.values.specs.Reading.{imageFits}
+use Rattle.types.specs.Said.{refused}
 use Rattle.values.specs.Stream.{Token}
 use Rattle.values.specs.Tree.{Tree}
 use Rattle.values.specs.Trees.{knownIn, treeOfValue}
 use Rattle.values.specs.Writing.{Outcome, ok, bad, ended, write, written}
-use Rattle.values.specs.Written.{Done, Entered, bytesAfter, entryRefusal, takenOf, valueWritten, writeResult}
+use Rattle.values.specs.Written.{Done, Entered, bytesAfter, takenOf, valueWritten, writeResult}
 use Rattle.values.specs.declared.writing.Taken.{Taken}
 use Rattle.values.specs.declared.writing.Taken.the-variants.{Whole, Refused}
 use Rattle.values.proofs.LeftLaws.{left-long, none-left, there}
+use Rattle.values.proofs.NumberedLaws.{bad-number}
 use Rattle.values.proofs.TreeLaws.{chars-part}
 
 -- ---- all entries
@@ -62,26 +66,28 @@ module _ (types members : List ℕ) (t : Ty) (n : ℕ) (s image : List ℕ) (for
   place-of : (q : ℕ) → q ≤ countIn s → countIn s - length (leftAt s q) ≡ q
   place-of q l = rw (left-long s q) (omega arith)
 
-  at-bad : {number : ℕ} {q : ℕ} → q ≤ countIn s → ended (entries (flat image)) ≡ bad number (leftAt s q)
-      → Entered types members t n s image (Refused (entryRefusal number q)) image
-  at-bad {number} {q} l e =
+  at-bad : (x : Refusal) {q : ℕ} → placeOf x ≡ q → q ≤ countIn s
+      → ended (entries (flat image)) ≡ bad (numberOf x) (leftAt s q) → Entered types members t n s image (Refused x) image
+  at-bad x {q} k l e =
       record {
-        answer = sym (ap (takenOf (countIn s)) (all-written ∙ e)
-            ∙ ap (λ (k : ℕ). Refused (entryRefusal number k)) (place-of q l));
+        answer = sym (ap (takenOf (countIn s)) (all-written ∙ e) ∙ ap (refused (numberOf x)) (place-of q l ∙ sym k));
         leaves = sym (ap (λ (o : Outcome). bytesAfter o image) (all-written ∙ e));
       }
 
   -- a refused entry
-  pub refused-entered : {r number place : ℕ} → Checked s 0 r entries → 2 ^ 32 ≤ r → number ≡ r / 2 ^ 32
-      → place ≡ r % 2 ^ 32 → Entered types members t n s image (Refused (entryRefusal number place)) image
-  refused-entered {r} c l e f =
+  pub refused-entered : {r : ℕ} (x : Refusal) → Checked s 0 r entries → 2 ^ 32 ≤ r → numberOf x ≡ r / 2 ^ 32
+      → placeOf x ≡ r % 2 ^ 32 → Entered types members t n s image (Refused x) image
+  refused-entered {r} x c l e f =
       let w = c .refuses l in
-      rw (e, f) (at-bad (w .inside) (ap ended (w .gives (flat image))))
+      at-bad x f (w .inside) (rw e (ap ended (w .gives (flat image))))
+
+  -- whose number is 18 to 21
+  pub refused-number : {r : ℕ} → Checked s 0 r entries → 2 ^ 32 ≤ r → (18 ≤ r / 2 ^ 32) × (r / 2 ^ 32 ≤ 21)
+  refused-number {r} c l = bad-number tree 0 (leftAt s 0) (flat image) (c .refuses l .gives (flat image))
 
   -- an entry that is left over
   pub left-over : {r place : ℕ} → Checked s 0 r entries → r < 2 ^ 32 → r < countIn s → place ≡ r % 2 ^ 32
       → Entered types members t n s image (Refused (EntryMisfit place)) image
-  unfolding entryRefusal
   left-over {r} {place} c l m e =
       let w = c .goes l in
       let first = there s r form m in
@@ -89,7 +95,7 @@ module _ (types members : List ℕ) (t : Ty) (n : ℕ) (s image : List ℕ) (for
       let over : ended (entries (flat image)) ≡ bad 18 (leftAt s r)
       = ap ended (w .gives (flat image) .1 ∙ ap (λ (ts : List Token). ok ts (w .gives (flat image) .0)) (first .left))
       ∙ ap (bad 18) (sym (first .left)) in
-      rw low (at-bad {number = 18} {q = r} (omega arith) over)
+      at-bad (EntryMisfit place) low (omega arith) over
 
   module _ {r : ℕ} (c : Checked s 0 r entries) (l : r < 2 ^ 32) (all : countIn s ≤ r) where
     pub all-accepted : accepted (entries (flat image)) ≡ true

@@ -4,15 +4,14 @@ use Prim.Native.Nat.{ℕ}
 use mathlib.Core.Path.{_≡_}
 use mathlib.Core.Bool.{cond}
 use mathlib.Core.List.{List}
+use Rattle.types.specs.Said.{done}
 use Rattle.types.specs.Shape.{isThere}
 use Rattle.types.specs.declared.member.Ty.{Ty}
-use Rattle.types.specs.declared.refusal.Refusal.the-variants.{ImageLength, NoSuchType}
 use Rattle.values.specs.Normal.{normalImage}
 use Rattle.values.specs.Reading.{imageFits}
 use Rattle.values.specs.Trees.{knownIn, treeOfValue}
-use Rattle.values.specs.Written.{Result, refusing}
+use Rattle.values.specs.Written.{Result, refusing, saidBy}
 use Rattle.values.specs.declared.writing.Taken.{Taken}
-use Rattle.values.specs.declared.writing.Taken.the-variants.{Whole}
 
 -- the normal image of a value
 abbrev pub valueNormal : List ℕ → List ℕ → Ty → ℕ → List ℕ → List ℕ
@@ -21,11 +20,11 @@ valueNormal types members t n image = normalImage (treeOfValue (knownIn types me
 unfoldable pub normalResult : List ℕ → List ℕ → Ty → ℕ → List ℕ → Result
 normalResult types members t n image =
     cond (isThere types t)
-    (cond (imageFits types t n image) (record { answer = Whole; image = valueNormal types members t n image })
-    (refusing ImageLength image))
-    (refusing NoSuchType image)
+    (cond (imageFits types t n image) (record { answer = done tt; image = valueNormal types members t n image })
+    (refusing 14 image))
+    (refusing 15 image)
 
 pub record MadeNormal (types members : List ℕ) (t : Ty) (n : ℕ) (image : List ℕ) (r : Taken) (new : List ℕ)
     : Type 0 where
-  pub answer : r ≡ normalResult types members t n image .answer
+  pub answer : saidBy r ≡ normalResult types members t n image .answer
   pub leaves : new ≡ normalResult types members t n image .image

@@ -9,15 +9,20 @@ use lib.ListN.{length}
 use lib.Seq.{sets}
 use Rattle.words.specs.Bits.{flat}
 use Rattle.types.specs.Layout.{times}
+use Rattle.types.specs.Said.{Said, done, refused, why}
 use Rattle.types.specs.Shape.{isThere}
 use Rattle.types.specs.Waste.{sizeIn, sizesIn}
 use Rattle.types.specs.declared.member.Ty.{Ty}
-use Rattle.types.specs.declared.refusal.Refusal.the-variants.{ImageLength, NoSuchType, NoRoom}
 use Rattle.values.specs.Stream.{streamBytes, mostBytes}
 use Rattle.values.specs.Tree.{Tree, items, read}
 use Rattle.values.specs.Trees.{knownIn, treeOfValue}
 use Rattle.values.specs.declared.reading.Streamed.{Streamed}
 use Rattle.values.specs.declared.reading.Streamed.the-variants.{Length, Refused}
+
+-- what an answer says: the stream's length, or a refusal
+abbrev pub saidBy : Streamed → Said ℕ
+saidBy (Length n) = done n
+saidBy (Refused r) = why r
 
 -- the stream of an image of a tree
 unfoldable pub streamOf : Tree → List ℕ → List ℕ
@@ -36,28 +41,28 @@ abbrev pub hasRoom : List ℕ → ℕ → Bool
 hasRoom stream long = leb (length stream) (min long mostBytes)
 
 -- the answer about a stream that is there
-unfoldable pub streamAnswer : List ℕ → ℕ → Streamed
-streamAnswer stream long = cond (hasRoom stream long) (Length (length stream)) (Refused NoRoom)
+unfoldable pub streamAnswer : List ℕ → ℕ → Said ℕ
+streamAnswer stream long = cond (hasRoom stream long) (done (length stream)) (refused 16 0)
 
-unfoldable pub readAnswer : List ℕ → List ℕ → Ty → ℕ → List ℕ → ℕ → Streamed
+unfoldable pub readAnswer : List ℕ → List ℕ → Ty → ℕ → List ℕ → ℕ → Said ℕ
 readAnswer types members t n image long =
     cond (isThere types t)
-    (cond (imageFits types t n image) (streamAnswer (valueStream types members t n image) long) (Refused ImageLength))
-    (Refused NoSuchType)
+    (cond (imageFits types t n image) (streamAnswer (valueStream types members t n image) long) (refused 14 0))
+    (refused 15 0)
 
 -- what an answer leaves in the buffer
-abbrev pub leftBy : Streamed → List ℕ → List ℕ → List ℕ
-leftBy (Length n) out stream = sets out 0 stream
-leftBy (Refused why) out stream = out
+abbrev pub leftBy : Said ℕ → List ℕ → List ℕ → List ℕ
+leftBy (done n) out stream = sets out 0 stream
+leftBy (refused number place) out stream = out
 
 pub record Answered (types members : List ℕ) (t : Ty) (n : ℕ) (image out : List ℕ) (r : Streamed) (new : List ℕ)
     : Type 0 where
-  pub answer : r ≡ readAnswer types members t n image (length out)
+  pub answer : saidBy r ≡ readAnswer types members t n image (length out)
   pub leaves : new ≡ leftBy (readAnswer types members t n image (length out)) out (valueStream types members t n image)
 
 -- the same of a value whose type is there and whose image fits
 pub record Written (types members : List ℕ) (t : Ty) (n : ℕ) (image out : List ℕ) (r : Streamed) (new : List ℕ)
     : Type 0 where
-  pub answer : r ≡ streamAnswer (valueStream types members t n image) (length out)
+  pub answer : saidBy r ≡ streamAnswer (valueStream types members t n image) (length out)
   pub leaves : new ≡ leftBy (streamAnswer (valueStream types members t n image) (length out)) out
       (valueStream types members t n image)

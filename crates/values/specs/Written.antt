@@ -5,14 +5,11 @@ use Prim.Native.Nat.{ℕ, _-_}
 use mathlib.Core.Path.{_≡_}
 use mathlib.Core.Bool.{cond}
 use mathlib.Core.List.{List}
-use lib.Dec.{eqb}
 use lib.ListN.{length}
 use Rattle.words.specs.Bits.{flat}
+use Rattle.types.specs.Said.{Said, done, refused, why}
 use Rattle.types.specs.Shape.{isThere}
 use Rattle.types.specs.declared.member.Ty.{Ty}
-use Rattle.types.specs.declared.refusal.Refusal.{Refusal}
-use Rattle.types.specs.declared.refusal.Refusal.the-variants.{ImageLength, NoSuchType, StreamMalformed, EntryMisfit}
-use Rattle.types.specs.declared.refusal.Refusal.the-variants.{NumberOutOfRange, PastLastPlace, TextTooLong}
 use Rattle.values.specs.Decode.{tokensIn}
 use Rattle.values.specs.Form.{countIn, streamOk}
 use Rattle.values.specs.Leaf.{chars}
@@ -22,16 +19,15 @@ use Rattle.values.specs.Writing.{Outcome, ok, bad, written}
 use Rattle.values.specs.declared.writing.Taken.{Taken}
 use Rattle.values.specs.declared.writing.Taken.the-variants.{Whole, Refused}
 
--- the refusals of entries by their numbers
-unfoldable pub entryRefusal : ℕ → ℕ → Refusal
-entryRefusal number k =
-    cond (eqb number 19) (NumberOutOfRange k)
-    (cond (eqb number 20) (PastLastPlace k) (cond (eqb number 21) (TextTooLong k) (EntryMisfit k)))
+-- what an answer says: no value, or a refusal
+abbrev pub saidBy : Taken → Said (Unit {0})
+saidBy Whole = done tt
+saidBy (Refused r) = why r
 
 -- of n entries, the first of those that are left is number n less how many are left
-abbrev pub takenOf : ℕ → Outcome → Taken
-takenOf n (ok ts z) = Whole
-takenOf n (bad number ts) = Refused (entryRefusal number (n - length ts))
+abbrev pub takenOf : ℕ → Outcome → Said (Unit {0})
+takenOf n (ok ts z) = done tt
+takenOf n (bad number ts) = refused number (n - length ts)
 
 -- the image's bytes afterwards
 abbrev pub bytesAfter : Outcome → List ℕ → List ℕ
@@ -44,11 +40,11 @@ valueWritten types members t n s image = written (treeOfValue (knownIn types mem
 
 -- a call's answer, and the image it leaves
 pub record Result : Type 0 where
-  pub answer : Taken
+  pub answer : Said (Unit {0})
   pub image : List ℕ
 
-abbrev pub refusing : Refusal → List ℕ → Result
-refusing why image = record { answer = Refused why; image = image }
+abbrev pub refusing : ℕ → List ℕ → Result
+refusing number image = record { answer = refused number 0; image = image }
 
 abbrev pub taking : ℕ → Outcome → List ℕ → Result
 taking n w image = record { answer = takenOf n w; image = bytesAfter w image }
@@ -58,16 +54,16 @@ writeResult types members t n s image =
     cond (isThere types t)
     (cond (imageFits types t n image)
     (cond (streamOk s) (taking (countIn s) (valueWritten types members t n s image) image)
-    (refusing StreamMalformed image))
-    (refusing ImageLength image))
-    (refusing NoSuchType image)
+    (refusing 17 image))
+    (refusing 14 image))
+    (refusing 15 image)
 
 pub record Done (types members : List ℕ) (t : Ty) (n : ℕ) (s image : List ℕ) (r : Taken) (new : List ℕ) : Type 0 where
-  pub answer : r ≡ writeResult types members t n s image .answer
+  pub answer : saidBy r ≡ writeResult types members t n s image .answer
   pub leaves : new ≡ writeResult types members t n s image .image
 
 -- the same of a value whose type is there, whose image fits, and of a stream whose form is good
 pub record Entered (types members : List ℕ) (t : Ty) (n : ℕ) (s image : List ℕ) (r : Taken) (new : List ℕ)
     : Type 0 where
-  pub answer : r ≡ takenOf (countIn s) (valueWritten types members t n s image)
+  pub answer : saidBy r ≡ takenOf (countIn s) (valueWritten types members t n s image)
   pub leaves : new ≡ bytesAfter (valueWritten types members t n s image) image

@@ -25,8 +25,8 @@ use crate::tokens::payload_of;
 use types::MemberTable;
 use types::Ty;
 use types::TypeTable;
-use types::member_at;
-use types::type_at;
+use types::member_row;
+use types::type_row;
 use words::wide;
 
 // Structure i, from a byte of the image on.
@@ -46,7 +46,7 @@ pub fn apply_struct(
     ensures { λ r. ⌜ Applied (now (s .entry)) k r (now (image .entry)) (now (image .exit))
         (write (treeIn (now (types .entry)) (now (members .entry)) i) (8 * base) (leftAt (now (s .entry)) k)) ⌝ }
 {
-    let d = type_at(types, i);
+    let d = type_row(types, i);
     let kind = d.kind;
     let string = is_string(kind);
     if string {
@@ -78,7 +78,7 @@ fn apply_members(
     if start == 0 {
         return k + 1;
     }
-    let d = type_at(types, i);
+    let d = type_row(types, i);
     let first = wide(d.first);
     let mut p = k + 1;
     loop {
@@ -115,7 +115,7 @@ fn apply_nested(
         (write (memberTree (treeIn (now (types .entry)) (now (members .entry))) (memberAt (now (members .entry)) row))
         (8 * base + firstBit (memberAt (now (members .entry)) row)) (leftAt (now (s .entry)) k)) ⌝ }
 {
-    let m = member_at(members, row);
+    let m = member_row(members, row);
     let start = base + wide(m.offset);
     let count = wide(m.count);
     let ty = m.ty;

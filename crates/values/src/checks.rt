@@ -23,8 +23,8 @@ use crate::tokens::refused;
 use types::MemberTable;
 use types::Ty;
 use types::TypeTable;
-use types::member_at;
-use types::type_at;
+use types::member_row;
+use types::type_row;
 use words::wide;
 
 // No row: the table has 2,000.
@@ -36,7 +36,7 @@ fn visible_row(members: &MemberTable, first: usize, count: usize, j: usize) -> u
     ensures { λ r. ⌜ r ≡ visibleRow (now (members .entry)) first count j ⌝ }
 {
     if j < count {
-        let m = member_at(members, first + j);
+        let m = member_row(members, first + j);
         let hidden = m.hidden;
         if hidden {
             return NO_ROW;
@@ -60,7 +60,7 @@ pub fn check_struct(
     ensures { λ r. ⌜ ((p : ℕ) → Checked (now (s .entry)) k r
         (write (treeIn (now (types .entry)) (now (members .entry)) i) p (leftAt (now (s .entry)) k))) ⌝ }
 {
-    let d = type_at(types, i);
+    let d = type_row(types, i);
     let kind = d.kind;
     let string = is_string(kind);
     if string {
@@ -92,7 +92,7 @@ fn check_members(
     if start != 8 {
         return refused(18, k);
     }
-    let d = type_at(types, i);
+    let d = type_row(types, i);
     let first = wide(d.first);
     let count = wide(d.count);
     let mut p = k + 1;
@@ -142,7 +142,7 @@ fn check_nested(
         (write (memberTree (treeIn (now (types .entry)) (now (members .entry))) (memberAt (now (members .entry)) row)) p
         (leftAt (now (s .entry)) k))) ⌝ }
 {
-    let m = member_at(members, row);
+    let m = member_row(members, row);
     let count = wide(m.count);
     let ty = m.ty;
     match ty {

@@ -17,8 +17,8 @@ use types::Bit;
 use types::MemberTable;
 use types::Ty;
 use types::TypeTable;
-use types::member_at;
-use types::type_at;
+use types::member_row;
+use types::type_row;
 use words::wide;
 
 // An atomic, or n of them where n is not 0.
@@ -53,7 +53,7 @@ fn leaf_entries(members: &MemberTable, row: usize) -> usize
     ensures { λ r. ⌜ ((j : ℕ) → Plain (leafOut j (memberAt (now (members .entry)) row)) r)
         × (r ≤ 1099511627776) ⌝ }
 {
-    let m = member_at(members, row);
+    let m = member_row(members, row);
     let hidden = m.hidden;
     if hidden {
         return 0;
@@ -119,7 +119,7 @@ fn count_struct(
     ensures { λ r. ⌜ Counted most from (structOut (now (types .entry)) (now (members .entry)) i)
         (now (texts .entry)) (now (texts .exit)) r ⌝ }
 {
-    let d = type_at(types, i);
+    let d = type_row(types, i);
     let kind = d.kind;
     let string = is_string(kind);
     if string {
@@ -143,7 +143,7 @@ fn count_members(
         (membersBy (now (types .entry)) (now (members .entry))
         (structOut (now (types .entry)) (now (members .entry))) i) (now (texts .entry)) (now (texts .exit)) r ⌝ }
 {
-    let d = type_at(types, i);
+    let d = type_row(types, i);
     let first = wide(d.first);
     let n = wide(d.count);
     let mut sum = from + 2;
@@ -184,7 +184,7 @@ fn count_nested(
         (memberBy (now (types .entry)) (now (members .entry)) (structOut (now (types .entry)) (now (members .entry))) j
         (memberAt (now (members .entry)) row)) (now (texts .entry)) (now (texts .exit)) r) ⌝ }
 {
-    let m = member_at(members, row);
+    let m = member_row(members, row);
     let n = wide(m.count);
     let ty = m.ty;
     match ty {

@@ -27,7 +27,7 @@ use types::Atomic;
 use types::Bit;
 use types::MemberTable;
 use types::Ty;
-use types::member_at;
+use types::member_row;
 use words::wide;
 
 // One atomic, or null.
@@ -221,7 +221,7 @@ pub fn check_leaf(members: &MemberTable, row: usize, s: &[u8], n: usize, k: usiz
     ensures { λ r. ⌜ ((trees : ℕ → Tree) (p : ℕ) → Checked (now (s .entry)) k r
         (write (memberTree trees (memberAt (now (members .entry)) row)) p (leftAt (now (s .entry)) k))) ⌝ }
 {
-    let m = member_at(members, row);
+    let m = member_row(members, row);
     let bit = m.bit;
     let ty = m.ty;
     let count = wide(m.count);

@@ -12,7 +12,7 @@ ghost use Rattle.values.specs.Trees.{membersAt};
 use crate::bools::put_bit;
 use types::Bit;
 use types::MemberTable;
-use types::member_at;
+use types::member_row;
 use words::bit_at;
 use words::wide;
 
@@ -38,7 +38,7 @@ fn keep_flag(
         (flat (now (kept .entry))))
         (flat (now (kept .entry))) ⌝ }
 {
-    let m = member_at(members, row);
+    let m = member_row(members, row);
     let hidden = m.hidden;
     let bit = m.bit;
     if hidden {
@@ -86,7 +86,7 @@ fn put_flag(members: &MemberTable, row: usize, k: usize, kept: &[u8], image: &mu
         (flat (now (image .entry))))
         (flat (now (image .entry))) ⌝ }
 {
-    let m = member_at(members, row);
+    let m = member_row(members, row);
     let hidden = m.hidden;
     let bit = m.bit;
     if hidden {

@@ -13,8 +13,8 @@ use crate::texts::text_length;
 use types::MemberTable;
 use types::Ty;
 use types::TypeTable;
-use types::member_at;
-use types::type_at;
+use types::member_row;
+use types::type_row;
 use words::wide;
 
 // Structure i.
@@ -29,7 +29,7 @@ pub fn text_struct(
         × (ImageOf (now types) i (now image) × (room ≤ 2147483648)) ⌝ }
     ensures { λ r. ⌜ Texts room (structOut (now (types .entry)) (now (members .entry)) i (now (image .entry))) r ⌝ }
 {
-    let d = type_at(types, i);
+    let d = type_row(types, i);
     let kind = d.kind;
     let string = is_string(kind);
     if string {
@@ -53,7 +53,7 @@ fn text_members(
         (membersBy (now (types .entry)) (now (members .entry)) (structOut (now (types .entry)) (now (members .entry))) i
         (now (image .entry))) r ⌝ }
 {
-    let d = type_at(types, i);
+    let d = type_row(types, i);
     let first = wide(d.first);
     let n = wide(d.count);
     let mut t: usize = 0;
@@ -89,7 +89,7 @@ fn text_nested(
         (memberBy (now (types .entry)) (now (members .entry)) (structOut (now (types .entry)) (now (members .entry))) j
         (memberAt (now (members .entry)) row) (now (image .entry))) r) ⌝ }
 {
-    let m = member_at(members, row);
+    let m = member_row(members, row);
     let start = wide(m.offset);
     let n = wide(m.count);
     let ty = m.ty;

@@ -12,8 +12,8 @@ use types::MemberTable;
 use types::StructKind;
 use types::Ty;
 use types::TypeTable;
-use types::member_at;
-use types::type_at;
+use types::member_row;
+use types::type_row;
 use words::wide;
 
 // A count of 0 is one.
@@ -31,7 +31,7 @@ pub fn struct_size(types: &TypeTable, i: usize) -> usize
     requires { ⌜ i < 200 ⌝ }
     ensures { λ r. ⌜ r ≡ sizesIn (now (types .entry)) i ⌝ }
 {
-    let d = type_at(types, i);
+    let d = type_row(types, i);
     wide(d.size)
 }
 
@@ -51,7 +51,7 @@ pub fn capacity_at(members: &MemberTable, first: usize) -> u32
     requires { ⌜ first < 1999 ⌝ }
     ensures { λ r. ⌜ r ≡ capacityAt (now (members .entry)) first ⌝ }
 {
-    let data = member_at(members, first + 1);
+    let data = member_row(members, first + 1);
     data.count
 }
 
@@ -60,7 +60,7 @@ pub fn is_nested(members: &MemberTable, row: usize) -> bool
     requires { ⌜ row < 2000 ⌝ }
     ensures { λ r. ⌜ r ≡ isNested (memberAt (now (members .entry)) row) ⌝ }
 {
-    let m = member_at(members, row);
+    let m = member_row(members, row);
     let hidden = m.hidden;
     let bit = m.bit;
     let ty = m.ty;
@@ -89,7 +89,7 @@ pub fn is_plain(members: &MemberTable, row: usize) -> bool
     requires { ⌜ row < 2000 ⌝ }
     ensures { λ r. ⌜ r ≡ isPlain (memberAt (now (members .entry)) row) ⌝ }
 {
-    let m = member_at(members, row);
+    let m = member_row(members, row);
     let hidden = m.hidden;
     let bit = m.bit;
     if hidden {

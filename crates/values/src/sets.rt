@@ -31,7 +31,7 @@ use types::Atomic;
 use types::Bit;
 use types::MemberTable;
 use types::Ty;
-use types::member_at;
+use types::member_row;
 use words::copy;
 use words::load32;
 use words::store8;
@@ -254,7 +254,7 @@ pub fn set_leaf(
         (write (memberTree trees (memberAt (now (members .entry)) row))
         (8 * base + firstBit (memberAt (now (members .entry)) row)) (leftAt (now (s .entry)) k))) ⌝ }
 {
-    let m = member_at(members, row);
+    let m = member_row(members, row);
     let bit = m.bit;
     let ty = m.ty;
     let count = wide(m.count);

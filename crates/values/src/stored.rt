@@ -11,7 +11,7 @@ use types::Refusal;
 use types::Ty;
 use types::TypeTable;
 use types::is_there;
-use types::type_at;
+use types::type_row;
 use words::wide;
 
 // 0 where an image of so many bytes holds a text of structure i, else the refusal's number.
@@ -19,7 +19,7 @@ fn string_number(types: &TypeTable, i: usize, long: usize) -> u8
     requires { ⌜ i < 200 ⌝ }
     ensures { λ r. ⌜ r ≡ stringNumber (now (types .entry)) i long ⌝ }
 {
-    let d = type_at(types, i);
+    let d = type_row(types, i);
     let kind = d.kind;
     let string = is_string(kind);
     if string {
@@ -59,7 +59,7 @@ fn text_bytes(types: &TypeTable, members: &MemberTable, ty: Ty, image: &[u8]) ->
             return 0;
         }
         Ty::Struct(i) => {
-            let d = type_at(types, i);
+            let d = type_row(types, i);
             let capacity = capacity_at(members, wide(d.first));
             return text_length(capacity, image);
         }

@@ -23,8 +23,8 @@ use crate::sets::clear;
 use types::MemberTable;
 use types::Ty;
 use types::TypeTable;
-use types::member_at;
-use types::type_at;
+use types::member_row;
+use types::type_row;
 use words::wide;
 
 // A bit for each row of the table of members.
@@ -42,7 +42,7 @@ pub fn normal_struct(
     ensures { λ _. ⌜ flat (now (image .exit))
         ≡ made (treeIn (now (types .entry)) (now (members .entry)) i) (8 * base) (flat (now (image .entry))) ⌝ }
 {
-    let d = type_at(types, i);
+    let d = type_row(types, i);
     let kind = d.kind;
     let first = wide(d.first);
     let count = wide(d.count);
@@ -66,7 +66,7 @@ fn sweep(types: &TypeTable, members: &MemberTable, i: usize, image: &mut [u8], b
         (membersAt (now (members .entry)) (typeAt (now (types .entry)) i .first)
         (typeAt (now (types .entry)) i .count)) 0 (flat (now (image .entry))) ⌝ }
 {
-    let d = type_at(types, i);
+    let d = type_row(types, i);
     let first = wide(d.first);
     let count = wide(d.count);
     let mut c: usize = 0;
@@ -97,7 +97,7 @@ fn normal_member(
     ensures { λ r. ⌜ OnwardTo (treeIn (now (types .entry)) (now (members .entry))) base c
         (memberAt (now (members .entry)) row) (now (image .entry)) (now (image .exit)) r ⌝ }
 {
-    let m = member_at(members, row);
+    let m = member_row(members, row);
     let start = wide(m.offset);
     let count = wide(m.count);
     let ty = m.ty;

@@ -22,8 +22,8 @@ use types::Bit;
 use types::MemberTable;
 use types::Ty;
 use types::TypeTable;
-use types::member_at;
-use types::type_at;
+use types::member_row;
+use types::type_row;
 use words::bit_at;
 use words::wide;
 
@@ -43,7 +43,7 @@ fn read_leaf(
     ensures { λ r. ⌜ Put (now (out .entry)) at
         (leafOut j (memberAt (now (members .entry)) row) (now (image .entry))) (now (out .exit)) r ⌝ }
 {
-    let m = member_at(members, row);
+    let m = member_row(members, row);
     let hidden = m.hidden;
     if hidden {
         return at;
@@ -89,7 +89,7 @@ pub fn read_struct(
     ensures { λ r. ⌜ Wrote (now (out .entry)) base at text
         (structOut (now (types .entry)) (now (members .entry)) i (now (image .entry))) (now (out .exit)) r ⌝ }
 {
-    let d = type_at(types, i);
+    let d = type_row(types, i);
     let kind = d.kind;
     let string = is_string(kind);
     if string {
@@ -117,7 +117,7 @@ fn read_members(
         (membersBy (now (types .entry)) (now (members .entry)) (structOut (now (types .entry)) (now (members .entry))) i
         (now (image .entry))) (now (out .exit)) r ⌝ }
 {
-    let d = type_at(types, i);
+    let d = type_row(types, i);
     let first = wide(d.first);
     let n = wide(d.count);
     put_entry(out, at, 8, 0);
@@ -168,7 +168,7 @@ fn read_nested(
         (memberAt (now (members .entry)) row) (now (image .entry))) (now (out .exit)) r ⌝ }
 {
     put_entry(out, at, 7, j as u64);
-    let m = member_at(members, row);
+    let m = member_row(members, row);
     let start = wide(m.offset);
     let n = wide(m.count);
     let ty = m.ty;

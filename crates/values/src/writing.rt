@@ -2,9 +2,10 @@
 // the first byte is set, so that a refusal leaves the image as it was.
 ghost use mathlib.Core.Path.{_≡_};
 ghost use mathlib.Core.Bool.{true};
-ghost use Prim.Native.Nat.{_*_, _%_, _^_, _<_};
+ghost use Prim.Native.Nat.{_*_, _%_, _^_, _<_, _≤_};
 ghost use Rattle.words.specs.Bits.{flat};
 ghost use Rattle.types.specs.Layout.{times};
+ghost use Rattle.types.specs.Refusal.{numberOf, placeOf};
 ghost use Rattle.types.specs.Tables.{TyFits};
 ghost use Rattle.types.specs.Waste.{sizeIn, sizesIn};
 ghost use Rattle.values.specs.Form.{streamOk};
@@ -12,7 +13,7 @@ ghost use Rattle.values.specs.Passes.{Applied, Checked, Told, accepted, 
 ghost use Rattle.values.specs.Trees.{knownIn, treeOfValue};
 ghost use Rattle.values.specs.Walkable.{ValueImage, Walkable};
 ghost use Rattle.values.specs.Writing.{write as writeIn};
-ghost use Rattle.values.specs.Written.{Done, Entered, entryRefusal};
+ghost use Rattle.values.specs.Written.{Done, Entered};
 use crate::apply::apply_elements;
 use crate::apply::apply_struct;
 use crate::checks::check_elements;
@@ -96,7 +97,8 @@ fn apply_value(
 
 // The refusal that a number and a place stand for.
 fn entry_refusal(number: usize, k: u32) -> Refusal
-    ensures { λ r. ⌜ r ≡ entryRefusal number k ⌝ }
+    requires { ⌜ (18 ≤ number) × (number ≤ 21) ⌝ }
+    ensures { λ r. ⌜ (numberOf r ≡ number) × (placeOf r ≡ k) ⌝ }
 {
     match number {
         19 => Refusal::NumberOutOfRange(k),

@@ -15,8 +15,8 @@ Inv-loop types members names i out₀ from count at₀ k₀ out at k =
 abbrev μ-loop : tie.MeasureT-loop
 μ-loop types members names i out₀ from count at₀ k₀ out at k = count - k
 
-type-at-requires : tie.Need-type-at-requires Inv-loop μ-loop
-type-at-requires c κs = search needs
+type-row-requires : tie.Need-type-row-requires Inv-loop μ-loop
+type-row-requires c κs = search needs
 
 wide-requires : tie.Need-wide-requires Inv-loop μ-loop
 wide-requires c κs = search needs
@@ -31,7 +31,7 @@ add-member-requires c κs =
       (
         s .pre .1 .0,
         (
-          member-below (c .before .before .before .wide .ensures) (c .before .before .before .before .type-at .ensures)
+          member-below (c .before .before .before .wide .ensures) (c .before .before .before .before .type-row .ensures)
               (c .before .loop-test .taken),
           (omega arith, omega arith),
         ),
@@ -59,7 +59,7 @@ add-members-spec =
     (tie.spec
     Inv-loop
     μ-loop
-    type-at-requires
+    type-row-requires
     wide-requires
     loop-holds
     add-member-requires

@@ -5,18 +5,18 @@ use Rattle.replies.proofs.TableLaws.{count-few, kept-countable}
 use Rattle.replies.proofs.describe.put_type.Statement.{statement}
 use Rattle.replies.proofs.describe.put_type.Tie as tie
 
-type-at-requires : tie.Need-type-at-requires
-type-at-requires c κs = omega (arith, c .before .pre .1, count-few (c .before .args .types .now))
+type-row-requires : tie.Need-type-row-requires
+type-row-requires c κs = omega (arith, c .before .pre .1, count-few (c .before .args .types .now))
 
 template-len-requires : tie.Need-template-len-requires
 template-len-requires c κs =
     let start = c .before .before in
-    kept-countable (start .pre .0) _ (start .pre .1) (c .type-at .ensures) .rows
+    kept-countable (start .pre .0) _ (start .pre .1) (c .type-row .ensures) .rows
 
 waste-requires : tie.Need-waste-requires
 waste-requires c κs =
     let start = c .before .before .before in
-    kept-countable (start .pre .0) _ (start .pre .1) (c .before .type-at .ensures)
+    kept-countable (start .pre .0) _ (start .pre .1) (c .before .type-row .ensures)
 
 accept-requires : tie.Need-accept-requires
 accept-requires c κs = search needs
@@ -40,7 +40,7 @@ pub put-type-spec : {M : Type 1} → statement M
 put-type-spec =
     tie.close
     (tie.spec
-    type-at-requires
+    type-row-requires
     template-len-requires
     waste-requires
     accept-requires

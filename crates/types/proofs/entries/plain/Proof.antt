@@ -18,8 +18,8 @@ at-most-four-requires c κs = search needs
 enum-known-ty-2 : tie.Need-enum-known-ty-2
 enum-known-ty-2 c = search needs
 
-type-at-requires : tie.Need-type-at-requires
-type-at-requires c κs = rw (c .before .ty2 .given .1) at (c .before .before .before .pre)
+type-row-requires : tie.Need-type-row-requires
+type-row-requires c κs = rw (c .before .ty2 .given .1) at (c .before .before .before .pre)
 
 returns : tie.Need-returns
 returns c =
@@ -27,7 +27,7 @@ returns c =
     rw (c .at-most-four .ensures, c .before .wide8 .ensures, size .size .ensures, size .before .before .ty .given .1)
 
 returns-2 : tie.Need-returns-2
-returns-2 c = rw (c .type-at .ensures, c .before .before .ty2 .given .1)
+returns-2 c = rw (c .type-row .ensures, c .before .before .ty2 .given .1)
 
 pub plain-spec : {M : Type 1} → statement M
 plain-spec =
@@ -38,6 +38,6 @@ plain-spec =
     wide8-requires
     at-most-four-requires
     enum-known-ty-2
-    type-at-requires
+    type-row-requires
     returns
     returns-2)

@@ -11,7 +11,7 @@ use Rattle.types.proofs.header.header_in.Statement.{statement}
 use Rattle.types.proofs.header.header_in.Tie as tie
 
 -- a handle has 16 bits
-small : (c : tie.After-type-at)
+small : (c : tie.After-type-row)
     → typeAt (c .before .before .before .before .args .types .now) (c .before .before .ty2 .given .0 .0) .handle < 65536
 unfolding typeAt
 small c = omega arith
@@ -28,8 +28,8 @@ returns c = rw (c .before .before .ty .given .1, c .code .ensures)
 enum-known-ty-2 : tie.Need-enum-known-ty-2
 enum-known-ty-2 c = search needs
 
-type-at-requires : tie.Need-type-at-requires
-type-at-requires c κs = rw (c .before .ty2 .given .1) at (c .before .before .before .pre)
+type-row-requires : tie.Need-type-row-requires
+type-row-requires c κs = rw (c .before .ty2 .given .1) at (c .before .before .before .pre)
 
 low8-requires : tie.Need-low8-requires
 low8-requires c κs = search needs
@@ -40,7 +40,7 @@ high8-requires c κs = search needs
 returns-2 : tie.Need-returns-2
 returns-2 c =
     let d = c .before .before in
-    rw (d .before .before .ty2 .given .1, c .high8 .ensures, c .before .low8 .ensures, d .type-at .ensures)
+    rw (d .before .before .ty2 .given .1, c .high8 .ensures, c .before .low8 .ensures, d .type-row .ensures)
     (ap (λ (l : List ℕ). held (0xA0 ∷ 0x02 ∷ l)) (two-bytes _ (small d)))
 
 pub header-in-spec : {M : Type 1} → statement M
@@ -51,7 +51,7 @@ header-in-spec =
     code-requires
     returns
     enum-known-ty-2
-    type-at-requires
+    type-row-requires
     low8-requires
     high8-requires
     returns-2)

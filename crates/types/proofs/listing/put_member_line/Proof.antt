@@ -8,38 +8,38 @@ use Rattle.types.proofs.ListingLaws.{row-short, row-named, row-left}
 use Rattle.types.proofs.listing.put_member_line.Statement.{statement}
 use Rattle.types.proofs.listing.put_member_line.Tie as tie
 
-abbrev first : tie.After-name-at → tie.After-wide
+abbrev first : tie.After-name-row → tie.After-wide
 first c = c .before .before
 
-abbrev start : tie.After-name-at → tie.Start
+abbrev start : tie.After-name-row → tie.Start
 start c = first c .before .before .before
 
 -- the fields as the code has them
-abbrev fields : tie.After-name-at → List (List ℕ)
+abbrev fields : tie.After-name-row → List (List ℕ)
 fields c =
     let a = start c .args in
-    memberFields (a .types .now) (a .names .now) (a .k) (c .before .member-at .result) (c .name-at .result)
+    memberFields (a .types .now) (a .names .now) (a .k) (c .before .member-row .result) (c .name-row .result)
 
-named : (c : tie.After-name-at) → TypeNamed (start c .args .types .now) (c .before .member-at .result .ty)
+named : (c : tie.After-name-row) → TypeNamed (start c .args .types .now) (c .before .member-row .result .ty)
 named c =
     let p = start c .pre in
-    row-named (first c .before .type-at .ensures) (first c .wide .ensures) (p .1 .1 .0) (p .1 .0)
-    (c .before .member-at .ensures)
+    row-named (first c .before .type-row .ensures) (first c .wide .ensures) (p .1 .1 .0) (p .1 .0)
+    (c .before .member-row .ensures)
 
-short : (c : tie.After-name-at) → Short (c .name-at .result)
+short : (c : tie.After-name-row) → Short (c .name-row .result)
 short c =
     let p = start c .pre in
-    row-short (first c .before .type-at .ensures) (first c .wide .ensures) (p .1 .1 .0) (p .1 .0) (c .name-at .ensures)
+    row-short (first c .before .type-row .ensures) (first c .wide .ensures) (p .1 .1 .0) (p .1 .0) (c .name-row .ensures)
 
-all : (c : tie.After-name-at)
+all : (c : tie.After-name-row)
     → Left (line (fields c)) 0 (start c .args .out .now) (fields c) 0 (start c .args .out .now)
 all c =
     let p = start c .pre in
-    row-left (first c .before .type-at .ensures) (first c .wide .ensures) (p .1 .1 .0) (p .1 .0)
-    (start c .args .names .now) (c .before .member-at .ensures) (c .name-at .ensures) (p .1 .1 .1)
+    row-left (first c .before .type-row .ensures) (first c .wide .ensures) (p .1 .1 .0) (p .1 .0)
+    (start c .args .names .now) (c .before .member-row .ensures) (c .name-row .ensures) (p .1 .1 .1)
 
-type-at-requires : tie.Need-type-at-requires
-type-at-requires c κs = search needs
+type-row-requires : tie.Need-type-row-requires
+type-row-requires c κs = search needs
 
 wide-requires : tie.Need-wide-requires
 wide-requires c κs = search needs
@@ -47,16 +47,16 @@ wide-requires c κs = search needs
 add-row : tie.Need-add-row
 add-row c = search needs
 
-member-at-requires : tie.Need-member-at-requires
-member-at-requires c κs =
+member-row-requires : tie.Need-member-row-requires
+member-row-requires c κs =
     let pre = c .before .before .before .pre in
-    row-below (c .before .type-at .ensures) (c .wide .ensures) (pre .1 .1 .0) (pre .1 .0)
+    row-below (c .before .type-row .ensures) (c .wide .ensures) (pre .1 .1 .0) (pre .1 .0)
 
-name-at-requires : tie.Need-name-at-requires
-name-at-requires c κs =
+name-row-requires : tie.Need-name-row-requires
+name-row-requires c κs =
     let at-first = c .before in
     let pre = at-first .before .before .before .pre in
-    row-below (at-first .before .type-at .ensures) (at-first .wide .ensures) (pre .1 .1 .0) (pre .1 .0)
+    row-below (at-first .before .type-row .ensures) (at-first .wide .ensures) (pre .1 .1 .0) (pre .1 .0)
 
 put-number-requires : tie.Need-put-number-requires
 put-number-requires c κs = left-room (all (c .before))
@@ -101,20 +101,20 @@ returns c =
     let l3 = left-on l2 (n3 .put-type-name .ensures) in
     let a = start w .args in
     let p = start w .pre in
-    let row = row-same (first w .before .type-at .ensures) (first w .wide .ensures) (p .1 .1 .0) (p .1 .0) in
-    rw (← row, ← w .before .member-at .ensures, ← w .name-at .ensures)
-    (member-lined (a .types .now) (a .names .now) (a .k) (w .before .member-at .result) (w .name-at .result)
+    let row = row-same (first w .before .type-row .ensures) (first w .wide .ensures) (p .1 .1 .0) (p .1 .0) in
+    rw (← row, ← w .before .member-row .ensures, ← w .name-row .ensures)
+    (member-lined (a .types .now) (a .names .now) (a .k) (w .before .member-row .result) (w .name-row .result)
     (l3 .then _ _ (n4 .put-place .ensures)))
 
 pub put-member-line-spec : {M : Type 1} → statement M
 put-member-line-spec =
     tie.close
     (tie.spec
-    type-at-requires
+    type-row-requires
     wide-requires
     add-row
-    member-at-requires
-    name-at-requires
+    member-row-requires
+    name-row-requires
     put-number-requires
     put-seen-requires
     put-type-name-requires

@@ -16,25 +16,25 @@ names c = start c .args .names .now
 -- the fields as the code has them
 abbrev fields : tie.After-waste → List (List ℕ)
 fields c =
-    typeFields (names c) (c .before .before .before .type-at .result) (c .before .template-len .result)
+    typeFields (names c) (c .before .before .before .type-row .result) (c .before .template-len .result)
     (c .waste .result)
 
 known : (c : tie.After-waste)
-    → Listable (start c .args .types .now) (start c .args .members .now) (c .before .before .before .type-at .result)
-known c = listed (c .before .before .before .type-at .ensures) (start c .pre .1 .0)
+    → Listable (start c .args .types .now) (start c .args .members .now) (c .before .before .before .type-row .result)
+known c = listed (c .before .before .before .type-row .ensures) (start c .pre .1 .0)
 
 all : (c : tie.After-waste)
     → Left (line (fields c)) 0 (start c .args .out .now) (fields c) 0 (start c .args .out .now)
-all c = type-left (names c) (c .before .before .before .type-at .result) _ _ (known c .name) (start c .pre .1 .1)
+all c = type-left (names c) (c .before .before .before .type-row .result) _ _ (known c .name) (start c .pre .1 .1)
 
-type-at-requires : tie.Need-type-at-requires
-type-at-requires c κs = search needs
+type-row-requires : tie.Need-type-row-requires
+type-row-requires c κs = search needs
 
 template-len-requires : tie.Need-template-len-requires
-template-len-requires c κs = listed (c .before .type-at .ensures) (c .before .before .before .pre .1 .0) .rows .rows
+template-len-requires c κs = listed (c .before .type-row .ensures) (c .before .before .before .pre .1 .0) .rows .rows
 
 waste-requires : tie.Need-waste-requires
-waste-requires c κs = listed (c .before .before .type-at .ensures) (c .before .before .before .before .pre .1 .0) .rows
+waste-requires c κs = listed (c .before .before .type-row .ensures) (c .before .before .before .before .pre .1 .0) .rows
 
 slice-aggregate-put-field : tie.Need-slice-aggregate-put-field
 slice-aggregate-put-field c = search needs
@@ -67,7 +67,7 @@ returns c =
     let w = n1 .before .before .before in
     let l1 = left-on (all w) (n1 .put-field .ensures) in
     let l2 = left-on l1 (n2 .put-name .ensures) in
-    let d = w .before .before .before .type-at in
+    let d = w .before .before .before .type-row in
     let bytes = w .before .template-len in
     rw (← d .ensures, ← bytes .ensures, ← w .waste .ensures (names w))
     (type-lined (names w) (d .result) (bytes .result) (w .waste .result) (l2 .then _ _ (n3 .put-numbers .ensures)))
@@ -76,7 +76,7 @@ pub put-type-line-spec : {M : Type 1} → statement M
 put-type-line-spec =
     tie.close
     (tie.spec
-    type-at-requires
+    type-row-requires
     template-len-requires
     waste-requires
     slice-aggregate-put-field

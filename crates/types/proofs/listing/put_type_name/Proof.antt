@@ -23,8 +23,8 @@ returns c =
 enum-known-ty-2 : tie.Need-enum-known-ty-2
 enum-known-ty-2 c = search needs
 
-type-at-requires : tie.Need-type-at-requires
-type-at-requires c κs =
+type-row-requires : tie.Need-type-row-requires
+type-row-requires c κs =
     let told = c .before in
     struct-named (told .ty2 .given .1) (told .before .before .before .before .pre .0) .row
 
@@ -34,8 +34,8 @@ put-name-requires c κs =
     let told = at-type .before .before in
     let pre = told .before .before .before .before .pre in
     let named = struct-named (told .ty2 .given .1) (pre .0) in (
-      rw (at-type .type-at .ensures, pre .1 .0) (named .name .inside),
-      rw (at-type .type-at .ensures) (rw (told .ty2 .given .1) at (pre .1 .1)),
+      rw (at-type .type-row .ensures, pre .1 .0) (named .name .inside),
+      rw (at-type .type-row .ensures) (rw (told .ty2 .given .1) at (pre .1 .1)),
     )
 
 same-length-2 : tie.Need-same-length-2
@@ -45,7 +45,7 @@ returns-2 : tie.Need-returns-2
 returns-2 c =
     let at-name = c .before .before in
     let at-type = at-name .before .before .before in
-    rw (at-type .before .before .ty2 .given .1) (rw (at-type .type-at .ensures) at (at-name .put-name .ensures))
+    rw (at-type .before .before .ty2 .given .1) (rw (at-type .type-row .ensures) at (at-name .put-name .ensures))
 
 pub put-type-name-spec : {M : Type 1} → statement M
 put-type-name-spec =
@@ -56,7 +56,7 @@ put-type-name-spec =
     same-length
     returns
     enum-known-ty-2
-    type-at-requires
+    type-row-requires
     put-name-requires
     same-length-2
     returns-2)

@@ -33,8 +33,8 @@ loop-holds c =
     turn-first (λ j. namesFrom (a .members .now) (a .names .now) (first .result + j) (n .result - j)) (n .result)
     (rw (add-zero, sub-zero)) (rw (first .ensures, n .ensures) (at-start .pre .room))
 
-add-name-at : tie.Need-add-name-at Inv-loop μ-loop
-add-name-at c =
+add-name-row : tie.Need-add-name-row Inv-loop μ-loop
+add-name-row c =
     let at-n = c .before .before in
     let at-first = at-n .before in
     let at-start = at-first .before .before .before in
@@ -42,8 +42,8 @@ add-name-at c =
     let inside = row-inside first (at-n .wide2 .ensures) (c .loop-test .taken) (at-start .pre .rows) in
     omega arith
 
-name-at-requires : tie.Need-name-at-requires Inv-loop μ-loop
-name-at-requires c κs =
+name-row-requires : tie.Need-name-row-requires Inv-loop μ-loop
+name-row-requires c κs =
     let at-n = c .before .before in
     let at-first = at-n .before in
     let at-start = at-first .before .before .before in
@@ -63,7 +63,7 @@ emit-name-requires c κs =
     let n = at-n .wide2 in
     let inside = turn .loop-test .taken in
     let is = names-on (a .members .now) (a .names .now) (first .result) (n .result) (l .i) inside in
-    rw (c .before .name-at .ensures) (
+    rw (c .before .name-row .ensures) (
       row-name (first .ensures) (n .ensures) inside (at-start .pre .rows) (a .names .now) (at-start .pre .table),
       left-room _ _ is (l .inv .rest),
     )
@@ -74,8 +74,8 @@ slice-aggregate-emit c = search needs
 emit-requires : tie.Need-emit-requires Inv-loop μ-loop
 emit-requires c κs =
     let at-emit-name = c .before .before .before .before in
-    let at-name-at = at-emit-name .before .before in
-    let turn = at-name-at .before in
+    let at-name-row = at-emit-name .before .before in
+    let turn = at-name-row .before in
     let at-loop = turn .before in
     let at-n = at-loop .before in
     let at-first = at-n .before in
@@ -83,7 +83,7 @@ emit-requires c κs =
     let a = at-start .args in
     let l = at-loop .loop in
     let named = name-came (a .members .now) (a .names .now) (at-first .wide .result) (at-n .wide2 .result) (l .i)
-    (turn .loop-test .taken) (at-name-at .name-at .ensures) (l .inv .rest) (at-emit-name .emit-name .ensures) in
+    (turn .loop-test .taken) (at-name-row .name-row .ensures) (l .inv .rest) (at-emit-name .emit-name .ensures) in
     left-room (0 ∷ []) _ refl named
 
 add-i : tie.Need-add-i Inv-loop μ-loop
@@ -96,8 +96,8 @@ loop-again : tie.Need-loop-again Inv-loop μ-loop
 loop-again c =
     let at-emit = c .before .before in
     let at-emit-name = at-emit .before .before .before .before .before in
-    let at-name-at = at-emit-name .before .before in
-    let turn = at-name-at .before in
+    let at-name-row = at-emit-name .before .before in
+    let turn = at-name-row .before in
     let at-loop = turn .before in
     let at-n = at-loop .before in
     let at-first = at-n .before in
@@ -105,7 +105,7 @@ loop-again c =
     let a = at-start .args in
     let l = at-loop .loop in
     let named = name-came (a .members .now) (a .names .now) (at-first .wide .result) (at-n .wide2 .result) (l .i)
-    (turn .loop-test .taken) (at-name-at .name-at .ensures) (l .inv .rest) (at-emit-name .emit-name .ensures) in
+    (turn .loop-test .taken) (at-name-row .name-row .ensures) (l .inv .rest) (at-emit-name .emit-name .ensures) in
     record { inside = omega arith; rest = left-on _ refl named (at-emit .emit .ensures) }
 
 same-length : tie.Need-same-length Inv-loop μ-loop
@@ -129,8 +129,8 @@ emit-names-spec =
     wide-requires
     wide-requires-2
     loop-holds
-    add-name-at
-    name-at-requires
+    add-name-row
+    name-row-requires
     emit-name-requires
     slice-aggregate-emit
     emit-requires

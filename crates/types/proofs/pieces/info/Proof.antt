@@ -7,8 +7,8 @@ use Rattle.types.proofs.TemplateLaws.{info-bytes}
 use Rattle.types.proofs.pieces.info.Statement.{statement}
 use Rattle.types.proofs.pieces.info.Tie as tie
 
-member-at-requires : tie.Need-member-at-requires
-member-at-requires c κs = search needs
+member-row-requires : tie.Need-member-row-requires
+member-row-requires c κs = search needs
 
 slice-aggregate-store16 : tie.Need-slice-aggregate-store16
 slice-aggregate-store16 c = search needs
@@ -24,9 +24,9 @@ slice-aggregate-store16-2 c = search needs
 
 type-in-requires : tie.Need-type-in-requires
 type-in-requires c κs =
-    let at-member-at = c .before .before .before .before .before in
-    let at-start = at-member-at .before in
-    rw (at-member-at .member-at .ensures) (at-start .pre .1)
+    let at-member-row = c .before .before .before .before .before in
+    let at-start = at-member-row .before in
+    rw (at-member-row .member-row .ensures) (at-start .pre .1)
 
 low16-requires : tie.Need-low16-requires
 low16-requires c κs = search needs
@@ -47,9 +47,9 @@ returns c =
     let at-type-in = at-low16 .before in
     let at-store16 = at-type-in .before .before .before in
     let at-info-of = at-store16 .before in
-    let at-member-at = at-info-of .before .before in
-    let at-start = at-member-at .before in
-    let m = at-member-at .member-at in
+    let at-member-row = at-info-of .before .before in
+    let at-start = at-member-row .before in
+    let m = at-member-row .member-row in
     let ids = idsIn (at-start .args .types .now) in
     let ty = at-low16 .low16 .ensures ∙ ap (λ (x : ℕ). x % 65536) (at-type-in .type-in .ensures) in
     rw (c .before .store32 .ensures, at-store162 .store162 .ensures, at-store16 .store16 .ensures)
@@ -59,7 +59,7 @@ pub info-spec : {M : Type 1} → statement M
 info-spec =
     tie.close
     (tie.spec
-    member-at-requires
+    member-row-requires
     slice-aggregate-store16
     info-of-requires
     store16-requires

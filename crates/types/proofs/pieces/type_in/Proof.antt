@@ -15,8 +15,8 @@ cast-result c = search needs
 enum-known-ty-2 : tie.Need-enum-known-ty-2
 enum-known-ty-2 c = search needs
 
-type-at-requires : tie.Need-type-at-requires
-type-at-requires c κs = rw (c .before .ty2 .given .1) at (c .before .before .before .pre)
+type-row-requires : tie.Need-type-row-requires
+type-row-requires c κs = rw (c .before .ty2 .given .1) at (c .before .before .before .pre)
 
 cast-result-2 : tie.Need-cast-result-2
 cast-result-2 c = search needs
@@ -28,7 +28,7 @@ returns : tie.Need-returns
 returns c = rw (c .before .before .ty .given .1) (c .code .ensures)
 
 returns-2 : tie.Need-returns-2
-returns-2 c = rw (c .before .before .before .ty2 .given .1, c .before .type-at .ensures)
+returns-2 c = rw (c .before .before .before .ty2 .given .1, c .before .type-row .ensures)
 
 pub type-in-spec : {M : Type 1} → statement M
 type-in-spec =
@@ -38,7 +38,7 @@ type-in-spec =
     code-requires
     cast-result
     enum-known-ty-2
-    type-at-requires
+    type-row-requires
     cast-result-2
     add-result
     returns

@@ -18,15 +18,15 @@ returns-2 c =
     let arm = c .before .before in
     rw (arm .ty .given .1) (no-row (arm .before .before .args .types .now) _ (c .if1 .taken))
 
-type-at-requires : tie.Need-type-at-requires
-type-at-requires c κs = search needs
+type-row-requires : tie.Need-type-row-requires
+type-row-requires c κs = search needs
 
 returns-3 : tie.Need-returns-3
 returns-3 c =
     let arm = c .before .before .before in
     rw (arm .ty .given .1)
-    (row-used (arm .before .before .args .types .now) _ (c .before .if1 .left) (c .type-at .ensures))
+    (row-used (arm .before .before .args .types .now) _ (c .before .if1 .left) (c .type-row .ensures))
 
 pub is-there-spec : {M : Type 1} → statement M
 is-there-spec =
-    tie.close (tie.spec enum-told returns enum-known-ty returns-2 type-at-requires returns-3)
+    tie.close (tie.spec enum-told returns enum-known-ty returns-2 type-row-requires returns-3)

@@ -10,8 +10,8 @@ returns c =
     let a = at-start .args in
     no-row (a .types .now) (a .members .now) (a .names .now) (a .n) (a .out .now) (c .if1 .taken)
 
-type-at-requires : tie.Need-type-at-requires
-type-at-requires c κs = search needs
+type-row-requires : tie.Need-type-row-requires
+type-row-requires c κs = search needs
 
 returns-2 : tie.Need-returns-2
 returns-2 c =
@@ -19,15 +19,15 @@ returns-2 c =
     let at-start = at-inside .before .before in
     let a = at-start .args in
     no-id (a .types .now) (a .members .now) (a .names .now) (a .n) (a .out .now)
-    (at-inside .if1 .left) (c .before .type-at .ensures) (c .if2 .taken)
+    (at-inside .if1 .left) (c .before .type-row .ensures) (c .if2 .taken)
 
 template-len-requires : tie.Need-template-len-requires
 template-len-requires c κs =
     let at-inside = c .before .before in
     let at-start = at-inside .before .before in
     let a = at-start .args in
-    let used = rw (c .before .type-at .ensures) at (c .if2 .left) in
-    rw (c .before .type-at .ensures) (at-start .pre (a .n) (at-inside .if1 .left) used)
+    let used = rw (c .before .type-row .ensures) at (c .if2 .left) in
+    rw (c .before .type-row .ensures) (at-start .pre (a .n) (at-inside .if1 .left) used)
 
 cast-if3 : tie.Need-cast-if3
 cast-if3 c = search needs
@@ -40,7 +40,7 @@ returns-3 c =
     let at-start = at-inside .before .before in
     let a = at-start .args in
     no-room (a .types .now) (a .members .now) (a .names .now) (a .n) (a .out .now)
-    (at-inside .if1 .left) (at-row .type-at .ensures) (at-used .if2 .left)
+    (at-inside .if1 .left) (at-row .type-row .ensures) (at-used .if2 .left)
     (rw (c .before .template-len .ensures) at (c .if3 .taken))
 
 write-template-requires : tie.Need-write-template-requires
@@ -51,9 +51,9 @@ write-template-requires c κs =
     let at-inside = at-row .before in
     let at-start = at-inside .before .before in
     let a = at-start .args in
-    let used = rw (at-row .type-at .ensures) at (at-used .if2 .left) in
+    let used = rw (at-row .type-row .ensures) at (at-used .if2 .left) in
     let fits = rw (at-long .template-len .ensures) at (c .before .if3 .left) in
-    (rw (at-row .type-at .ensures) (at-start .pre (a .n) (at-inside .if1 .left) used), fits)
+    (rw (at-row .type-row .ensures) (at-start .pre (a .n) (at-inside .if1 .left) used), fits)
 
 same-length : tie.Need-same-length
 same-length c = search needs
@@ -71,7 +71,7 @@ returns-4 c =
     let long = at-long .template-len .ensures in
     rw (long, at-write-template .write-template .ensures)
     (room (a .types .now) (a .members .now) (a .names .now) (a .n) (a .out .now)
-    (at-inside .if1 .left) (at-row .type-at .ensures) (at-used .if2 .left)
+    (at-inside .if1 .left) (at-row .type-row .ensures) (at-used .if2 .left)
     (rw long at (at-room .if3 .left)))
 
 pub struct-template-spec : {M : Type 1} → statement M
@@ -79,7 +79,7 @@ struct-template-spec =
     tie.close
     (tie.spec
     returns
-    type-at-requires
+    type-row-requires
     returns-2
     template-len-requires
     cast-if3

@@ -15,8 +15,8 @@ cast-result c = search needs
 enum-known-ty-2 : tie.Need-enum-known-ty-2
 enum-known-ty-2 c = search needs
 
-type-at-requires : tie.Need-type-at-requires
-type-at-requires c κs = rw (c .before .ty2 .given .1) at (c .before .before .before .pre)
+type-row-requires : tie.Need-type-row-requires
+type-row-requires c κs = rw (c .before .ty2 .given .1) at (c .before .before .before .pre)
 
 wide64-requires : tie.Need-wide64-requires
 wide64-requires c κs = search needs
@@ -25,7 +25,7 @@ returns : tie.Need-returns
 returns c = rw (c .before .before .ty .given .1) (c .size .ensures)
 
 returns-2 : tie.Need-returns-2
-returns-2 c = rw (c .before .before .before .ty2 .given .1, c .wide64 .ensures, c .before .type-at .ensures)
+returns-2 c = rw (c .before .before .before .ty2 .given .1, c .wide64 .ensures, c .before .type-row .ensures)
 
 pub size-in-spec : {M : Type 1} → statement M
 size-in-spec =
@@ -35,7 +35,7 @@ size-in-spec =
     size-requires
     cast-result
     enum-known-ty-2
-    type-at-requires
+    type-row-requires
     wide64-requires
     returns
     returns-2)

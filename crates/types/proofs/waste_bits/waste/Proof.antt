@@ -33,8 +33,8 @@ loop-holds c =
     let a = at-start .args in
     count-first (a .types .now) (a .members .now) (at-first .wide .result) (c .before .wide2 .result)
 
-add-member-at : tie.Need-add-member-at Inv-loop μ-loop
-add-member-at c =
+add-member-row : tie.Need-add-member-row Inv-loop μ-loop
+add-member-row c =
     let at-n = c .before .before .before in
     let at-first = at-n .before in
     let at-start = at-first .before in
@@ -42,8 +42,8 @@ add-member-at c =
     (at-start .pre .rows) in
     omega arith
 
-member-at-requires : tie.Need-member-at-requires Inv-loop μ-loop
-member-at-requires c κs =
+member-row-requires : tie.Need-member-row-requires Inv-loop μ-loop
+member-row-requires c κs =
     let at-n = c .before .before .before in
     let at-first = at-n .before in
     let at-start = at-first .before in
@@ -55,7 +55,7 @@ seen-bits-requires c κs =
     let at-n = c .before .before .before .before in
     let at-first = at-n .before in
     let at-start = at-first .before in
-    rw (c .member-at .ensures)
+    rw (c .member-row .ensures)
     (row-fitting (at-first .wide .ensures) (at-n .wide2 .ensures) (c .before .loop-test .taken) (at-start .pre))
 
 add-bits : tie.Need-add-bits Inv-loop μ-loop
@@ -80,7 +80,7 @@ loop-again c =
     let turn = c .before .before in
     let at-loop = turn .before in
     count-on (at-loop .loop .inv) (turn .loop-test .taken)
-    (rw (c .before .member-at .ensures) at (c .seen-bits .ensures))
+    (rw (c .before .member-row .ensures) at (c .seen-bits .ensures))
 
 returns : tie.Need-returns Inv-loop μ-loop
 returns c =
@@ -115,8 +115,8 @@ waste-spec =
     wide64-requires
     mul-total
     loop-holds
-    add-member-at
-    member-at-requires
+    add-member-row
+    member-row-requires
     seen-bits-requires
     add-bits
     add-i

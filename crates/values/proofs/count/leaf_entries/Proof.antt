@@ -7,12 +7,12 @@ use Rattle.values.proofs.CountLeaves.{atomics-few, leaf-hidden, leaf-bi
 use Rattle.values.proofs.count.leaf_entries.Statement.{statement}
 use Rattle.values.proofs.count.leaf_entries.Tie as tie
 
-member-at-requires : tie.Need-member-at-requires
-member-at-requires c κs = search needs
+member-row-requires : tie.Need-member-row-requires
+member-row-requires c κs = search needs
 
 returns : tie.Need-returns
 returns c =
-    let m = c .before .member-at in
+    let m = c .before .member-row in
     (λ j. rw (← m .ensures) (leaf-hidden (m .result) j (c .if1 .taken)), omega arith)
 
 wide-requires : tie.Need-wide-requires
@@ -24,7 +24,7 @@ enum-told c = search needs
 returns-2 : tie.Need-returns-2
 returns-2 c =
     let else1 = c .before .before .before in
-    let m = else1 .before .member-at in
+    let m = else1 .before .member-row in
     (λ j. rw (← m .ensures) (leaf-bit (m .result) j (else1 .if1 .left) (c .enum-told .given .1)), omega arith)
 
 enum-told-2 : tie.Need-enum-told-2
@@ -52,7 +52,7 @@ returns-3 c =
     let at-none = at-ty .before .before in
     let at-wide = at-none .before .before in
     let else1 = at-wide .before in
-    let m = else1 .before .member-at in (
+    let m = else1 .before .member-row in (
       λ j. rw (← m .ensures)
           (leaf-atomic (m .result) j (else1 .if1 .left) (at-none .enum-told2 .given .1) (at-ty .ty .given .1)
           (at-wide .wide .ensures) (c .atomic-entries .ensures)),
@@ -66,7 +66,7 @@ returns-4 : tie.Need-returns-4
 returns-4 c =
     let at-none = c .before .before in
     let else1 = at-none .before .before .before in
-    let m = else1 .before .member-at in (
+    let m = else1 .before .member-row in (
       λ j. rw (← m .ensures)
           (leaf-struct (m .result) j (else1 .if1 .left) (at-none .enum-told2 .given .1) (c .enum-told3 .given .1)),
       omega arith,
@@ -76,7 +76,7 @@ pub leaf-entries-spec : {M : Type 1} → statement M
 leaf-entries-spec =
     tie.close
     (tie.spec
-    member-at-requires
+    member-row-requires
     returns
     wide-requires
     enum-told

@@ -10,8 +10,8 @@ use Rattle.values.proofs.FitRunLaws.{few}
 use Rattle.values.proofs.fits.check_leaf.Statement.{statement}
 use Rattle.values.proofs.fits.check_leaf.Tie as tie
 
-member-at-requires : tie.Need-member-at-requires
-member-at-requires c κs = search needs
+member-row-requires : tie.Need-member-row-requires
+member-row-requires c κs = search needs
 
 wide-requires : tie.Need-wide-requires
 wide-requires c κs = search needs
@@ -25,7 +25,7 @@ check-atomic-requires c κs = search needs
 returns : tie.Need-returns
 returns c =
     let at-bit = c .before in
-    let m = at-bit .before .before .before .member-at in
+    let m = at-bit .before .before .before .member-row in
     rw (← m .ensures) (member-bit (m .result) (at-bit .enum-told .given .1) (c .check-atomic .ensures))
 
 enum-told-2 : tie.Need-enum-told-2
@@ -46,7 +46,7 @@ returns-2 c =
     let at-ty = c .before .before in
     let at-none = at-ty .before .before in
     let at-wide = at-none .before .before in
-    let m = at-wide .before .member-at in
+    let m = at-wide .before .member-row in
     rw (← m .ensures)
     (member-atomic (m .result) (at-none .enum-told2 .given .1) (at-ty .ty .given .1) (at-wide .wide .ensures)
     (c .check-atomics .ensures))
@@ -65,7 +65,7 @@ returns-3 c =
     let at-none = at-struct .before .before in
     let known = at-none .before .before .before in
     let row = known .before .before .pre .1 in
-    let m = known .member-at in
+    let m = known .member-row in
     absurd
     (member-struct (m .result) (ap (λ (x : Member). x .hidden) (m .ensures) ∙ row .visible)
     (ap isNested (m .ensures) ∙ row .flat) (at-none .enum-told2 .given .1) (at-struct .enum-told3 .given .1))
@@ -74,7 +74,7 @@ pub check-leaf-spec : {M : Type 1} → statement M
 check-leaf-spec =
     tie.close
     (tie.spec
-    member-at-requires
+    member-row-requires
     wide-requires
     enum-told
     check-atomic-requires

@@ -14,24 +14,24 @@ here : (c : tie.After-wide)
     → let arm = c .before .before .before .before in
     let seen = arm .before .before in
     let a = start c .args in
-    FlagHere (now (a .members)) (a .row) (a .base) (now (a .image)) (seen .before .member-at .result)
+    FlagHere (now (a .members)) (a .row) (a .base) (now (a .image)) (seen .before .member-row .result)
     (c .wide .result) (arm .bit .given .0 .0)
 here c =
     let arm = c .before .before .before .before in
     let seen = arm .before .before in
     record {
-      is = seen .before .member-at .ensures;
+      is = seen .before .member-row .ensures;
       here = start c .pre .0;
       place = c .wide .ensures;
       shown = seen .if1 .left;
       bit = arm .bit .given .1;
     }
 
-member-at-requires : tie.Need-member-at-requires
-member-at-requires c κs = search needs
+member-row-requires : tie.Need-member-row-requires
+member-row-requires c κs = search needs
 
 returns : tie.Need-returns
-returns c = unflagged-hidden _ _ (c .before .member-at .ensures) (c .if1 .taken)
+returns c = unflagged-hidden _ _ (c .before .member-row .ensures) (c .if1 .taken)
 
 enum-known-bit : tie.Need-enum-known-bit
 enum-known-bit c = search needs
@@ -68,13 +68,13 @@ returns-2 c =
 returns-3 : tie.Need-returns-3
 returns-3 c =
     let seen = c .before .before in
-    unflagged-whole _ _ (seen .before .member-at .ensures) (seen .if1 .left) (c .enum-told .given .1)
+    unflagged-whole _ _ (seen .before .member-row .ensures) (seen .if1 .left) (c .enum-told .given .1)
 
 pub keep-flag-spec : {M : Type 1} → statement M
 keep-flag-spec =
     tie.close
     (tie.spec
-    member-at-requires
+    member-row-requires
     returns
     enum-known-bit
     bit-in-byte-requires

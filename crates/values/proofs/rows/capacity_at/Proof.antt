@@ -5,14 +5,14 @@ use Rattle.types.specs.declared.member.Member.{Member}
 use Rattle.values.proofs.rows.capacity_at.Statement.{statement}
 use Rattle.values.proofs.rows.capacity_at.Tie as tie
 
-add-member-at : tie.Need-add-member-at
-add-member-at c = search needs
+add-member-row : tie.Need-add-member-row
+add-member-row c = search needs
 
-member-at-requires : tie.Need-member-at-requires
-member-at-requires c κs = search needs
+member-row-requires : tie.Need-member-row-requires
+member-row-requires c κs = search needs
 
 returns : tie.Need-returns
-returns c = ap (λ (m : Member). m .count) (c .member-at .ensures)
+returns c = ap (λ (m : Member). m .count) (c .member-row .ensures)
 
 pub capacity-at-spec : {M : Type 1} → statement M
-capacity-at-spec = tie.close (tie.spec add-member-at member-at-requires returns)
+capacity-at-spec = tie.close (tie.spec add-member-row member-row-requires returns)

@@ -4,11 +4,11 @@ use Rattle.values.proofs.NestedLaws.{nested-hidden, nested-bit, nested-
 use Rattle.values.proofs.rows.is_nested.Statement.{statement}
 use Rattle.values.proofs.rows.is_nested.Tie as tie
 
-member-at-requires : tie.Need-member-at-requires
-member-at-requires c κs = search needs
+member-row-requires : tie.Need-member-row-requires
+member-row-requires c κs = search needs
 
 returns : tie.Need-returns
-returns c = nested-hidden (c .before .member-at .ensures) (c .if1 .taken)
+returns c = nested-hidden (c .before .member-row .ensures) (c .if1 .taken)
 
 enum-told : tie.Need-enum-told
 enum-told c = search needs
@@ -16,7 +16,7 @@ enum-told c = search needs
 returns-2 : tie.Need-returns-2
 returns-2 c =
     let seen = c .before .before in
-    nested-bit (seen .before .member-at .ensures) (seen .if1 .left) (c .enum-told .given .1)
+    nested-bit (seen .before .member-row .ensures) (seen .if1 .left) (c .enum-told .given .1)
 
 enum-told-2 : tie.Need-enum-told-2
 enum-told-2 c = search needs
@@ -28,7 +28,7 @@ returns-3 : tie.Need-returns-3
 returns-3 c =
     let whole = c .before .before in
     let seen = whole .before .before in
-    nested-atomic (seen .before .member-at .ensures) (seen .if1 .left) (whole .enum-told2 .given .1)
+    nested-atomic (seen .before .member-row .ensures) (seen .if1 .left) (whole .enum-told2 .given .1)
     (c .enum-told3 .given .1)
 
 enum-told-4 : tie.Need-enum-told-4
@@ -38,14 +38,14 @@ returns-4 : tie.Need-returns-4
 returns-4 c =
     let whole = c .before .before in
     let seen = whole .before .before in
-    nested-struct (seen .before .member-at .ensures) (seen .if1 .left) (whole .enum-told2 .given .1)
+    nested-struct (seen .before .member-row .ensures) (seen .if1 .left) (whole .enum-told2 .given .1)
     (c .enum-told4 .given .1)
 
 pub is-nested-spec : {M : Type 1} → statement M
 is-nested-spec =
     tie.close
     (tie.spec
-    member-at-requires
+    member-row-requires
     returns
     enum-told
     returns-2

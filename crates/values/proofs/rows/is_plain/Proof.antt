@@ -4,11 +4,11 @@ use Rattle.values.proofs.FlagRows.{plain-hidden, plain-bit, plain-whole
 use Rattle.values.proofs.rows.is_plain.Statement.{statement}
 use Rattle.values.proofs.rows.is_plain.Tie as tie
 
-member-at-requires : tie.Need-member-at-requires
-member-at-requires c κs = search needs
+member-row-requires : tie.Need-member-row-requires
+member-row-requires c κs = search needs
 
 returns : tie.Need-returns
-returns c = plain-hidden (c .before .member-at .ensures) (c .if1 .taken)
+returns c = plain-hidden (c .before .member-row .ensures) (c .if1 .taken)
 
 enum-told : tie.Need-enum-told
 enum-told c = search needs
@@ -19,12 +19,12 @@ enum-told-2 c = search needs
 returns-2 : tie.Need-returns-2
 returns-2 c =
     let seen = c .before .before in
-    plain-bit (seen .before .member-at .ensures) (seen .if1 .left) (c .enum-told .given .1)
+    plain-bit (seen .before .member-row .ensures) (seen .if1 .left) (c .enum-told .given .1)
 
 returns-3 : tie.Need-returns-3
 returns-3 c =
     let seen = c .before .before in
-    plain-whole (seen .before .member-at .ensures) (seen .if1 .left) (c .enum-told2 .given .1)
+    plain-whole (seen .before .member-row .ensures) (seen .if1 .left) (c .enum-told2 .given .1)
 
 pub is-plain-spec : {M : Type 1} → statement M
-is-plain-spec = tie.close (tie.spec member-at-requires returns enum-told enum-told-2 returns-2 returns-3)
+is-plain-spec = tie.close (tie.spec member-row-requires returns enum-told enum-told-2 returns-2 returns-3)

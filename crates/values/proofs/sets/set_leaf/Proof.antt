@@ -13,14 +13,14 @@ here : (c : tie.After-wide2)
     → let count = c .before in
     let read = count .before in
     let a = read .before .before .before .args in
-    LeafHere (now (a .members)) (a .row) (a .base) (now (a .image)) (read .member-at .result) (c .wide2 .result)
+    LeafHere (now (a .members)) (a .row) (a .base) (now (a .image)) (read .member-row .result) (c .wide2 .result)
     (count .wide .result)
 here c =
     let count = c .before in
     let read = count .before in
     let start = read .before .before .before in
     record {
-      is = read .member-at .ensures;
+      is = read .member-row .ensures;
       leaf = start .pre .0 .1 .0;
       sizes = start .pre .0 .1 .1 .0;
       here = start .pre .0 .1 .1 .1;
@@ -28,8 +28,8 @@ here c =
       count = count .wide .ensures;
     }
 
-member-at-requires : tie.Need-member-at-requires
-member-at-requires c κs = c .before .before .pre .0 .1 .0 .inside
+member-row-requires : tie.Need-member-row-requires
+member-row-requires c κs = c .before .before .pre .0 .1 .0 .inside
 
 wide-requires : tie.Need-wide-requires
 wide-requires c κs = search needs
@@ -107,7 +107,7 @@ pub set-leaf-spec : {M : Type 1} → statement M
 set-leaf-spec =
     tie.close
     (tie.spec
-    member-at-requires
+    member-row-requires
     wide-requires
     wide-requires-2
     add-start

@@ -5,8 +5,8 @@ use Rattle.values.proofs.StoredLaws.{string-fits, string-misfits, no-st
 use Rattle.values.proofs.stored.string_number.Statement.{statement}
 use Rattle.values.proofs.stored.string_number.Tie as tie
 
-type-at-requires : tie.Need-type-at-requires
-type-at-requires c κs = search needs
+type-row-requires : tie.Need-type-row-requires
+type-row-requires c κs = search needs
 
 is-string-requires : tie.Need-is-string-requires
 is-string-requires c κs = search needs
@@ -19,7 +19,7 @@ returns c =
     let then1 = c .before .before in
     let at-type = then1 .before .before in
     let a = at-type .before .args in
-    string-fits (a .types .now) (a .i) (a .long) (at-type .type-at .ensures)
+    string-fits (a .types .now) (a .i) (a .long) (at-type .type-row .ensures)
     (sym (then1 .before .is-string .ensures) ∙ then1 .if1 .taken) (c .if2 .taken ∙ c .before .wide .ensures)
 
 number-requires : tie.Need-number-requires
@@ -32,7 +32,7 @@ returns-2 c =
     let at-type = then1 .before .before in
     let a = at-type .before .args in
     c .number .ensures
-    ∙ string-misfits (a .types .now) (a .i) (a .long) (at-type .type-at .ensures)
+    ∙ string-misfits (a .types .now) (a .i) (a .long) (at-type .type-row .ensures)
     (sym (then1 .before .is-string .ensures) ∙ then1 .if1 .taken)
     (λ e. else2 .if2 .left (e ∙ sym (else2 .before .wide .ensures)))
 
@@ -45,14 +45,14 @@ returns-3 c =
     let at-type = else1 .before .before in
     let a = at-type .before .args in
     c .number2 .ensures
-    ∙ no-string (a .types .now) (a .i) (a .long) (at-type .type-at .ensures)
+    ∙ no-string (a .types .now) (a .i) (a .long) (at-type .type-row .ensures)
     (sym (else1 .before .is-string .ensures) ∙ else1 .if1 .left)
 
 pub string-number-spec : {M : Type 1} → statement M
 string-number-spec =
     tie.close
     (tie.spec
-    type-at-requires
+    type-row-requires
     is-string-requires
     wide-requires
     returns

@@ -23,7 +23,7 @@ known c =
 first : (c : tie.After-wide)
     → let arm = c .before .before .before in
     c .wide .result ≡ typeAt (arm .before .before .before .args .types .now) (arm .ty .given .0 .0) .first
-first c = c .wide .ensures ∙ ap (λ (d : StructDef). d .first) (c .before .type-at .ensures)
+first c = c .wide .ensures ∙ ap (λ (d : StructDef). d .first) (c .before .type-row .ensures)
 
 enum-told : tie.Need-enum-told
 enum-told c = search needs
@@ -34,8 +34,8 @@ returns c = held-atomic (c .enum-told .given .1) (c .before .before .before .pre
 enum-known-ty : tie.Need-enum-known-ty
 enum-known-ty c = search needs
 
-type-at-requires : tie.Need-type-at-requires
-type-at-requires c κs = known (c .before) .low
+type-row-requires : tie.Need-type-row-requires
+type-row-requires c κs = known (c .before) .low
 
 wide-requires : tie.Need-wide-requires
 wide-requires c κs = search needs
@@ -63,7 +63,7 @@ text-bytes-spec =
     enum-told
     returns
     enum-known-ty
-    type-at-requires
+    type-row-requires
     wide-requires
     capacity-at-requires
     text-length-requires

@@ -8,21 +8,21 @@ use Rattle.values.proofs.LeafLaws.{Atomics, atomics-inside, atomics-ask
 use Rattle.values.proofs.walk.read_leaf.Statement.{statement}
 use Rattle.values.proofs.walk.read_leaf.Tie as tie
 
-member-at-requires : tie.Need-member-at-requires
-member-at-requires c κs = search needs
+member-row-requires : tie.Need-member-row-requires
+member-row-requires c κs = search needs
 
 returns : tie.Need-returns
 returns c =
     let read = c .before in
     let a = read .before .before .before .args in
-    put-hidden (a .j) (now (a .image)) (read .member-at .ensures) (now (a .out)) (a .at) (c .if1 .taken)
+    put-hidden (a .j) (now (a .image)) (read .member-row .ensures) (now (a .out)) (a .at) (c .if1 .taken)
 
 put-entry-requires : tie.Need-put-entry-requires
 put-entry-requires c κs =
     let shown = c .before in
     let read = shown .before in
     let start = read .before .before .before in
-    shown-room (start .args .j) (now (start .args .image)) (read .member-at .ensures) (start .args .at)
+    shown-room (start .args .j) (now (start .args .image)) (read .member-row .ensures) (start .args .at)
     (shown .if1 .left) (start .pre .1)
 
 add-p : tie.Need-add-p
@@ -41,7 +41,7 @@ numbered : (c : tie.After-wide2)
     let read = put .before .before .before in
     let a = read .before .before .before .args in
     Numbered (now (a .types)) (now (a .members)) (now (a .image)) (now (a .out)) (a .i) (a .row) (a .j) (a .at)
-    (read .member-at .result) (put .put-entry .last .0) (wide .wide .result) (c .wide2 .result)
+    (read .member-row .result) (put .put-entry .last .0) (wide .wide .result) (c .wide2 .result)
 numbered c =
     let wide = c .before in
     let put = wide .before .before .before in
@@ -52,7 +52,7 @@ numbered c =
       row-of = start .pre .0 .0;
       whole = start .pre .0 .1;
       room = start .pre .1;
-      is = read .member-at .ensures;
+      is = read .member-row .ensures;
       shown = shown .if1 .left;
       put = put .put-entry .ensures;
       from = wide .wide .ensures;
@@ -112,7 +112,7 @@ atomics : (c : tie.After-times-of)
     let read = put .before .before .before in
     let a = read .before .before .before .args in
     Atomics (now (a .types)) (now (a .members)) (now (a .image)) (now (a .out)) (a .i) (a .row) (a .j) (a .at)
-    (read .member-at .result) (put .put-entry .last .0) (wide .wide .result) (counted .wide2 .result)
+    (read .member-row .result) (put .put-entry .last .0) (wide .wide .result) (counted .wide2 .result)
     (ty .ty .given .0 .0) (size .size-of .result) (c .times-of .result)
 atomics c =
     let size = c .before in
@@ -167,7 +167,7 @@ pub read-leaf-spec : {M : Type 1} → statement M
 read-leaf-spec =
     tie.close
     (tie.spec
-    member-at-requires
+    member-row-requires
     returns
     put-entry-requires
     add-p

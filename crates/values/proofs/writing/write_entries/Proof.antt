@@ -1,10 +1,10 @@
 -- `values::write_entries` meets its contract (document 01, "Writing"): the check first, with no image; then the image.
 use native.Mathlib.Omega.{arith}
-use mathlib.Core.Path.{_≡_, refl, _∙_}
+use mathlib.Core.Path.{_≡_, _∙_}
 use borrow.Author.Needs.{needs}
 use Rattle.values.specs.Form.{countIn}
 use Rattle.values.proofs.LeftLaws.{entries-inside}
-use Rattle.values.proofs.WrittenLaws.{all-accepted, entered-whole, left-over, refused-entered}
+use Rattle.values.proofs.WrittenLaws.{all-accepted, entered-whole, left-over, refused-entered, refused-number}
 use Rattle.values.proofs.writing.write_entries.Statement.{statement}
 use Rattle.values.proofs.writing.write_entries.Tie as tie
 
@@ -33,7 +33,13 @@ place-of-requires : tie.Need-place-of-requires
 place-of-requires c κs = search needs
 
 entry-refusal-requires : tie.Need-entry-refusal-requires
-entry-refusal-requires c κs = search needs
+entry-refusal-requires c κs =
+    let then1 = c .before in
+    let checked = then1 .before in
+    let start = checked .before .before .before .before .before in
+    let a = start .args in
+    refused-number (a .types .now) (a .members .now) (a .ty) (a .n) (a .s .now) (a .image .now) (start .pre .1 .1)
+    (checked .check-value .ensures) (omega (arith, then1 .if1 .taken))
 
 returns : tie.Need-returns
 returns c =
@@ -42,9 +48,10 @@ returns c =
     let checked = then1 .before in
     let start = checked .before .before .before .before .before in
     let a = start .args in
-    rw (c .entry-refusal .ensures) (refused-entered (a .types .now) (a .members .now) (a .ty) (a .n) (a .s .now)
-    (a .image .now) (start .pre .1 .1) (checked .check-value .ensures) (omega (arith, then1 .if1 .taken)) refl
-    (place .place-of .ensures))
+    let why = c .entry-refusal .ensures in
+    refused-entered (a .types .now) (a .members .now) (a .ty) (a .n) (a .s .now) (a .image .now) (start .pre .1 .1)
+    (c .entry-refusal .result) (checked .check-value .ensures) (omega (arith, then1 .if1 .taken)) (why .0)
+    (why .1 ∙ place .place-of .ensures)
 
 place-of-requires-2 : tie.Need-place-of-requires-2
 place-of-requires-2 c κs = search needs

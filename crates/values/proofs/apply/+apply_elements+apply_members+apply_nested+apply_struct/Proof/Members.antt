@@ -12,7 +12,7 @@ use Rattle.values.specs.Rows.{treeIn}
 use Rattle.values.proofs.SettingMembers.{MembersAsked, Members, Named, members-start, named, next-small}
 use Rattle.values.proofs.SettingMembers.{struct-there, struct-null, member-there, members-here, members-end}
 use Rattle.values.proofs.SettingMembers.{named-nested, named-leaf, named-here}
-use Rattle.types.proofs.type_at.Reads as type-at-reads
+use Rattle.types.proofs.type_row.Reads as type-row-reads
 use Rattle.words.proofs.wide.Reads as wide-reads
 use Rattle.values.proofs.rows.is_nested.Reads as is-nested-reads
 use Rattle.values.proofs.sets.set_leaf.Reads as set-leaf-reads
@@ -29,8 +29,8 @@ abbrev claims : ℕ → lts.Claims
 claims t = (
   kind-of-reads.Asked,
   kind-of-reads.Learnt,
-  type-at-reads.Asked,
-  type-at-reads.Learnt,
+  type-row-reads.Asked,
+  type-row-reads.Learnt,
   wide-reads.Asked,
   wide-reads.Learnt,
   payload-of-reads.Asked,
@@ -78,8 +78,8 @@ module _ (t : ℕ) where
       let at-kind = c .before in
       struct-null (asked (at-kind .before .before .before)) (sym (at-kind .kind-of .ensures) ∙ c .if1 .taken)
 
-  type-at-requires : so lts.Need-type-at-requires
-  type-at-requires c κs = asked (c .before .before .before .before) .here .low
+  type-row-requires : so lts.Need-type-row-requires
+  type-row-requires c κs = asked (c .before .before .before .before) .here .low
 
   wide-requires : so lts.Need-wide-requires
   wide-requires c κs = search needs
@@ -95,7 +95,7 @@ module _ (t : ℕ) where
       let else1 = at-type .before in
       let at-kind = else1 .before in
       members-start (asked (at-kind .before .before .before))
-      (λ z. else1 .if1 .left (at-kind .kind-of .ensures ∙ z)) (at-type .type-at .ensures) (c .wide .ensures)
+      (λ z. else1 .if1 .left (at-kind .kind-of .ensures ∙ z)) (at-type .type-row .ensures) (c .wide .ensures)
 
   kind-of-requires-2 : so lts.Need-kind-of-requires-2
   kind-of-requires-2 c κs = (c .loop .inv .asked .form, member-there (c .loop .inv) .inside)
@@ -213,7 +213,7 @@ module _ (t : ℕ) where
 
   pub closed : {M : Type 1} → lts.Closed (claims t) (measures.members-at t) reads.Post M
   closed =
-      lts.spec (claims t) (measures.members-at t) reads.Post Inv μ kind-of-requires add-result returns type-at-requires
+      lts.spec (claims t) (measures.members-at t) reads.Post Inv μ kind-of-requires add-result returns type-row-requires
       wide-requires add-p loop-holds kind-of-requires-2 add-result-2 same-length returns-2 payload-of-requires
       as-size-requires add-row is-nested-requires add-apply-nested apply-nested-requires loop-less loop-again
       add-set-leaf set-leaf-requires loop-less-2 loop-again-2

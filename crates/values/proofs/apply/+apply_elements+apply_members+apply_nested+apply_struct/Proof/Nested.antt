@@ -10,7 +10,7 @@ use Rattle.values.specs.Passes.{leftAt}
 use Rattle.values.proofs.ApplyLaws.{accepted-as, applied-as}
 use Rattle.values.proofs.SettingLaws.{Holds, holds, not-atomic, start-fits, held-below}
 use Rattle.values.proofs.SettingLaws.{one-here, one-write, all-here, all-write}
-use Rattle.types.proofs.member_at.Reads as member-at-reads
+use Rattle.types.proofs.member_row.Reads as member-row-reads
 use Rattle.words.proofs.wide.Reads as wide-reads
 use Rattle.values.proofs.apply.apply_nested.Reads as reads
 use Rattle.values.proofs.apply.apply_nested.Kinds as kinds
@@ -21,8 +21,8 @@ use Rattle.values.proofs.apply.+apply_elements+apply_members+apply_nest
 
 abbrev claims : ℕ → lts.Claims
 claims t = (
-  member-at-reads.Asked,
-  member-at-reads.Learnt,
+  member-row-reads.Asked,
+  member-row-reads.Learnt,
   wide-reads.Asked,
   wide-reads.Learnt,
   measures.struct-below t,
@@ -47,11 +47,11 @@ module _ (t : ℕ) where
       let at-offset = at-count .before in
       let at-member = at-offset .before in
       let p = at-member .before .before .before .pre .1 .0 .1 in
-      holds (p .0) (p .1 .0) (at-member .member-at .ensures) (at-offset .wide .ensures) (at-count .wide2 .ensures)
+      holds (p .0) (p .1 .0) (at-member .member-row .ensures) (at-offset .wide .ensures) (at-count .wide2 .ensures)
       (c .ty .given .1)
 
-  member-at-requires : so lts.Need-member-at-requires
-  member-at-requires c κs = c .before .before .pre .1 .0 .1 .0 .row-of .inside
+  member-row-requires : so lts.Need-member-row-requires
+  member-row-requires c κs = c .before .before .pre .1 .0 .1 .0 .row-of .inside
 
   wide-requires : so lts.Need-wide-requires
   wide-requires c κs = search needs
@@ -61,7 +61,7 @@ module _ (t : ℕ) where
       let at-member = c .before in
       let start = at-member .before .before .before in
       let p = start .pre .1 .0 .1 in
-      omega (arith, start-fits (p .0) (at-member .member-at .ensures) (p .1 .0) (c .wide .ensures), start .good)
+      omega (arith, start-fits (p .0) (at-member .member-row .ensures) (p .1 .0) (c .wide .ensures), start .good)
 
   wide-requires-2 : so lts.Need-wide-requires-2
   wide-requires-2 c κs = search needs
@@ -73,13 +73,13 @@ module _ (t : ℕ) where
   add-result c =
       let at-member = c .before .before .before .before in
       let p = at-member .before .before .before .pre .1 .0 .1 in
-      absurd (not-atomic (p .0) (at-member .member-at .ensures) (c .enum-told .given .1))
+      absurd (not-atomic (p .0) (at-member .member-row .ensures) (c .enum-told .given .1))
 
   returns : so lts.Need-returns
   returns c =
       let at-member = c .before .before .before .before in
       let p = at-member .before .before .before .pre .1 .0 .1 in
-      absurd (not-atomic (p .0) (at-member .member-at .ensures) (c .enum-told .given .1))
+      absurd (not-atomic (p .0) (at-member .member-row .ensures) (c .enum-told .given .1))
 
   enum-known-ty : so lts.Need-enum-known-ty
   enum-known-ty c = search needs
@@ -140,6 +140,6 @@ module _ (t : ℕ) where
 
   pub closed : {M : Type 1} → lts.Closed (claims t) (measures.nested-at t) reads.Post M
   closed =
-      lts.spec (claims t) (measures.nested-at t) reads.Post member-at-requires wide-requires add-start wide-requires-2
+      lts.spec (claims t) (measures.nested-at t) reads.Post member-row-requires wide-requires add-start wide-requires-2
       enum-told add-result returns enum-known-ty apply-struct-requires same-length returns-2 apply-elements-requires
       same-length-2 returns-3

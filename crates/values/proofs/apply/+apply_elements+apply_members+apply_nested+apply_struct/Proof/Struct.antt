@@ -15,7 +15,7 @@ use Rattle.values.specs.Tree.{struct}
 use Rattle.values.specs.Writing.{write, writeOne}
 use Rattle.values.proofs.ApplyLaws.{accepted-as, applied-as}
 use Rattle.values.proofs.SettingLaws.{rows-write, text-rows, text-fits, text-write}
-use Rattle.types.proofs.type_at.Reads as type-at-reads
+use Rattle.types.proofs.type_row.Reads as type-row-reads
 use Rattle.words.proofs.wide.Reads as wide-reads
 use Rattle.values.proofs.rows.capacity_at.Reads as capacity-at-reads
 use Rattle.values.proofs.rows.is_string.Reads as is-string-reads
@@ -28,8 +28,8 @@ use Rattle.values.proofs.apply.+apply_elements+apply_members+apply_nest
 
 abbrev claims : ℕ → lts.Claims
 claims t = (
-  type-at-reads.Asked,
-  type-at-reads.Learnt,
+  type-row-reads.Asked,
+  type-row-reads.Learnt,
   is-string-reads.Asked,
   is-string-reads.Learnt,
   wide-reads.Asked,
@@ -46,8 +46,8 @@ module _ (t : ℕ) where
   abbrev so : (lts.Claims → In 4 kinds.ps → Out 4 kinds.ps kinds.r → Type 0) → Type 0
   so need = need (claims t) (measures.struct-at t) reads.Post
 
-  type-at-requires : so lts.Need-type-at-requires
-  type-at-requires c κs = c .before .before .pre .1 .0 .1 .0 .low
+  type-row-requires : so lts.Need-type-row-requires
+  type-row-requires c κs = c .before .before .pre .1 .0 .1 .0 .low
 
   is-string-requires : so lts.Need-is-string-requires
   is-string-requires c κs = search needs
@@ -61,7 +61,7 @@ module _ (t : ℕ) where
       let at-string = then1 .before in
       let at-type = at-string .before in
       let p = at-type .before .before .before .pre .1 .0 in
-      text-rows (p .0) (p .1 .0) (at-type .type-at .ensures) (at-string .is-string .ensures) (then1 .if1 .taken)
+      text-rows (p .0) (p .1 .0) (at-type .type-row .ensures) (at-string .is-string .ensures) (then1 .if1 .taken)
       (c .wide .ensures)
 
   -- the text that the capacity says
@@ -78,7 +78,7 @@ module _ (t : ℕ) where
       let start = at-type .before .before .before in
       let p = start .pre .1 .0 in
       let a = start .args in
-      text-write (p .0) (p .1 .0) (at-type .type-at .ensures) (at-string .is-string .ensures) (then1 .if1 .taken)
+      text-write (p .0) (p .1 .0) (at-type .type-row .ensures) (at-string .is-string .ensures) (then1 .if1 .taken)
       (at-wide .wide .ensures) (c .capacity-at .ensures) (8 * a .base) (leftAt (now (a .s)) (a .k)) z
 
   set-text-requires : so lts.Need-set-text-requires
@@ -92,7 +92,7 @@ module _ (t : ℕ) where
       let p = start .pre .1 .0 in (
         (
           p .1 .1,
-          text-fits (p .0) (p .1 .0) (at-type .type-at .ensures) (at-string .is-string .ensures) (then1 .if1 .taken)
+          text-fits (p .0) (p .1 .0) (at-type .type-row .ensures) (at-string .is-string .ensures) (then1 .if1 .taken)
               (at-wide .wide .ensures) (at-capacity .capacity-at .ensures),
         ),
         accepted-as (text-is at-capacity (flat (now (start .args .image)))) (start .pre .1 .1),
@@ -120,7 +120,7 @@ module _ (t : ℕ) where
       let start = at-type .before .before .before in
       let p = start .pre .1 .0 in
       let a = start .args in
-      rows-write (p .0) (p .1 .0) (at-type .type-at .ensures) (at-string .is-string .ensures) (c .if1 .left)
+      rows-write (p .0) (p .1 .0) (at-type .type-row .ensures) (at-string .is-string .ensures) (c .if1 .left)
       (8 * a .base) (leftAt (now (a .s)) (a .k)) z
 
   apply-members-requires : so lts.Need-apply-members-requires
@@ -142,5 +142,5 @@ module _ (t : ℕ) where
 
   pub closed : {M : Type 1} → lts.Closed (claims t) (measures.struct-at t) reads.Post M
   closed =
-      lts.spec (claims t) (measures.struct-at t) reads.Post type-at-requires is-string-requires wide-requires
+      lts.spec (claims t) (measures.struct-at t) reads.Post type-row-requires is-string-requires wide-requires
       capacity-at-requires set-text-requires same-length returns apply-members-requires same-length-2 returns-2

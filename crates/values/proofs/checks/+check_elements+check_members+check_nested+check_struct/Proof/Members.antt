@@ -13,7 +13,7 @@ use Rattle.values.proofs.CheckRows.{members-further, members-on, leaf-r
 use Rattle.values.proofs.MemberLaws.{nested-row}
 use Rattle.values.proofs.tokens.kind_at.Reads as kind-at-reads
 use Rattle.values.proofs.tokens.refused.Reads as refused-reads
-use Rattle.types.proofs.type_at.Reads as type-at-reads
+use Rattle.types.proofs.type_row.Reads as type-row-reads
 use Rattle.words.proofs.wide.Reads as wide-reads
 use Rattle.values.proofs.tokens.kind_of.Reads as kind-of-reads
 use Rattle.values.proofs.tokens.payload_of.Reads as payload-of-reads
@@ -33,8 +33,8 @@ claims t = (
   kind-at-reads.Learnt,
   refused-reads.Asked,
   refused-reads.Learnt,
-  type-at-reads.Asked,
-  type-at-reads.Learnt,
+  type-row-reads.Asked,
+  type-row-reads.Learnt,
   wide-reads.Asked,
   wide-reads.Learnt,
   kind-of-reads.Asked,
@@ -89,8 +89,8 @@ module _ (t : ℕ) where
       struct-other (p .0) (at-kind .kind-at .ensures) (p .1) (else1 .if1 .left) (c .refused .ensures) _ _
       (then2 .if2 .taken)
 
-  type-at-requires : so lts.Need-type-at-requires
-  type-at-requires c κs = c .before .before .before .before .pre .1 .0 .1
+  type-row-requires : so lts.Need-type-row-requires
+  type-row-requires c κs = c .before .before .before .before .pre .1 .0 .1
 
   wide-requires : so lts.Need-wide-requires
   wide-requires c κs = search needs
@@ -111,7 +111,7 @@ module _ (t : ℕ) where
       let at-kind = else2 .before .before in
       let p = at-kind .before .before .pre .1 in
       members-start (p .1 .0) (p .0 .0) (p .0 .1) (at-kind .kind-at .ensures) (else2 .if2 .left)
-      (at-type .type-at .ensures) (at-first .wide .ensures) (c .wide2 .ensures)
+      (at-type .type-row .ensures) (at-first .wide .ensures) (c .wide2 .ensures)
 
   kind-of-requires : so lts.Need-kind-of-requires
   kind-of-requires c κs =
@@ -272,7 +272,7 @@ module _ (t : ℕ) where
   pub closed : {M : Type 1} → lts.Closed (claims t) (measure.members-at t) reads.Post M
   closed =
       lts.spec (claims t) (measure.members-at t) reads.Post Inv μ kind-at-requires add-result returns refused-requires
-      returns-2 type-at-requires wide-requires wide-requires-2 add-p loop-holds kind-of-requires add-result-2 returns-3
+      returns-2 type-row-requires wide-requires wide-requires-2 add-p loop-holds kind-of-requires add-result-2 returns-3
       refused-requires-2 returns-4 payload-of-requires as-size-requires visible-row-requires refused-requires-3
       returns-5 is-nested-requires add-check-nested check-nested-requires returns-6 loop-less loop-again add-check-leaf
       check-leaf-requires returns-7 loop-less-2 loop-again-2 refused-requires-4 returns-8

@@ -11,7 +11,7 @@ use Rattle.types.specs.declared.member.Member.{Member}
 use Rattle.types.specs.declared.member.Ty.the-variants as ty
 use Rattle.values.proofs.CheckLaws.{entry-small, one-checked, some-checked}
 use Rattle.values.proofs.MemberLaws.{never-atomic, nested-earlier}
-use Rattle.types.proofs.member_at.Reads as member-at-reads
+use Rattle.types.proofs.member_row.Reads as member-row-reads
 use Rattle.words.proofs.wide.Reads as wide-reads
 use Rattle.values.proofs.tokens.refused.Reads as refused-reads
 use Rattle.values.proofs.checks.check_nested.Reads as reads
@@ -23,8 +23,8 @@ use Rattle.values.proofs.checks.+check_elements+check_members+check_nes
 
 abbrev claims : ℕ → lts.Claims
 claims t = (
-  member-at-reads.Asked,
-  member-at-reads.Learnt,
+  member-row-reads.Asked,
+  member-row-reads.Learnt,
   wide-reads.Asked,
   wide-reads.Learnt,
   refused-reads.Asked,
@@ -43,10 +43,10 @@ module _ (t : ℕ) where
       → let a = c .before .before .before .before .before .args in
       memberAt (now (a .members)) (a .row) .ty ≡ ty.Struct (c .ty .given .0 .0)
   type-is c =
-      ap (λ (m : Member). m .ty) (sym (c .before .before .before .member-at .ensures)) ∙ c .ty .given .1
+      ap (λ (m : Member). m .ty) (sym (c .before .before .before .member-row .ensures)) ∙ c .ty .given .1
 
-  member-at-requires : so lts.Need-member-at-requires
-  member-at-requires c κs = c .before .pre .1 .0 .1 .row-of .inside
+  member-row-requires : so lts.Need-member-row-requires
+  member-row-requires c κs = c .before .pre .1 .0 .1 .row-of .inside
 
   wide-requires : so lts.Need-wide-requires
   wide-requires c κs = search needs
@@ -64,7 +64,7 @@ module _ (t : ℕ) where
       let at-told = c .before in
       let at-member = at-told .before .before .before in
       absurd (never-atomic _ (at-member .before .before .pre .1 .0 .1 .nested) _
-      (ap (λ (m : Member). m .ty) (sym (at-member .member-at .ensures)) ∙ at-told .enum-told .given .1))
+      (ap (λ (m : Member). m .ty) (sym (at-member .member-row .ensures)) ∙ at-told .enum-told .given .1))
 
   enum-known-ty : so lts.Need-enum-known-ty
   enum-known-ty c = search needs
@@ -84,7 +84,7 @@ module _ (t : ℕ) where
       let at-wide = at-ty .before .before in
       let at-member = at-wide .before in
       one-checked (at-member .before .before .pre .1 .0 .1) (type-is at-ty)
-      (at-wide .wide .ensures ∙ ap (λ (m : Member). m .count) (at-member .member-at .ensures)) (then1 .if1 .taken)
+      (at-wide .wide .ensures ∙ ap (λ (m : Member). m .count) (at-member .member-row .ensures)) (then1 .if1 .taken)
       (c .check-struct .ensures)
 
   check-elements-requires : so lts.Need-check-elements-requires
@@ -102,10 +102,10 @@ module _ (t : ℕ) where
       let at-wide = at-ty .before .before in
       let at-member = at-wide .before in
       some-checked (at-member .before .before .pre .1 .0 .1) (type-is at-ty)
-      (at-wide .wide .ensures ∙ ap (λ (m : Member). m .count) (at-member .member-at .ensures)) (else1 .if1 .left)
+      (at-wide .wide .ensures ∙ ap (λ (m : Member). m .count) (at-member .member-row .ensures)) (else1 .if1 .left)
       (c .check-elements .ensures)
 
   pub closed : {M : Type 1} → lts.Closed (claims t) (measure.nested-at t) reads.Post M
   closed =
-      lts.spec (claims t) (measure.nested-at t) reads.Post member-at-requires wide-requires enum-told refused-requires
+      lts.spec (claims t) (measure.nested-at t) reads.Post member-row-requires wide-requires enum-told refused-requires
       returns enum-known-ty check-struct-requires returns-2 check-elements-requires returns-3

@@ -5,7 +5,7 @@ use native.Mathlib.Omega.{arith}
 use borrow.Author.Needs.{needs}
 use borrow.Fn.Kinds.{In, Out}
 use Rattle.values.proofs.CheckLaws.{struct-checked, string-inside, text-checked}
-use Rattle.types.proofs.type_at.Reads as type-at-reads
+use Rattle.types.proofs.type_row.Reads as type-row-reads
 use Rattle.values.proofs.rows.is_string.Reads as is-string-reads
 use Rattle.words.proofs.wide.Reads as wide-reads
 use Rattle.values.proofs.rows.capacity_at.Reads as capacity-at-reads
@@ -18,8 +18,8 @@ use Rattle.values.proofs.checks.+check_elements+check_members+check_nes
 
 abbrev claims : ℕ → lts.Claims
 claims t = (
-  type-at-reads.Asked,
-  type-at-reads.Learnt,
+  type-row-reads.Asked,
+  type-row-reads.Learnt,
   is-string-reads.Asked,
   is-string-reads.Learnt,
   wide-reads.Asked,
@@ -36,8 +36,8 @@ module _ (t : ℕ) where
   abbrev so : (lts.Claims → In 3 kinds.ps → Out 3 kinds.ps kinds.r → Type 0) → Type 0
   so need = need (claims t) (measure.struct-at t) reads.Post
 
-  type-at-requires : so lts.Need-type-at-requires
-  type-at-requires c κs = c .before .pre .1 .0 .1
+  type-row-requires : so lts.Need-type-row-requires
+  type-row-requires c κs = c .before .pre .1 .0 .1
 
   is-string-requires : so lts.Need-is-string-requires
   is-string-requires c κs = search needs
@@ -51,7 +51,7 @@ module _ (t : ℕ) where
       let at-kind = then1 .before in
       let at-type = at-kind .before in
       let p = at-type .before .before .pre .1 .0 in
-      string-inside (p .0) (p .1) (at-type .type-at .ensures) (at-kind .is-string .ensures) (then1 .if1 .taken)
+      string-inside (p .0) (p .1) (at-type .type-row .ensures) (at-kind .is-string .ensures) (then1 .if1 .taken)
       (c .wide .ensures)
 
   check-text-requires : so lts.Need-check-text-requires
@@ -65,7 +65,7 @@ module _ (t : ℕ) where
       let at-kind = then1 .before in
       let at-type = at-kind .before in
       let p = at-type .before .before .pre .1 .0 in
-      text-checked (p .0) (p .1) (at-type .type-at .ensures) (at-kind .is-string .ensures) (then1 .if1 .taken)
+      text-checked (p .0) (p .1) (at-type .type-row .ensures) (at-kind .is-string .ensures) (then1 .if1 .taken)
       (at-wide .wide .ensures) (at-capacity .capacity-at .ensures) (c .check-text .ensures)
 
   check-members-requires : so lts.Need-check-members-requires
@@ -79,10 +79,10 @@ module _ (t : ℕ) where
       let at-kind = else1 .before in
       let at-type = at-kind .before in
       let p = at-type .before .before .pre .1 .0 in
-      struct-checked (p .0) (p .1) (at-type .type-at .ensures) (at-kind .is-string .ensures) (else1 .if1 .left)
+      struct-checked (p .0) (p .1) (at-type .type-row .ensures) (at-kind .is-string .ensures) (else1 .if1 .left)
       (c .check-members .ensures)
 
   pub closed : {M : Type 1} → lts.Closed (claims t) (measure.struct-at t) reads.Post M
   closed =
-      lts.spec (claims t) (measure.struct-at t) reads.Post type-at-requires is-string-requires wide-requires
+      lts.spec (claims t) (measure.struct-at t) reads.Post type-row-requires is-string-requires wide-requires
       capacity-at-requires check-text-requires returns check-members-requires returns-2

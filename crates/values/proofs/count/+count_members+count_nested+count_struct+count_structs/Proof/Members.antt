@@ -10,7 +10,7 @@ use Rattle.types.specs.declared.member.StructDef.{StructDef}
 use Rattle.values.specs.Walkable.{NestedRow}
 use Rattle.values.proofs.CountRows.{Rows, rows-none, next-row, rows-leaf, rows-nested, rows-over, rows-all}
 use Rattle.values.proofs.MemberLaws.{nested-row}
-use Rattle.types.proofs.type_at.Reads as type-at-reads
+use Rattle.types.proofs.type_row.Reads as type-row-reads
 use Rattle.words.proofs.wide.Reads as wide-reads
 use Rattle.values.proofs.count.leaf_entries.Reads as leaf-entries-reads
 use Rattle.values.proofs.rows.is_nested.Reads as is-nested-reads
@@ -22,8 +22,8 @@ use Rattle.values.proofs.count.+count_members+count_nested+count_struct
 
 abbrev claims : ℕ → lts.Claims
 claims t = (
-  type-at-reads.Asked,
-  type-at-reads.Learnt,
+  type-row-reads.Asked,
+  type-row-reads.Learnt,
   wide-reads.Asked,
   wide-reads.Learnt,
   is-nested-reads.Asked,
@@ -46,8 +46,8 @@ module _ (t : ℕ) where
       (lts.Claims → In 3 kinds.ps → Out 3 kinds.ps kinds.r → lts.InvT-loop → lts.MeasureT-loop → Type 0) → Type 0
   so need = need (claims t) (measures.members-at t) reads.Post Inv μ
 
-  type-at-requires : so lts.Need-type-at-requires
-  type-at-requires c κs = c .pre .1 .1 .0
+  type-row-requires : so lts.Need-type-row-requires
+  type-row-requires c κs = c .pre .1 .1 .0
 
   wide-requires : so lts.Need-wide-requires
   wide-requires c κs = search needs
@@ -64,8 +64,8 @@ module _ (t : ℕ) where
       let at-type = at-first .before in
       let p = at-type .before .pre .1 in
       rows-none (p .0) (p .1 .0) (p .1 .1 .0)
-      (at-first .wide .ensures ∙ ap (λ (d : StructDef). d .first) (at-type .type-at .ensures))
-      (c .wide2 .ensures ∙ ap (λ (d : StructDef). d .count) (at-type .type-at .ensures))
+      (at-first .wide .ensures ∙ ap (λ (d : StructDef). d .first) (at-type .type-row .ensures))
+      (c .wide2 .ensures ∙ ap (λ (d : StructDef). d .count) (at-type .type-row .ensures))
 
   returns : so lts.Need-returns
   returns c = rows-over (c .before .before .loop .inv) (c .if1 .taken)
@@ -167,7 +167,7 @@ module _ (t : ℕ) where
 
   pub closed : {M : Type 1} → lts.Closed (claims t) (measures.members-at t) reads.Post M
   closed =
-      lts.spec (claims t) (measures.members-at t) reads.Post Inv μ type-at-requires wide-requires wide-requires-2
+      lts.spec (claims t) (measures.members-at t) reads.Post Inv μ type-row-requires wide-requires wide-requires-2
       add-sum loop-holds returns add-row is-nested-requires add-if3 count-nested-requires returns-2
       count-nested-requires-2 add-j loop-less loop-again leaf-entries-requires add-sum-2 add-j-2 loop-less-2
       loop-again-2 returns-3

@@ -11,7 +11,7 @@ use Rattle.types.specs.declared.member.Member.{Member}
 use Rattle.types.specs.declared.member.Ty.the-variants as ty
 use Rattle.values.proofs.CountRows.{nested-counted}
 use Rattle.values.proofs.MemberLaws.{never-atomic, nested-earlier}
-use Rattle.types.proofs.member_at.Reads as member-at-reads
+use Rattle.types.proofs.member_row.Reads as member-row-reads
 use Rattle.words.proofs.wide.Reads as wide-reads
 use Rattle.values.proofs.count.count_nested.Reads as reads
 use Rattle.values.proofs.count.count_nested.Kinds as kinds
@@ -21,8 +21,8 @@ use Rattle.values.proofs.count.+count_members+count_nested+count_struct
 
 abbrev claims : ℕ → lts.Claims
 claims t = (
-  member-at-reads.Asked,
-  member-at-reads.Learnt,
+  member-row-reads.Asked,
+  member-row-reads.Learnt,
   wide-reads.Asked,
   wide-reads.Learnt,
   measures.structs-below t,
@@ -37,10 +37,10 @@ module _ (t : ℕ) where
       → let a = c .before .before .before .before .args in
       memberAt (now (a .members)) (a .row) .ty ≡ ty.Struct (c .ty .given .0 .0)
   type-is c =
-      ap (λ (m : Member). m .ty) (sym (c .before .before .before .member-at .ensures)) ∙ c .ty .given .1
+      ap (λ (m : Member). m .ty) (sym (c .before .before .before .member-row .ensures)) ∙ c .ty .given .1
 
-  member-at-requires : so lts.Need-member-at-requires
-  member-at-requires c κs = c .pre .1 .1 .0 .row-of .inside
+  member-row-requires : so lts.Need-member-row-requires
+  member-row-requires c κs = c .pre .1 .1 .0 .row-of .inside
 
   wide-requires : so lts.Need-wide-requires
   wide-requires c κs = search needs
@@ -52,7 +52,7 @@ module _ (t : ℕ) where
   returns c =
       let at-member = c .before .before .before in
       absurd (never-atomic _ (at-member .before .pre .1 .1 .0 .nested) _
-      (ap (λ (m : Member). m .ty) (sym (at-member .member-at .ensures)) ∙ c .enum-told .given .1))
+      (ap (λ (m : Member). m .ty) (sym (at-member .member-row .ensures)) ∙ c .enum-told .given .1))
 
   enum-known-ty : so lts.Need-enum-known-ty
   enum-known-ty c = search needs
@@ -75,10 +75,10 @@ module _ (t : ℕ) where
       let at-wide = at-ty .before .before in
       let at-member = at-wide .before in
       nested-counted j (at-member .before .pre .1 .1 .0) (type-is at-ty)
-      (at-wide .wide .ensures ∙ ap (λ (m : Member). m .count) (at-member .member-at .ensures))
+      (at-wide .wide .ensures ∙ ap (λ (m : Member). m .count) (at-member .member-row .ensures))
       (c .count-structs .ensures)
 
   pub closed : {M : Type 1} → lts.Closed (claims t) (measures.nested-at t) reads.Post M
   closed =
-      lts.spec (claims t) (measures.nested-at t) reads.Post member-at-requires wide-requires enum-told returns
+      lts.spec (claims t) (measures.nested-at t) reads.Post member-row-requires wide-requires enum-told returns
       enum-known-ty add-count-structs count-structs-requires returns-2

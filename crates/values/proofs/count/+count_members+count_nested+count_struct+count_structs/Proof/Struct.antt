@@ -10,7 +10,7 @@ use Rattle.types.specs.Tables.{typeAt}
 use Rattle.types.specs.declared.member.StructDef.{StructDef}
 use Rattle.values.specs.Trees.{isString}
 use Rattle.values.proofs.CountLaws.{text-counted, members-counted}
-use Rattle.types.proofs.type_at.Reads as type-at-reads
+use Rattle.types.proofs.type_row.Reads as type-row-reads
 use Rattle.values.proofs.rows.is_string.Reads as is-string-reads
 use Rattle.values.proofs.count.count_struct.Reads as reads
 use Rattle.values.proofs.count.count_struct.Kinds as kinds
@@ -20,8 +20,8 @@ use Rattle.values.proofs.count.+count_members+count_nested+count_struct
 
 abbrev claims : ℕ → lts.Claims
 claims t = (
-  type-at-reads.Asked,
-  type-at-reads.Learnt,
+  type-row-reads.Asked,
+  type-row-reads.Learnt,
   is-string-reads.Asked,
   is-string-reads.Learnt,
   measures.members-below t,
@@ -36,10 +36,10 @@ module _ (t : ℕ) where
       → let a = c .before .before .args in
       isString (typeAt (now (a .types)) (a .i) .kind) ≡ c .is-string .result
   kind-is c =
-      ap (λ (d : StructDef). isString (d .kind)) (sym (c .before .type-at .ensures)) ∙ sym (c .is-string .ensures)
+      ap (λ (d : StructDef). isString (d .kind)) (sym (c .before .type-row .ensures)) ∙ sym (c .is-string .ensures)
 
-  type-at-requires : so lts.Need-type-at-requires
-  type-at-requires c κs = c .pre .1 .1 .0
+  type-row-requires : so lts.Need-type-row-requires
+  type-row-requires c κs = c .pre .1 .1 .0
 
   is-string-requires : so lts.Need-is-string-requires
   is-string-requires c κs = search needs
@@ -65,5 +65,5 @@ module _ (t : ℕ) where
 
   pub closed : {M : Type 1} → lts.Closed (claims t) (measures.struct-at t) reads.Post M
   closed =
-      lts.spec (claims t) (measures.struct-at t) reads.Post type-at-requires is-string-requires add-result returns
+      lts.spec (claims t) (measures.struct-at t) reads.Post type-row-requires is-string-requires add-result returns
       count-members-requires returns-2

@@ -14,15 +14,15 @@ use Rattle.values.proofs.lengths.text_members.Reads as reads
 use Rattle.values.proofs.lengths.text_members.Kinds as kinds
 use Rattle.values.proofs.lengths.+text_elements+text_members+text_nested+text_struct.Lts-text_members as lts
 use Rattle.values.proofs.rows.is_nested.Reads as is-nested-reads
-use Rattle.types.proofs.type_at.Reads as type-at-reads
+use Rattle.types.proofs.type_row.Reads as type-row-reads
 use Rattle.words.proofs.wide.Reads as wide-reads
 use Rattle.values.proofs.lengths.text_nested.Reads as nested-reads
 use Rattle.values.proofs.lengths.+text_elements+text_members+text_nested+text_struct.Proof.Measures as measures
 
 abbrev claims : ℕ → lts.Claims
 claims t = (
-  type-at-reads.Asked,
-  type-at-reads.Learnt,
+  type-row-reads.Asked,
+  type-row-reads.Learnt,
   wide-reads.Asked,
   wide-reads.Learnt,
   is-nested-reads.Asked,
@@ -45,8 +45,8 @@ module _ (t : ℕ) where
   abbrev start : so lts.At-loop → so lts.Start
   start c = c .before .before .before .before .before
 
-  type-at-requires : so lts.Need-type-at-requires
-  type-at-requires c κs = c .before .pre .1 .1 .0 .low
+  type-row-requires : so lts.Need-type-row-requires
+  type-row-requires c κs = c .before .pre .1 .1 .0 .low
 
   wide-requires : so lts.Need-wide-requires
   wide-requires c κs = search needs
@@ -65,11 +65,11 @@ module _ (t : ℕ) where
       c .before .before .wide .result ≡ typeAt (a .types .now) (a .i) .first
   first c =
       let read = c .before .before in
-      read .wide .ensures ∙ ap (λ (d : StructDef). d .first) (read .before .type-at .ensures)
+      read .wide .ensures ∙ ap (λ (d : StructDef). d .first) (read .before .type-row .ensures)
 
   count : (c : so lts.At-loop) → let a = start c .args in
       c .before .wide2 .result ≡ typeAt (a .types .now) (a .i) .count
-  count c = c .before .wide2 .ensures ∙ ap (λ (d : StructDef). d .count) (c .before .before .before .type-at .ensures)
+  count c = c .before .wide2 .ensures ∙ ap (λ (d : StructDef). d .count) (c .before .before .before .type-row .ensures)
 
   row : (c : so lts.Else1) →
       let at-loop = c .before .before in
@@ -129,6 +129,6 @@ module _ (t : ℕ) where
 
   pub closed : {M : Type 1} → lts.Closed (claims t) (measures.members-at t) reads.Post M
   closed =
-      lts.spec (claims t) (measures.members-at t) reads.Post Inv μ type-at-requires wide-requires wide-requires-2
+      lts.spec (claims t) (measures.members-at t) reads.Post Inv μ type-row-requires wide-requires wide-requires-2
       loop-holds returns add-row is-nested-requires text-nested-requires add-t add-j loop-less loop-again add-j-2
       loop-less-2 loop-again-2 returns-2

@@ -17,7 +17,7 @@ use Rattle.values.proofs.TextCountLaws.{texts-as, texts-member}
 use Rattle.values.proofs.lengths.text_nested.Reads as reads
 use Rattle.values.proofs.lengths.text_nested.Kinds as kinds
 use Rattle.values.proofs.lengths.+text_elements+text_members+text_nested+text_struct.Lts-text_nested as lts
-use Rattle.types.proofs.member_at.Reads as member-at-reads
+use Rattle.types.proofs.member_row.Reads as member-row-reads
 use Rattle.values.proofs.rows.struct_size.Reads as struct-size-reads
 use Rattle.words.proofs.wide.Reads as wide-reads
 use Rattle.values.proofs.lengths.text_elements.Reads as elements-reads
@@ -26,8 +26,8 @@ use Rattle.values.proofs.lengths.+text_elements+text_members+text_neste
 
 abbrev claims : ℕ → lts.Claims
 claims t = (
-  member-at-reads.Asked,
-  member-at-reads.Learnt,
+  member-row-reads.Asked,
+  member-row-reads.Learnt,
   wide-reads.Asked,
   wide-reads.Learnt,
   struct-size-reads.Asked,
@@ -45,8 +45,8 @@ module _ (t : ℕ) where
   abbrev start : so lts.After-known-told → so lts.Start
   start c = c .before .before .before .before .before .before .before
 
-  member-at-requires : so lts.Need-member-at-requires
-  member-at-requires c κs = c .before .pre .1 .1 .0 .row-of .inside
+  member-row-requires : so lts.Need-member-row-requires
+  member-row-requires c κs = c .before .pre .1 .1 .0 .row-of .inside
 
   wide-requires : so lts.Need-wide-requires
   wide-requires c κs = search needs
@@ -64,7 +64,7 @@ module _ (t : ℕ) where
       let entry = read .before .before in
       absurd (never-atomic (memberAt (entry .args .members .now) (entry .args .row)) (entry .pre .1 .1 .0 .nested)
       (c .enum-told .given .0 .0)
-      (ap (λ (m : Member). m .ty) (sym (read .member-at .ensures)) ∙ c .enum-told .given .1))
+      (ap (λ (m : Member). m .ty) (sym (read .member-row .ensures)) ∙ c .enum-told .given .1))
 
   enum-known-ty : so lts.Need-enum-known-ty
   enum-known-ty c = search needs
@@ -81,7 +81,7 @@ module _ (t : ℕ) where
       → size ≡ sizesIn (start c .args .types .now) (c .before .ty .given .0 .0) → Row c size
   row c size e =
       let at-match = c .before .before .before in
-      let same = at-match .before .before .member-at .ensures in
+      let same = at-match .before .before .member-row .ensures in
       record {
         nested = start c .pre .1 .1 .0;
         whole = start c .pre .1 .1 .1 .0;
@@ -173,7 +173,7 @@ module _ (t : ℕ) where
 
   pub closed : {M : Type 1} → lts.Closed (claims t) (measures.nested-at t) reads.Post M
   closed =
-      lts.spec (claims t) (measures.nested-at t) reads.Post member-at-requires wide-requires wide-requires-2 enum-told
+      lts.spec (claims t) (measures.nested-at t) reads.Post member-row-requires wide-requires wide-requires-2 enum-told
       returns enum-known-ty struct-size-requires add-end sub-text-struct part-text-struct-start part-text-struct-end
       text-struct-requires returns-2 mul-end add-end-2 sub-text-elements part-text-elements-start
       part-text-elements-end text-elements-requires returns-3

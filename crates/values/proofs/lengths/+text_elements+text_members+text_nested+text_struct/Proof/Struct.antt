@@ -15,15 +15,15 @@ use Rattle.values.proofs.lengths.+text_elements+text_members+text_neste
 use Rattle.values.proofs.rows.capacity_at.Reads as capacity-at-reads
 use Rattle.values.proofs.rows.is_string.Reads as is-string-reads
 use Rattle.values.proofs.texts.text_length.Reads as text-length-reads
-use Rattle.types.proofs.type_at.Reads as type-at-reads
+use Rattle.types.proofs.type_row.Reads as type-row-reads
 use Rattle.words.proofs.wide.Reads as wide-reads
 use Rattle.values.proofs.lengths.text_members.Reads as members-reads
 use Rattle.values.proofs.lengths.+text_elements+text_members+text_nested+text_struct.Proof.Measures as measures
 
 abbrev claims : ℕ → lts.Claims
 claims t = (
-  type-at-reads.Asked,
-  type-at-reads.Learnt,
+  type-row-reads.Asked,
+  type-row-reads.Learnt,
   is-string-reads.Asked,
   is-string-reads.Learnt,
   wide-reads.Asked,
@@ -43,8 +43,8 @@ module _ (t : ℕ) where
   abbrev start : so lts.After-is-string → so lts.Start
   start c = c .before .before .before
 
-  type-at-requires : so lts.Need-type-at-requires
-  type-at-requires c κs = c .before .pre .1 .1 .0 .low
+  type-row-requires : so lts.Need-type-row-requires
+  type-row-requires c κs = c .before .pre .1 .1 .0 .low
 
   is-string-requires : so lts.Need-is-string-requires
   is-string-requires c κs = search needs
@@ -55,7 +55,7 @@ module _ (t : ℕ) where
   -- what the test says of the table's row
   kind : (c : so lts.After-is-string) → let a = start c .args in
       isString (typeAt (a .types .now) (a .i) .kind) ≡ c .is-string .result
-  kind c = ap (λ (d : StructDef). isString (d .kind)) (sym (c .before .type-at .ensures)) ∙ sym (c .is-string .ensures)
+  kind c = ap (λ (d : StructDef). isString (d .kind)) (sym (c .before .type-row .ensures)) ∙ sym (c .is-string .ensures)
 
   string : (c : so lts.After-wide) → let a = start (c .before .before) .args in
       StringAt (a .types .now) (a .members .now) (a .i) (a .image .now) (c .wide .result)
@@ -65,7 +65,7 @@ module _ (t : ℕ) where
         tables = start tested .pre .1 .0;
         whole = start tested .pre .1 .1 .0;
         kind = kind tested ∙ c .before .if1 .taken;
-        at = c .wide .ensures ∙ ap (λ (d : StructDef). d .first) (tested .before .type-at .ensures);
+        at = c .wide .ensures ∙ ap (λ (d : StructDef). d .first) (tested .before .type-row .ensures);
       }
 
   capacity-at-requires : so lts.Need-capacity-at-requires
@@ -94,5 +94,5 @@ module _ (t : ℕ) where
 
   pub closed : {M : Type 1} → lts.Closed (claims t) (measures.struct-at t) reads.Post M
   closed =
-      lts.spec (claims t) (measures.struct-at t) reads.Post type-at-requires is-string-requires wide-requires
+      lts.spec (claims t) (measures.struct-at t) reads.Post type-row-requires is-string-requires wide-requires
       capacity-at-requires text-length-requires returns text-members-requires returns-2

@@ -31,8 +31,8 @@ elements-at t = and 3 elements-kinds.ps (is 3 elements-kinds.ps μ-elements t) e
 abbrev pub elements-below : ℕ → In 3 elements-kinds.ps
 elements-below t = and 3 elements-kinds.ps (falls 3 elements-kinds.ps _<_ μ-elements t) elements-reads.Pre
 
-abbrev pub member-at : ℕ → In 3 member-kinds.ps
-member-at t = and 3 member-kinds.ps (is 3 member-kinds.ps μ-member t) member-reads.Pre
+abbrev pub member-row : ℕ → In 3 member-kinds.ps
+member-row t = and 3 member-kinds.ps (is 3 member-kinds.ps μ-member t) member-reads.Pre
 
 abbrev pub member-below : ℕ → In 3 member-kinds.ps
 member-below t = and 3 member-kinds.ps (falls 3 member-kinds.ps _<_ μ-member t) member-reads.Pre

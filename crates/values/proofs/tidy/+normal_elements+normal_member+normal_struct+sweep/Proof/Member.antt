@@ -9,7 +9,7 @@ use lib.ListN.{length}
 use Rattle.values.proofs.MemberMade.{PlainHere, plain-after, plain-start, plain-gap}
 use Rattle.values.proofs.MemberMade.{atomics-here, atomics-end, atomics-onward, struct-below, struct-low}
 use Rattle.values.proofs.MemberMade.{one-here, one-end, one-onward, all-here, all-end, all-onward}
-use Rattle.types.proofs.member_at.Reads as member-at-reads
+use Rattle.types.proofs.member_row.Reads as member-row-reads
 use Rattle.words.proofs.wide.Reads as wide-reads
 use Rattle.values.proofs.sets.clear.Reads as clear-reads
 use Rattle.values.proofs.norms.normal_atomics.Reads as normal-atomics-reads
@@ -25,8 +25,8 @@ use Rattle.values.proofs.tidy.+normal_elements+normal_member+normal_str
 
 abbrev claims : ℕ → lts.Claims
 claims t = (
-  member-at-reads.Asked,
-  member-at-reads.Learnt,
+  member-row-reads.Asked,
+  member-row-reads.Learnt,
   wide-reads.Asked,
   wide-reads.Learnt,
   clear-reads.Asked,
@@ -47,7 +47,7 @@ claims t = (
 
 module _ (t : ℕ) where
   abbrev so : (lts.Claims → In 3 kinds.ps → Out 3 kinds.ps kinds.r → Type 0) → Type 0
-  so need = need (claims t) (measures.member-at t) reads.Post
+  so need = need (claims t) (measures.member-row t) reads.Post
 
   -- the member was read
   held : (c : so lts.After-wide2)
@@ -55,7 +55,7 @@ module _ (t : ℕ) where
       let read = at-offset .before in
       let a = read .before .before .args in
       PlainHere (now (a .types)) (now (a .members)) (a .i) (a .row) (a .base) (a .c) (now (a .image))
-      (read .member-at .result) (at-offset .wide .result) (c .wide2 .result)
+      (read .member-row .result) (at-offset .wide .result) (c .wide2 .result)
   held c =
       let at-offset = c .before in
       let read = at-offset .before in
@@ -64,7 +64,7 @@ module _ (t : ℕ) where
         standing = p .0;
         row-of = p .1 .0;
         here = p .1 .1;
-        is = read .member-at .ensures;
+        is = read .member-row .ensures;
         at = at-offset .wide .ensures;
         count = c .wide2 .ensures;
       }
@@ -76,8 +76,8 @@ module _ (t : ℕ) where
   abbrev start-of : so lts.After-clear → so lts.Start
   start-of c = read-of c .before .before .before .before
 
-  member-at-requires : so lts.Need-member-at-requires
-  member-at-requires c κs = c .before .pre .1 .1 .0 .row-of .inside
+  member-row-requires : so lts.Need-member-row-requires
+  member-row-requires c κs = c .before .pre .1 .1 .0 .row-of .inside
 
   wide-requires : so lts.Need-wide-requires
   wide-requires c κs = search needs
@@ -255,9 +255,9 @@ module _ (t : ℕ) where
       all-onward (held (read-of at-clear)) (at-ty .ty2 .given .1) (else1 .if1 .left) (at-size .struct-size .ensures)
       (at-clear .clear .ensures) (at-elements .normal-elements .ensures)
 
-  pub closed : {M : Type 1} → lts.Closed (claims t) (measures.member-at t) reads.Post M
+  pub closed : {M : Type 1} → lts.Closed (claims t) (measures.member-row t) reads.Post M
   closed =
-      lts.spec (claims t) (measures.member-at t) reads.Post member-at-requires wide-requires wide-requires-2 add-clear
+      lts.spec (claims t) (measures.member-row t) reads.Post member-row-requires wide-requires wide-requires-2 add-clear
       sub-clear clear-requires enum-known-ty add-normal-atomics normal-atomics-requires size-of-requires
       times-of-requires mul-result add-result same-length returns enum-known-ty-2 struct-size-requires
       add-normal-struct normal-struct-requires add-result-2 same-length-2 returns-2 add-normal-elements

@@ -7,7 +7,7 @@ use borrow.Fn.Kinds.{In, Out}
 use Rattle.values.proofs.SettingLaws.{text-rows}
 use Rattle.values.proofs.StandingLaws.{standing-walkable}
 use Rattle.values.proofs.StructSteps.{here-after, members-made, rows-few, rows-here, string-fits, string-made}
-use Rattle.types.proofs.type_at.Reads as type-at-reads
+use Rattle.types.proofs.type_row.Reads as type-row-reads
 use Rattle.words.proofs.wide.Reads as wide-reads
 use Rattle.values.proofs.rows.is_string.Reads as is-string-reads
 use Rattle.values.proofs.rows.capacity_at.Reads as capacity-at-reads
@@ -22,8 +22,8 @@ use Rattle.values.proofs.tidy.+normal_elements+normal_member+normal_str
 
 abbrev claims : ℕ → lts.Claims
 claims t = (
-  type-at-reads.Asked,
-  type-at-reads.Learnt,
+  type-row-reads.Asked,
+  type-row-reads.Learnt,
   wide-reads.Asked,
   wide-reads.Learnt,
   is-string-reads.Asked,
@@ -44,8 +44,8 @@ module _ (t : ℕ) where
   abbrev so : (lts.Claims → In 3 kinds.ps → Out 3 kinds.ps kinds.r → Type 0) → Type 0
   so need = need (claims t) (measures.struct-at t) reads.Post
 
-  type-at-requires : so lts.Need-type-at-requires
-  type-at-requires c κs = c .before .pre .1 .1 .low
+  type-row-requires : so lts.Need-type-row-requires
+  type-row-requires c κs = c .before .pre .1 .1 .low
 
   wide-requires : so lts.Need-wide-requires
   wide-requires c κs = search needs
@@ -62,7 +62,7 @@ module _ (t : ℕ) where
       let at-first = at-string .before .before in
       let at-type = at-first .before in
       let p = at-type .before .before .pre .1 in
-      text-rows (standing-walkable (p .0)) (p .1) (at-type .type-at .ensures) (at-string .is-string .ensures)
+      text-rows (standing-walkable (p .0)) (p .1) (at-type .type-row .ensures) (at-string .is-string .ensures)
       (c .if1 .taken) (at-first .wide .ensures)
 
   normal-text-requires : so lts.Need-normal-text-requires
@@ -73,7 +73,7 @@ module _ (t : ℕ) where
       let at-first = at-string .before .before in
       let at-type = at-first .before in
       let p = at-type .before .before .pre .1 in
-      string-fits (p .0) (p .1) (at-type .type-at .ensures) (at-first .wide .ensures) (at-string .is-string .ensures)
+      string-fits (p .0) (p .1) (at-type .type-row .ensures) (at-first .wide .ensures) (at-string .is-string .ensures)
       (then1 .if1 .taken) (at-capacity .capacity-at .ensures)
 
   same-length : so lts.Need-same-length
@@ -88,7 +88,7 @@ module _ (t : ℕ) where
       let at-first = at-string .before .before in
       let at-type = at-first .before in
       let p = at-type .before .before .pre .1 in
-      string-made (p .0) (p .1) (at-type .type-at .ensures) (at-first .wide .ensures) (at-string .is-string .ensures)
+      string-made (p .0) (p .1) (at-type .type-row .ensures) (at-first .wide .ensures) (at-string .is-string .ensures)
       (then1 .if1 .taken) (at-capacity .capacity-at .ensures) (at-text .normal-text .ensures)
 
   slice-aggregate-keep-flags : so lts.Need-slice-aggregate-keep-flags
@@ -100,8 +100,8 @@ module _ (t : ℕ) where
       let at-first = at-count .before in
       let at-type = at-first .before in
       let p = at-type .before .before .pre .1 in (
-        rows-here (p .0) (p .1) (at-type .type-at .ensures) (at-first .wide .ensures) (at-count .wide2 .ensures),
-        rows-few (p .0) (p .1) (at-type .type-at .ensures) (at-first .wide .ensures) (at-count .wide2 .ensures),
+        rows-here (p .0) (p .1) (at-type .type-row .ensures) (at-first .wide .ensures) (at-count .wide2 .ensures),
+        rows-few (p .0) (p .1) (at-type .type-row .ensures) (at-first .wide .ensures) (at-count .wide2 .ensures),
       )
 
   sweep-requires : so lts.Need-sweep-requires
@@ -120,11 +120,11 @@ module _ (t : ℕ) where
       let at-first = at-count .before in
       let at-type = at-first .before in
       let p = at-type .before .before .pre .1 in (
-        rows-here (p .0) (here-after _ (p .1) (at-sweep .sweep .kept .1 .1 .1 .0)) (at-type .type-at .ensures)
+        rows-here (p .0) (here-after _ (p .1) (at-sweep .sweep .kept .1 .1 .1 .0)) (at-type .type-row .ensures)
             (at-first .wide .ensures) (at-count .wide2 .ensures),
         omega (
           arith,
-          rows-few (p .0) (p .1) (at-type .type-at .ensures) (at-first .wide .ensures) (at-count .wide2 .ensures),
+          rows-few (p .0) (p .1) (at-type .type-row .ensures) (at-first .wide .ensures) (at-count .wide2 .ensures),
           at-keep .keep-flags .kept .1 .1 .1 .1 .1 .0,
         ),
       )
@@ -143,12 +143,12 @@ module _ (t : ℕ) where
       let at-first = at-count .before in
       let at-type = at-first .before in
       let p = at-type .before .before .pre .1 in
-      members-made (p .0) (p .1) (at-type .type-at .ensures) (at-first .wide .ensures) (at-count .wide2 .ensures)
+      members-made (p .0) (p .1) (at-type .type-row .ensures) (at-first .wide .ensures) (at-count .wide2 .ensures)
       (at-string .is-string .ensures) (else1 .if1 .left) (at-keep .keep-flags .ensures) (at-sweep .sweep .ensures)
       (at-put .put-flags .ensures)
 
   pub closed : {M : Type 1} → lts.Closed (claims t) (measures.struct-at t) reads.Post M
   closed =
-      lts.spec (claims t) (measures.struct-at t) reads.Post type-at-requires wide-requires wide-requires-2
+      lts.spec (claims t) (measures.struct-at t) reads.Post type-row-requires wide-requires wide-requires-2
       is-string-requires capacity-at-requires normal-text-requires same-length returns slice-aggregate-keep-flags
       keep-flags-requires sweep-requires slice-aggregate-put-flags put-flags-requires same-length-2 returns-2

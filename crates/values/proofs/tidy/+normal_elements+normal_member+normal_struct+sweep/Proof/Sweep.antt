@@ -10,7 +10,7 @@ use mathlib.Core.Logic.{⊎-elim}
 use Rattle.types.specs.Waste.{sizesIn}
 use Rattle.values.proofs.SweepRows.{Sweeping, sweep-start, sweep-here, sweep-row, sweep-past, sweep-plain}
 use Rattle.values.proofs.SweepRows.{size-of-type, sweep-on, sweep-low, sweep-done}
-use Rattle.types.proofs.type_at.Reads as type-at-reads
+use Rattle.types.proofs.type_row.Reads as type-row-reads
 use Rattle.words.proofs.wide.Reads as wide-reads
 use Rattle.values.proofs.rows.is_plain.Reads as is-plain-reads
 use Rattle.values.proofs.sets.clear.Reads as clear-reads
@@ -22,8 +22,8 @@ use Rattle.values.proofs.tidy.+normal_elements+normal_member+normal_str
 
 abbrev claims : ℕ → lts.Claims
 claims t = (
-  type-at-reads.Asked,
-  type-at-reads.Learnt,
+  type-row-reads.Asked,
+  type-row-reads.Learnt,
   wide-reads.Asked,
   wide-reads.Learnt,
   is-plain-reads.Asked,
@@ -46,8 +46,8 @@ module _ (t : ℕ) where
       (lts.Claims → In 3 kinds.ps → Out 3 kinds.ps kinds.r → lts.InvT-loop → lts.MeasureT-loop → Type 0) → Type 0
   so need = need (claims t) (measures.sweep-at t) reads.Post Inv μ
 
-  type-at-requires : so lts.Need-type-at-requires
-  type-at-requires c κs = c .before .pre .1 .1 .low
+  type-row-requires : so lts.Need-type-row-requires
+  type-row-requires c κs = c .before .pre .1 .1 .low
 
   wide-requires : so lts.Need-wide-requires
   wide-requires c κs = search needs
@@ -59,7 +59,7 @@ module _ (t : ℕ) where
   loop-holds c =
       let at-type = c .before .before in
       let p = at-type .before .before .pre .1 in
-      sweep-start (p .0) (p .1) (at-type .type-at .ensures) (c .before .wide .ensures) (c .wide2 .ensures)
+      sweep-start (p .0) (p .1) (at-type .type-row .ensures) (c .before .wide .ensures) (c .wide2 .ensures)
 
   add-is-plain : so lts.Need-add-is-plain
   add-is-plain c = omega (arith, sweep-row (c .before .loop .inv) (c .loop-test .taken))
@@ -126,7 +126,7 @@ module _ (t : ℕ) where
   size-is c =
       let at-type = c .before .before .before .before .before .before in
       let a = at-type .before .before .args in
-      size-of-type (now (a .types)) (a .i) (at-type .type-at .ensures) (c .wide3 .ensures)
+      size-of-type (now (a .types)) (a .i) (at-type .type-row .ensures) (c .wide3 .ensures)
 
   sub-clear : so lts.Need-sub-clear
   sub-clear c =
@@ -153,6 +153,6 @@ module _ (t : ℕ) where
 
   pub closed : {M : Type 1} → lts.Closed (claims t) (measures.sweep-at t) reads.Post M
   closed =
-      lts.spec (claims t) (measures.sweep-at t) reads.Post Inv μ type-at-requires wide-requires wide-requires-2
+      lts.spec (claims t) (measures.sweep-at t) reads.Post Inv μ type-row-requires wide-requires wide-requires-2
       loop-holds add-is-plain is-plain-requires add-normal-member normal-member-requires add-k loop-less loop-again
       add-clear wide-requires-3 sub-clear clear-requires same-length returns

@@ -11,7 +11,7 @@ use Rattle.values.proofs.ReadLaws.{rows-start, rows-end, nested-asks, n
 use Rattle.values.proofs.walk.read_members.Reads as members
 use Rattle.values.proofs.walk.+read_elements+read_members+read_nested+read_struct.Lts-read_members as members-lts
 use Rattle.values.proofs.walk.read_nested.Reads as nested
-use Rattle.types.proofs.type_at.Reads as type-at-reads
+use Rattle.types.proofs.type_row.Reads as type-row-reads
 use Rattle.values.proofs.entry.put_entry.Reads as put-entry-reads
 use Rattle.values.proofs.rows.is_nested.Reads as is-nested-reads
 use Rattle.values.proofs.walk.read_leaf.Reads as read-leaf-reads
@@ -20,8 +20,8 @@ use Rattle.values.proofs.walk.+read_elements+read_members+read_nested+r
 
 abbrev members-claims : ℕ → members-lts.Claims
 members-claims t = (
-  type-at-reads.Asked,
-  type-at-reads.Learnt,
+  type-row-reads.Asked,
+  type-row-reads.Learnt,
   wide-reads.Asked,
   wide-reads.Learnt,
   put-entry-reads.Asked,
@@ -49,7 +49,7 @@ members-loop-holds t c =
     let wide = counted .before in
     let read = wide .before in
     let start = read .before .before .before in
-    rows-start (read .type-at .ensures) (wide .wide .ensures) (counted .wide2 .ensures) (now (start .args .out))
+    rows-start (read .type-row .ensures) (wide .wide .ensures) (counted .wide2 .ensures) (now (start .args .out))
     (start .pre .1 .1) (put .put-entry .ensures) (start .pre .1 .0 .0) (start .pre .1 .0 .1)
 
 members-read-nested-requires : (t : ℕ)
@@ -115,7 +115,7 @@ members-returns t c =
     let wide = counted .before in
     let read = wide .before in
     let start = read .before .before .before in
-    rows-end (read .type-at .ensures) (wide .wide .ensures) (counted .wide2 .ensures) (now (start .args .out))
+    rows-end (read .type-row .ensures) (wide .wide .ensures) (counted .wide2 .ensures) (now (start .args .out))
     (start .pre .1 .1) (first .put-entry .ensures) (loop .loop .inv) (test .loop-test .left) (put .put-entry2 .ensures)
 
 pub members-closed : (t : ℕ) {M : Type 1}

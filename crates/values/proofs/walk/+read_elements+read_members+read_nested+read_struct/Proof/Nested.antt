@@ -11,7 +11,7 @@ use Rattle.values.proofs.walk.read_elements.Reads as elements
 use Rattle.values.proofs.walk.read_nested.Reads as nested
 use Rattle.values.proofs.walk.+read_elements+read_members+read_nested+read_struct.Lts-read_nested as nested-lts
 use Rattle.values.proofs.walk.read_struct.Reads as struct
-use Rattle.types.proofs.member_at.Reads as member-at-reads
+use Rattle.types.proofs.member_row.Reads as member-row-reads
 use Rattle.values.proofs.entry.put_entry.Reads as put-entry-reads
 use Rattle.values.proofs.rows.struct_size.Reads as struct-size-reads
 use Rattle.words.proofs.wide.Reads as wide-reads
@@ -21,8 +21,8 @@ abbrev nested-claims : ℕ → nested-lts.Claims
 nested-claims t = (
   put-entry-reads.Asked,
   put-entry-reads.Learnt,
-  member-at-reads.Asked,
-  member-at-reads.Learnt,
+  member-row-reads.Asked,
+  member-row-reads.Learnt,
   wide-reads.Asked,
   wide-reads.Learnt,
   struct-size-reads.Asked,
@@ -43,7 +43,7 @@ nested-returns : (t : ℕ) → nested-lts.Need-returns (nested-claims t) (measur
 nested-returns t c =
     let read = c .before .before .before .before in
     let start = read .before .before .before .before .before .before .before in
-    absurd (nested-not (start .pre .1 .0 .1 .0) (read .member-at .ensures) (c .enum-told .given .1))
+    absurd (nested-not (start .pre .1 .0 .1 .0) (read .member-row .ensures) (c .enum-told .given .1))
 
 nested-struct-size-requires : (t : ℕ)
     → nested-lts.Need-struct-size-requires (nested-claims t) (measures.nested-at t) nested.Post
@@ -51,7 +51,7 @@ nested-struct-size-requires t c κs =
     let ty = c .before in
     let read = ty .before .before .before .before in
     let start = read .before .before .before .before .before .before .before in
-    nested-low (start .pre .1 .0 .1 .0) (read .member-at .ensures) (ty .ty .given .1)
+    nested-low (start .pre .1 .0 .1 .0) (read .member-row .ensures) (ty .ty .given .1)
 
 -- the row holds a structure, and its number is put
 nesting : (t : ℕ) (c : nested-lts.After-struct-size (nested-claims t) (measures.nested-at t) nested.Post)
@@ -72,7 +72,7 @@ nesting t c =
     let start = put .before .before .before .before in
     let nested = start .pre .1 .0 .1 in
     record {
-      held = held-row (nested .0) (read .member-at .ensures) (nested .1) (ty .ty .given .1) (wide .wide .ensures)
+      held = held-row (nested .0) (read .member-row .ensures) (nested .1) (ty .ty .given .1) (wide .wide .ensures)
           (counted .wide2 .ensures) (c .struct-size .ensures);
       walk = start .pre .1 .0 .0;
       room = start .pre .1 .1;

@@ -8,7 +8,7 @@ use Rattle.values.proofs.ReadLaws.{members-are, string-rows, string-fit
 use Rattle.values.proofs.walk.read_members.Reads as members
 use Rattle.values.proofs.walk.read_struct.Reads as struct
 use Rattle.values.proofs.walk.+read_elements+read_members+read_nested+read_struct.Lts-read_struct as struct-lts
-use Rattle.types.proofs.type_at.Reads as type-at-reads
+use Rattle.types.proofs.type_row.Reads as type-row-reads
 use Rattle.values.proofs.rows.capacity_at.Reads as capacity-at-reads
 use Rattle.values.proofs.rows.is_string.Reads as is-string-reads
 use Rattle.values.proofs.texts.put_text.Reads as put-text-reads
@@ -17,8 +17,8 @@ use Rattle.values.proofs.walk.+read_elements+read_members+read_nested+r
 
 abbrev struct-claims : ℕ → struct-lts.Claims
 struct-claims t = (
-  type-at-reads.Asked,
-  type-at-reads.Learnt,
+  type-row-reads.Asked,
+  type-row-reads.Learnt,
   is-string-reads.Asked,
   is-string-reads.Learnt,
   wide-reads.Asked,
@@ -38,7 +38,7 @@ struct-capacity-at-requires t c κs =
     let test = taken .before in
     let read = test .before in
     let start = read .before .before .before in
-    string-rows (start .pre .1 .0 .0) (start .pre .1 .0 .1) (read .type-at .ensures) (test .is-string .ensures)
+    string-rows (start .pre .1 .0 .0) (start .pre .1 .0 .1) (read .type-row .ensures) (test .is-string .ensures)
     (taken .if1 .taken) (c .wide .ensures)
 
 struct-put-text-requires : (t : ℕ)
@@ -50,9 +50,9 @@ struct-put-text-requires t c κs =
     let test = taken .before in
     let read = test .before in
     let start = read .before .before .before in (
-      string-fits (start .pre .1 .0 .0) (start .pre .1 .0 .1) (read .type-at .ensures) (test .is-string .ensures)
+      string-fits (start .pre .1 .0 .0) (start .pre .1 .0 .1) (read .type-row .ensures) (test .is-string .ensures)
           (taken .if1 .taken) (wide .wide .ensures) (capacity .capacity-at .ensures),
-      room-as (string-is (start .pre .1 .0 .0) (start .pre .1 .0 .1) (read .type-at .ensures) (test .is-string .ensures)
+      room-as (string-is (start .pre .1 .0 .0) (start .pre .1 .0 .1) (read .type-row .ensures) (test .is-string .ensures)
           (taken .if1 .taken) (wide .wide .ensures) (capacity .capacity-at .ensures)) (start .pre .1 .1),
     )
 
@@ -65,7 +65,7 @@ struct-returns t c =
     let test = taken .before in
     let read = test .before in
     let start = read .before .before .before in
-    wrote-as (string-is (start .pre .1 .0 .0) (start .pre .1 .0 .1) (read .type-at .ensures) (test .is-string .ensures)
+    wrote-as (string-is (start .pre .1 .0 .0) (start .pre .1 .0 .1) (read .type-row .ensures) (test .is-string .ensures)
     (taken .if1 .taken) (wide .wide .ensures) (capacity .capacity-at .ensures)) (put .put-text .ensures)
 
 struct-read-members-requires : (t : ℕ)
@@ -78,7 +78,7 @@ struct-read-members-requires t c κs =
       omega (arith, start .pre .0),
       (
         start .pre .1 .0,
-        room-as (members-are (start .pre .1 .0 .0) (start .pre .1 .0 .1) (read .type-at .ensures)
+        room-as (members-are (start .pre .1 .0 .0) (start .pre .1 .0 .1) (read .type-row .ensures)
             (test .is-string .ensures) (left .if1 .left)) (start .pre .1 .1),
       ),
     )
@@ -90,7 +90,7 @@ struct-returns-2 t c =
     let test = left .before in
     let read = test .before in
     let start = read .before .before .before in
-    wrote-as (members-are (start .pre .1 .0 .0) (start .pre .1 .0 .1) (read .type-at .ensures)
+    wrote-as (members-are (start .pre .1 .0 .0) (start .pre .1 .0 .1) (read .type-row .ensures)
     (test .is-string .ensures) (left .if1 .left)) (back .read-members .ensures)
 
 pub struct-closed : (t : ℕ) {M : Type 1}

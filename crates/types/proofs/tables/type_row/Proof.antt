@@ -1,8 +1,8 @@
--- `types::type_at` meets its contract: each field is read from its own word.
+-- `types::type_row` meets its contract: each field is read from its own word.
 use borrow.Author.Needs.{needs}
 use Rattle.types.specs.Tables.{typeAt}
-use Rattle.types.proofs.tables.type_at.Statement.{statement}
-use Rattle.types.proofs.tables.type_at.Tie as tie
+use Rattle.types.proofs.tables.type_row.Statement.{statement}
+use Rattle.types.proofs.tables.type_row.Tie as tie
 
 mul-at : tie.Need-mul-at
 mul-at c = search needs
@@ -92,8 +92,8 @@ returns c =
     let handle = kind .before .before in
     rw (kind .kind-of .ensures, handle .low162 .ensures, handle .before .before .low16 .ensures)
 
-pub type-at-spec : {M : Type 1} → statement M
-type-at-spec =
+pub type-row-spec : {M : Type 1} → statement M
+type-row-spec =
     tie.close
     (tie.spec
     mul-at

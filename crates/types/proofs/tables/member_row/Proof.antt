@@ -1,8 +1,8 @@
--- `types::member_at` meets its contract: each field is read from its own word.
+-- `types::member_row` meets its contract: each field is read from its own word.
 use borrow.Author.Needs.{needs}
 use Rattle.types.specs.Tables.{memberAt}
-use Rattle.types.proofs.tables.member_at.Statement.{statement}
-use Rattle.types.proofs.tables.member_at.Tie as tie
+use Rattle.types.proofs.tables.member_row.Statement.{statement}
+use Rattle.types.proofs.tables.member_row.Tie as tie
 
 mul-at : tie.Need-mul-at
 mul-at c = search needs
@@ -77,8 +77,8 @@ returns c =
     let bit = access .before .before .before in
     rw (access .low8 .ensures, bit .bit-of .ensures, bit .before .before .ty-of .ensures)
 
-pub member-at-spec : {M : Type 1} → statement M
-member-at-spec =
+pub member-row-spec : {M : Type 1} → statement M
+member-row-spec =
     tie.close
     (tie.spec
     mul-at

@@ -1,9 +1,9 @@
--- `types::name_at` meets its contract: the first two words of the row.
+-- `types::name_row` meets its contract: the first two words of the row.
 use borrow.Author.Needs.{needs}
 use mathlib.Core.Path.{refl}
 use Rattle.types.specs.Tables.{nameAt}
-use Rattle.types.proofs.tables.name_at.Statement.{statement}
-use Rattle.types.proofs.tables.name_at.Tie as tie
+use Rattle.types.proofs.tables.name_row.Statement.{statement}
+use Rattle.types.proofs.tables.name_row.Tie as tie
 
 mul-at : tie.Need-mul-at
 mul-at c = search needs
@@ -27,7 +27,7 @@ returns : tie.Need-returns
 unfolding nameAt
 returns c = refl
 
-pub name-at-spec : {M : Type 1} → statement M
-name-at-spec =
+pub name-row-spec : {M : Type 1} → statement M
+name-row-spec =
     tie.close
     (tie.spec mul-at mul-t4 element-copy-out-t7 add-t8 mul-t9 element-copy-out-t12 returns)

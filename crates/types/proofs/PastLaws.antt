@@ -1,0 +1,27 @@
+-- Rows past the end of a table are rows of zeros (document 01, "Declaration book": the tables).
+use Prim.Native.Nat.{ℕ, _+_, _*_, _≤_}
+use native.Mathlib.Omega.{arith}
+use mathlib.Core.Path.{_≡_}
+use mathlib.Core.List.{List}
+use lib.ListN.{length, getD, List·getD-eq-default}
+use Rattle.types.specs.Atomic.{atomicAt}
+use Rattle.types.specs.Tables.{bitOf, kindOf, memberAt, nameAt, noMember, noName, noType, tyOf, typeAt}
+
+module _ (t : List ℕ) (i : ℕ) (past : length t ≤ 8 * i) where
+  word : (k : ℕ) → getD t (8 * i + k) 0 ≡ 0
+  word k = List·getD-eq-default t 0 (omega arith)
+
+  first : getD t (8 * i) 0 ≡ 0
+  first = List·getD-eq-default t 0 past
+
+  pub type-past : noType ≡ typeAt t i
+  unfolding typeAt kindOf
+  type-past = rw (first, word 1, word 2, word 3, word 4, word 5, word 6, word 7)
+
+  pub member-past : noMember ≡ memberAt t i
+  unfolding memberAt tyOf bitOf atomicAt
+  member-past = rw (word 2, word 3, word 4, word 5, word 6, word 7)
+
+  pub name-past : noName ≡ nameAt t i
+  unfolding nameAt
+  name-past = rw (first, word 1)

@@ -1,0 +1,90 @@
+-- What is said tells the answer (document 01, "Refusal numbers"): a refusal is the only one with its number and place,
+-- so that two answers that say the same are the same.
+use Prim.Native.Nat.{ℕ, _-_}
+use mathlib.Core.Path.{_≡_, refl, sym, ap, ap₂, _∙_}
+use mathlib.Core.List.{List, [], _∷_}
+use lib.ListN.{getD}
+use Rattle.types.specs.Refusal.{numberOf, placeOf}
+use Rattle.types.specs.Said.{Said, done, refused, why}
+use Rattle.types.specs.Template.{saidBy}
+use Rattle.types.specs.declared.refusal.Refusal.{Refusal}
+use Rattle.types.specs.declared.refusal.Refusal.the-variants as refusal
+use Rattle.types.specs.Shape.{fitSays, saidBy as shapedSays}
+use Rattle.types.specs.declared.shape.Fit.{Fit}
+use Rattle.types.specs.declared.shape.Fit.the-variants as fit
+use Rattle.types.specs.declared.shape.Shaped.{Shaped}
+use Rattle.types.specs.Build.{saidBy as builtSays}
+use Rattle.types.specs.declared.building.Built.{Built}
+use Rattle.types.specs.declared.building.Built.the-variants as built
+use Rattle.types.specs.declared.templates.Wrote.{Wrote}
+use Rattle.types.specs.declared.templates.Wrote.the-variants as wrote
+
+-- the refusals with a place, from number 1 on
+abbrev refusals : ℕ → List Refusal
+refusals p =
+    refusal.BookMalformed ∷ refusal.NameOutsideRule p ∷ refusal.NameKnown p ∷ refusal.IdOutsideRange p
+    ∷ refusal.IdInUse p ∷ refusal.NoIdFree p ∷ refusal.StringWrong p ∷ refusal.MemberTwice p
+    ∷ refusal.LocalOutsideAoi p ∷ refusal.TypesUnknown p ∷ refusal.AccessWrong p ∷ refusal.MemberTooFar p
+    ∷ refusal.TablesFull p ∷ refusal.ImageLength ∷ refusal.NoSuchType ∷ refusal.NoRoom ∷ refusal.StreamMalformed
+    ∷ refusal.EntryMisfit p ∷ refusal.NumberOutOfRange p ∷ refusal.PastLastPlace p ∷ refusal.TextTooLong p
+    ∷ refusal.PredefinedIds ∷ refusal.LengthsWrong ∷ refusal.TagTooLarge ∷ []
+
+abbrev refusalAt : ℕ → ℕ → Refusal
+refusalAt number p = getD (refusals p) (number - 1) refusal.BookMalformed
+
+back : (r : Refusal) → refusalAt (numberOf r) (placeOf r) ≡ r
+back refusal.BookMalformed = refl
+back (refusal.NameOutsideRule p) = refl
+back (refusal.NameKnown p) = refl
+back (refusal.IdOutsideRange p) = refl
+back (refusal.IdInUse p) = refl
+back (refusal.NoIdFree p) = refl
+back (refusal.StringWrong p) = refl
+back (refusal.MemberTwice p) = refl
+back (refusal.LocalOutsideAoi p) = refl
+back (refusal.TypesUnknown p) = refl
+back (refusal.AccessWrong p) = refl
+back (refusal.MemberTooFar p) = refl
+back (refusal.TablesFull p) = refl
+back refusal.ImageLength = refl
+back refusal.NoSuchType = refl
+back refusal.NoRoom = refl
+back refusal.StreamMalformed = refl
+back (refusal.EntryMisfit p) = refl
+back (refusal.NumberOutOfRange p) = refl
+back (refusal.PastLastPlace p) = refl
+back (refusal.TextTooLong p) = refl
+back refusal.PredefinedIds = refl
+back refusal.LengthsWrong = refl
+back refusal.TagTooLarge = refl
+
+pub refusal-same : (r s : Refusal) → numberOf r ≡ numberOf s → placeOf r ≡ placeOf s → r ≡ s
+refusal-same r s e f = sym (back r) ∙ ap₂ refusalAt e f ∙ back s
+
+pub why-same : {A : Type 0} (r s : Refusal) → why {A = A} r ≡ why s → r ≡ s
+why-same r s e =
+    let number : numberOf r ≡ numberOf s = cc in
+    let place : placeOf r ≡ placeOf s = cc in
+    refusal-same r s number place
+
+pub wrote-same : (r s : Wrote) → saidBy r ≡ saidBy s → r ≡ s
+wrote-same (wrote.Length n) (wrote.Length m) e = cc
+wrote-same (wrote.Length n) (wrote.Refused s) e = cc
+wrote-same (wrote.Refused r) (wrote.Length m) e = cc
+wrote-same (wrote.Refused r) (wrote.Refused s) e = let f = why-same r s e in cc
+
+pub fit-same : (r s : Fit) → fitSays r ≡ fitSays s → r ≡ s
+fit-same fit.Fits fit.Fits e = refl
+fit-same fit.Fits (fit.Refused s) e = cc
+fit-same (fit.Refused r) fit.Fits e = cc
+fit-same (fit.Refused r) (fit.Refused s) e = let f = why-same r s e in cc
+
+pub shaped-same : (r s : Shaped) → shapedSays r ≡ shapedSays s → r ≡ s
+shaped-same r s e =
+    ap₂ (λ f x. record { fit = f; shape = x }) (fit-same (r .fit) (s .fit) (ap (λ t. t .said) e)) (ap (λ t. t .shape) e)
+
+pub built-same : (r s : Built) → builtSays r ≡ builtSays s → r ≡ s
+built-same (built.Types n) (built.Types m) e = cc
+built-same (built.Types n) (built.Refused s) e = cc
+built-same (built.Refused r) (built.Types m) e = cc
+built-same (built.Refused r) (built.Refused s) e = let f = why-same r s e in cc

@@ -1,0 +1,88 @@
+// Rows of the tables for any number (document 01, "Declaration book": the tables): past the last row all is 0.
+ghost use mathlib.Core.Path.{_≡_};
+ghost use Prim.Native.Nat.{_*_, _≤_};
+ghost use lib.ListN.{length};
+ghost use Rattle.types.specs.Tables.{memberAt, nameAt, typeAt};
+use crate::atomic::Atomic;
+use crate::member::Bit;
+use crate::member::Member;
+use crate::member::Span;
+use crate::member::StructDef;
+use crate::member::StructKind;
+use crate::member::Ty;
+use crate::tables::MEMBERS;
+use crate::tables::MemberTable;
+use crate::tables::TYPES;
+use crate::tables::TypeTable;
+use crate::tables::member_row;
+use crate::tables::name_row;
+use crate::tables::type_row;
+
+// What stands past the last row. The table is lent for its length alone, which the promise speaks of.
+fn type_past(types: &[u32], i: usize) -> StructDef
+    requires { ⌜ length (now types) ≤ 8 * i ⌝ }
+    ensures { λ r. ⌜ r ≡ typeAt (now (types .entry)) i ⌝ }
+{
+    let name = Span { at: 0, long: 0 };
+    StructDef {
+        name,
+        id: 0,
+        handle: 0,
+        size: 0,
+        kind: StructKind::Udt,
+        first: 0,
+        count: 0,
+    }
+}
+
+fn member_past(members: &[u32], row: usize) -> Member
+    requires { ⌜ length (now members) ≤ 8 * row ⌝ }
+    ensures { λ r. ⌜ r ≡ memberAt (now (members .entry)) row ⌝ }
+{
+    Member {
+        ty: Ty::Atomic(Atomic::Bool),
+        count: 0,
+        offset: 0,
+        bit: Bit::None,
+        hidden: false,
+        local: false,
+        access: 0,
+    }
+}
+
+fn name_past(members: &[u32], row: usize) -> Span
+    requires { ⌜ length (now members) ≤ 8 * row ⌝ }
+    ensures { λ r. ⌜ r ≡ nameAt (now (members .entry)) row ⌝ }
+{
+    Span { at: 0, long: 0 }
+}
+
+// The structure that a row holds.
+pub fn type_at(types: &TypeTable, i: usize) -> StructDef
+    ensures { λ r. ⌜ r ≡ typeAt (now (types .entry)) i ⌝ }
+{
+    if i < TYPES {
+        return type_row(types, i);
+    }
+    type_past(types, i)
+}
+
+// The member that a row holds.
+pub fn member_at(members: &MemberTable, row: usize) -> Member
+    ensures { λ r. ⌜ r ≡ memberAt (now (members .entry)) row ⌝ }
+{
+    if row < MEMBERS {
+        return member_row(members, row);
+    }
+    member_past(members, row)
+}
+
+// Where the name of the member in a row stands.
+pub fn name_at(members: &MemberTable, row: usize) -> Span
+    ensures { λ r. ⌜ r ≡ nameAt (now (members .entry)) row ⌝ }
+{
+    if row < MEMBERS {
+        return name_row(members, row);
+    }
+    name_past(members, row)
+}
