@@ -1,2 +1,1 @@
--- Laws that the proofs of program `layout` share.
-pub mod LineLaws
+-- The laws that the proofs of program `layout` cite stand in the crates below it.

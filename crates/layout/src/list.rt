@@ -1,24 +1,21 @@
 // The listing of the types in the tables (document 01, end of "Reference cases"): each type's line and its members'
 // lines, after the four predefined types.
-ghost use Prim.Native.Nat.{_<_, _≤_};
+ghost use Prim.Native.Nat.{_≤_};
 ghost use lib.ListN.{length};
-ghost use Rattle.types.specs.Kept.{Listed};
-ghost use Rattle.types.specs.Listing.{Listable};
-ghost use Rattle.types.specs.Registry.{typeCount};
-ghost use Rattle.types.specs.Tables.{typeAt};
+ghost use Rattle.types.specs.Kept.{Kept};
 use crate::lines::add_member;
 use crate::lines::add_type;
 use types::MemberTable;
 use types::NameTable;
 use types::TypeTable;
+use types::type_at;
 use types::type_count;
-use types::type_row;
 use words::wide;
 
 // The predefined types come first in the tables and are never shown.
 const PREDEFINED: usize = 4;
 
-// The lines of the members of the type in a row; answers the place after them.
+// The lines of the members of the type with a number; answers the place after them.
 fn add_members(
     types: &TypeTable,
     members: &MemberTable,
@@ -27,11 +24,10 @@ fn add_members(
     out: &mut [u8],
     from: usize,
 ) -> usize
-    requires { ⌜ (i < 200) × (Listable (now types) (now members) (typeAt (now types) i)
-        × ((from ≤ length (now out)) × (512 ≤ length (now out)))) ⌝ }
+    requires { ⌜ Kept (now types) (now members) (now names) × (from ≤ length (now out)) ⌝ }
     ensures { λ r. ⌜ r ≤ length (now (out .entry)) ⌝ }
 {
-    let d = type_row(types, i);
+    let d = type_at(types, i);
     let count = wide(d.count);
     let mut at = from;
     let mut k: usize = 0;
@@ -44,7 +40,7 @@ fn add_members(
 
 // The whole listing, written.
 pub fn list(types: &TypeTable, members: &MemberTable, names: &NameTable, out: &mut [u8])
-    requires { ⌜ Listed (now types) (now members) (typeCount (now types)) × (512 ≤ length (now out)) ⌝ }
+    requires { ⌜ Kept (now types) (now members) (now names) ⌝ }
 {
     let n = type_count(types);
     let mut at: usize = 0;

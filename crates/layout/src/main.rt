@@ -1,7 +1,6 @@
 // The program `layout` (document 01, end of "Reference cases"): reads a declaration book from standard input and
 // lists its types on standard output, or the refusal's number and place. A book above 65,536 bytes is refused with 1.
 ghost use mathlib.Core.Path.{_≡_};
-ghost use Prim.Native.Nat.{_≤_};
 ghost use lib.ListN.{length};
 
 mod lines;
@@ -10,6 +9,7 @@ mod list;
 use crate::lines::say_refused;
 use crate::list::list;
 use types::Built;
+use types::PredefinedIds;
 use types::Refusal;
 use types::build;
 use types::no_members;
@@ -23,20 +23,22 @@ fn room() -> [u8; 65537]
     [0; 65537]
 }
 
-fn refuse(r: Refusal, out: &mut [u8])
-    requires { ⌜ 512 ≤ length (now out) ⌝ }
-{
+fn refuse(r: Refusal, out: &mut [u8]) {
     say_refused(r.number(), r.place(), out);
 }
 
 // What a book of any length up to the longest is answered with. The predefined ids are never shown.
-fn show(book: &[u8], out: &mut [u8])
-    requires { ⌜ 512 ≤ length (now out) ⌝ }
-{
+fn show(book: &[u8], out: &mut [u8]) {
     let mut types = no_types();
     let mut members = no_members();
     let mut names = no_names();
-    let built = build(book, 1, 2, 3, 4, &mut types, &mut members, &mut names);
+    let ids = PredefinedIds {
+        timer: 1,
+        counter: 2,
+        control: 3,
+        string: 4,
+    };
+    let built = build(book, ids, &mut types, &mut members, &mut names);
     match built {
         Built::Types(_) => {
             list(&types, &members, &names, out);

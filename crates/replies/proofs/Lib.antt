@@ -1,2 +1,1 @@
--- The laws that the proofs of crate `replies` cite.
-pub mod TableLaws
+-- The laws that the proofs of crate `replies` cite stand in the crates below it.

@@ -1,7 +1,5 @@
 // Kind 2: a type of the tables, whole, with its members.
-ghost use Prim.Native.Nat.{_<_};
 ghost use Rattle.types.specs.Kept.{Kept};
-ghost use Rattle.types.specs.Registry.{typeCount};
 use crate::puts::accept;
 use crate::puts::malformed;
 use crate::puts::put_count;
@@ -16,23 +14,20 @@ use types::Bit;
 use types::Member;
 use types::MemberTable;
 use types::NameTable;
-use types::Refusal;
 use types::StructDef;
 use types::StructKind;
 use types::TypeTable;
-use types::member_row;
-use types::name_row;
+use types::Wasted;
+use types::Wrote;
+use types::member_at;
+use types::name_at;
 use types::object_definition_size;
 use types::template_len;
-use types::type_count;
-use types::type_row;
+use types::type_at;
 use types::waste;
 use words::load16;
 use words::wide;
 use words::wide16;
-
-// The rows of the members' table.
-const MEMBERS: usize = 2000;
 
 fn kind_byte(kind: StructKind) -> u8 {
     match kind {
@@ -77,13 +72,10 @@ fn put_member_fields(m: Member, out: &mut [u8], at: usize) -> usize {
     put8(out, k5, m.access)
 }
 
-// The member in a row, where there is such a row.
+// The member in a row.
 fn put_member(members: &MemberTable, names: &[u8], row: usize, out: &mut [u8], at: usize) -> usize {
-    if MEMBERS <= row {
-        return at;
-    }
-    let m = member_row(members, row);
-    let name = name_row(members, row);
+    let m = member_at(members, row);
+    let name = name_at(members, row);
     let k = put_name(out, at, names, name);
     put_member_fields(m, out, k)
 }
@@ -125,23 +117,43 @@ fn put_sizes(bytes: u32, bits: u64, out: &mut [u8], at: usize) -> usize {
     put64(out, k2, bits)
 }
 
-// The structure in a row.
+// The structure with a number, and what was computed of it.
 fn put_type(
     types: &TypeTable,
     members: &MemberTable,
     names: &NameTable,
     i: usize,
+    bytes: u32,
+    bits: u64,
     out: &mut [u8],
-) -> usize
-    requires { ⌜ Kept (now types) (now members) (now names) × (i < typeCount (now types)) ⌝ }
-{
-    let d = type_row(types, i);
-    let bytes = template_len(types, members, names, d);
-    let bits = waste(types, members, d);
+) -> usize {
+    let d = type_at(types, i);
     let k1 = accept(out);
     let k2 = put_row(names, d, out, k1);
     let k3 = put_sizes(bytes, bits, out, k2);
     put_members(members, names, d, out, k3)
+}
+
+// The same with the length of its template alone.
+fn put_counted(
+    types: &TypeTable,
+    members: &MemberTable,
+    names: &NameTable,
+    i: usize,
+    bytes: u32,
+    out: &mut [u8],
+) -> usize
+    requires { ⌜ Kept (now types) (now members) (now names) ⌝ }
+{
+    let wasted = waste(types, members, i);
+    match wasted {
+        Wasted::Bits(bits) => {
+            return put_type(types, members, names, i, bytes, bits, out);
+        }
+        Wasted::Refused(r) => {
+            return refuse(out, r);
+        }
+    }
 }
 
 pub fn describe(
@@ -157,9 +169,13 @@ pub fn describe(
         return malformed(out);
     }
     let i = wide(wide16(load16(rest, 0)));
-    let n = type_count(types);
-    if n <= i {
-        return refuse(out, Refusal::NoSuchType);
+    let long = template_len(types, members, names, i);
+    match long {
+        Wrote::Length(bytes) => {
+            return put_counted(types, members, names, i, bytes, out);
+        }
+        Wrote::Refused(r) => {
+            return refuse(out, r);
+        }
     }
-    put_type(types, members, names, i, out)
 }

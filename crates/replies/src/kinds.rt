@@ -7,6 +7,7 @@ use crate::normals::tell_normal;
 use crate::puts::BODY;
 use crate::puts::MOST_ROOM;
 use crate::puts::accept;
+use crate::puts::has_room;
 use crate::puts::malformed;
 use crate::puts::put_count;
 use crate::puts::put8;
@@ -24,6 +25,7 @@ use types::FoundTy;
 use types::Header;
 use types::MemberTable;
 use types::NameTable;
+use types::PredefinedIds;
 use types::Refusal;
 use types::Ty;
 use types::TypeTable;
@@ -48,11 +50,13 @@ fn rebuild(
     requires { ⌜ 8 ≤ length (now ids) ⌝ }
     ensures { λ _. ⌜ Kept (now (types .exit)) (now (members .exit)) (now (names .exit)) ⌝ }
 {
-    let timer = load16(ids, 0);
-    let counter = load16(ids, 2);
-    let control = load16(ids, 4);
-    let string = load16(ids, 6);
-    build(book, timer, counter, control, string, types, members, names)
+    let predefined = PredefinedIds {
+        timer: load16(ids, 0),
+        counter: load16(ids, 2),
+        control: load16(ids, 4),
+        string: load16(ids, 6),
+    };
+    build(book, predefined, types, members, names)
 }
 
 // Kind 1.
@@ -93,10 +97,8 @@ fn put_template(
 ) -> usize
     requires { ⌜ Kept (now types) (now members) (now names) ⌝ }
 {
-    if out.len() < BODY {
-        return malformed(out);
-    }
-    if out.len() - BODY < room {
+    let fits = has_room(out.len(), room);
+    if !fits {
         return malformed(out);
     }
     let end = BODY + room;

@@ -2,6 +2,7 @@
 ghost use Rattle.types.specs.Kept.{Kept};
 use crate::puts::BODY;
 use crate::puts::accept;
+use crate::puts::has_room;
 use crate::puts::malformed;
 use crate::puts::put_bytes;
 use crate::puts::refuse;
@@ -30,10 +31,8 @@ fn put_normal(
     requires { ⌜ Kept (now types) (now members) (now names) ⌝ }
 {
     let long = image.len();
-    if out.len() < BODY {
-        return malformed(out);
-    }
-    if out.len() - BODY < long {
+    let fits = has_room(out.len(), long);
+    if !fits {
         return malformed(out);
     }
     let end = BODY + long;

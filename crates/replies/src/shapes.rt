@@ -15,6 +15,7 @@ use types::MemberTable;
 use types::NameTable;
 use types::Refusal;
 use types::Shape;
+use types::Symbol;
 use types::Ty;
 use types::TypeTable;
 use types::symbol_type;
@@ -75,6 +76,27 @@ fn put_shape(s: Shape, symbol: u16, out: &mut [u8]) -> usize {
     put16(out, k5, symbol)
 }
 
+// A shape with its symbol type.
+fn put_symbol(
+    types: &TypeTable,
+    members: &MemberTable,
+    names: &NameTable,
+    shape: Shape,
+    out: &mut [u8],
+) -> usize
+    requires { ⌜ Kept (now types) (now members) (now names) ⌝ }
+{
+    let symbol = symbol_type(types, shape);
+    match symbol {
+        Symbol::Type(word) => {
+            return put_shape(shape, word, out);
+        }
+        Symbol::Refused(why) => {
+            return refuse(out, why);
+        }
+    }
+}
+
 // The shape of a type with lengths.
 fn shape_of(
     types: &TypeTable,
@@ -91,8 +113,7 @@ fn shape_of(
     let shape = r.shape;
     match fit {
         Fit::Fits => {
-            let symbol = symbol_type(types, shape);
-            return put_shape(shape, symbol, out);
+            return put_symbol(types, members, names, shape, out);
         }
         Fit::Refused(why) => {
             return refuse(out, why);

@@ -3,6 +3,7 @@ ghost use Rattle.types.specs.Kept.{Kept};
 use crate::puts::BODY;
 use crate::puts::MOST_ROOM;
 use crate::puts::accept;
+use crate::puts::has_room;
 use crate::puts::malformed;
 use crate::puts::put_bytes;
 use crate::puts::refuse;
@@ -36,10 +37,8 @@ fn put_stream(
 ) -> usize
     requires { ⌜ Kept (now types) (now members) (now names) ⌝ }
 {
-    if out.len() < BODY {
-        return malformed(out);
-    }
-    if out.len() - BODY < room {
+    let fits = has_room(out.len(), room);
+    if !fits {
         return malformed(out);
     }
     let end = BODY + room;

@@ -5,6 +5,7 @@ ghost use lib.ListN.{length};
 ghost use Rattle.types.specs.Kept.{Kept};
 use crate::puts::BODY;
 use crate::puts::accept;
+use crate::puts::has_room;
 use crate::puts::malformed;
 use crate::puts::put_bytes;
 use crate::puts::refuse;
@@ -36,10 +37,8 @@ fn put_written(
     requires { ⌜ Kept (now types) (now members) (now names) ⌝ }
 {
     let long = image.len();
-    if out.len() < BODY {
-        return malformed(out);
-    }
-    if out.len() - BODY < long {
+    let fits = has_room(out.len(), long);
+    if !fits {
         return malformed(out);
     }
     let end = BODY + long;

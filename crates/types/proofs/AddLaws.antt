@@ -20,8 +20,9 @@ use Rattle.types.specs.Laid.{Earlier, Every}
 use Rattle.types.specs.Layout.{opened, nextBit}
 use Rattle.types.specs.Lookup.{rowName}
 use Rattle.types.specs.Registry.{View, idAt, viewIn, headOf, withHandle}
-use Rattle.types.specs.Structs.{namesOf, rowsOf, thenParts, partsFrom, hostParts, aoiHosts, aoiStart}
-use Rattle.types.specs.Structs.{aoiParts, udtStart, udtParts, stringParts}
+use Rattle.types.specs.Passes.{thenParts, partsFrom, udtParts, aoiParts, partsOf}
+use Rattle.types.specs.Structs.{namesOf, rowsOf, hostParts, aoiHosts, aoiStart}
+use Rattle.types.specs.Structs.{udtStart, stringParts}
 use Rattle.types.specs.Tables.{typeAt}
 use Rattle.types.specs.Template.{idsIn, templateIn, templateOf}
 use Rattle.types.proofs.AgreeLaws.{template-same, length-list, getD-list}
@@ -72,11 +73,11 @@ module _ (n : ℕ) (name : Decl → List ℕ) (host : ℕ → List ℕ) where
       })
 
 module _ (n : ℕ) (name : Decl → List ℕ) (type : List ℕ) (ds : List Decl) (a : Every (Able n) ds) where
-  pub udt-fits : Every (PartFits n) (udtParts name type ds)
+  udt-fits : Every (PartFits n) (udtParts name type ds)
   unfolding udtParts
   udt-fits = parts-fit n name (hostName type) udtStart ds a
 
-  pub aoi-fits : Every (PartFits n) (aoiParts name type ds)
+  aoi-fits : Every (PartFits n) (aoiParts name type ds)
   unfolding aoiParts Every
   aoi-fits =
       every-append (PartFits n) (hostParts 0 (aoiHosts ds)) _ (hosts-fit n 0 (aoiHosts ds)) (
@@ -86,6 +87,11 @@ module _ (n : ℕ) (name : Decl → List ℕ) (type : List ℕ) (ds : List Decl)
           parts-fit n name (hostName type) (aoiStart (aoiHosts ds)) ds a,
         ),
       )
+
+pub type-fits : (aoi : Bool) (n : ℕ) (name : Decl → List ℕ) (type : List ℕ) (ds : List Decl) → Every (Able n) ds
+    → Every (PartFits n) (partsOf aoi name type ds)
+type-fits true n name type ds a = aoi-fits n name type ds a
+type-fits false n name type ds a = udt-fits n name type ds a
 
 pub string-fits : (n c : ℕ) → Every (PartFits n) (stringParts c)
 unfolding stringParts Every

@@ -93,54 +93,72 @@ roomy u members bytes e =
 
 -- ---- a new type is stored
 
-module _ (types members names : List ℕ) (u : Used) (name : List ℕ) (id size : ℕ) (kind : StructKind)
-    (parts : List Part) (count : ℕ) (e : length parts ≡ count) where
+-- a type's name and parts, counted: so many parts, so many bytes of names, and rows can hold them after n types
+pub record Counted (name : List ℕ) (parts : List Part) (n k l : ℕ) : Type 0 where
+  pub count : length parts ≡ k
+  pub long : length (name ++ namesOf parts) ≡ l
+  pub fit : Every (PartFits n) parts
+
+module _ (types members names : List ℕ) (u : Used) {name : List ℕ} {parts : List Part} {count long : ℕ}
+    (p : Counted name parts (u .types) count long) (id size : ℕ) (kind : StructKind) {r : Bool}
+    (e : r ≡ hasRoom u count long) where
   abbrev new : Def
   new = newDef (viewIn types names u) name id size kind parts
 
   abbrev bare : Def
   bare = record { name = name; id = id; handle = 0; size = size; kind = kind; parts = parts }
 
-  bare-head : bareHead u (length name) id size kind count ≡ headOf (u .bytes) (u .members) bare
-  bare-head = rw (← e)
+  abbrev head : StructDef
+  head = bareHead u (length name) id size kind count
 
-  module _ (ready : Usable types names u) (fit : Every (PartFits (u .types)) parts) (m : length members ≡ 16000)
-      (a : u .members + length parts ≤ 2000) (b : u .bytes + length (name ++ namesOf parts) ≤ 32768) where
-    -- its row can be read
-    pub new-readable : Readable (sets members (8 * u .members) (rowsOf (u .bytes + length name) parts))
-        (bareHead u (length name) id size kind count)
-    new-readable =
-        rw bare-head
-        (head-readable members (u .members) (u .bytes) (u .types) bare m a b (ready .rows .few) fit)
+  same-head : head ≡ headOf (u .bytes) (u .members) bare
+  same-head = rw (← p .count)
 
-    -- the verdict was carried out
-    pub took-new : (k : length names ≡ 32768) (i : ℕ) (r : Bool)
-        → r ≡ hasRoom u (length parts) (length (name ++ namesOf parts))
-        → r ≡ true → {t′ m′ n′ : List ℕ}
-        → m′ ≡ sets members (8 * u .members) (rowsOf (u .bytes + length name) parts)
-        → n′ ≡ sets (sets names (u .bytes) name) (u .bytes + length name) (namesOf parts)
-        → t′ ≡ sets types (8 * u .types) (typeRow (withHandle (bareHead u (length name) id size kind count)
-        (handleOf (templateIn types m′ n′ (bareHead u (length name) id size kind count)))))
-        → Took (fitted (viewIn types names u) i new) u types members names t′ m′ n′
-        (Added (usedWith u count (length (name ++ namesOf parts))))
-    unfolding newDef
-    took-new k i r er q em en et =
-        let en′ = en ∙ sym (sets-append names (u .bytes) name (namesOf parts)) in
-        let et′ = rw (← e, em, en′) at et in
-        let same = row-same types members names u name id size kind parts ready fit m k a b in
-        rw (fitted-yes types members names u name id size kind parts i r er q, ← e)
-        (record {
-          is = refl;
-          types = et′ ∙ ap (λ (h : StructDef). sets types (8 * u .types) (typeRow h)) same;
-          members = em;
-          names = en′;
-        })
+  room : r ≡ hasRoom u (length parts) (length (name ++ namesOf parts))
+  room = rw (p .count, p .long) e
 
-  pub took-full : (i : ℕ) (r : Bool) → r ≡ hasRoom u (length parts) (length (name ++ namesOf parts)) → r ≡ false
+  pub stored-full : (i : ℕ) → r ≡ false
       → Took (fitted (viewIn types names u) i new) u types members names types members names (Refused (TablesFull i))
-  took-full i r er q =
-      rw (fitted-no types members names u name id size kind parts i r er q)
+  stored-full i q =
+      rw (fitted-no types members names u name id size kind parts i r room q)
       (record { is = refl; types = refl; members = refl; names = refl })
+
+  module _ (q : r ≡ true) where
+    pub stored-room : Roomy u count long
+    stored-room = roomy u count long (sym q ∙ e)
+
+    module _ (ready : Usable types names u) (m : length members ≡ 16000) where
+      rows-fit : u .members + length parts ≤ 2000
+      rows-fit = omega (arith, p .count, stored-room .members)
+
+      names-fit : u .bytes + length (name ++ namesOf parts) ≤ 32768
+      names-fit = omega (arith, p .long, stored-room .bytes)
+
+      -- its row can be read
+      pub stored-readable : Readable (sets members (8 * u .members) (rowsOf (u .bytes + length name) parts)) head
+      stored-readable =
+          rw same-head
+          (head-readable members (u .members) (u .bytes) (u .types) bare m rows-fit names-fit (ready .rows .few)
+          (p .fit))
+
+      -- the verdict was carried out
+      pub stored-took : (i : ℕ) → length names ≡ 32768 → {t′ m′ n′ : List ℕ}
+          → m′ ≡ sets members (8 * u .members) (rowsOf (u .bytes + length name) parts)
+          → n′ ≡ sets (sets names (u .bytes) name) (u .bytes + length name) (namesOf parts)
+          → t′ ≡ sets types (8 * u .types) (typeRow (withHandle head (handleOf (templateIn types m′ n′ head))))
+          → Took (fitted (viewIn types names u) i new) u types members names t′ m′ n′ (Added (usedWith u count long))
+      unfolding newDef
+      stored-took i k em en et =
+          let en′ = en ∙ sym (sets-append names (u .bytes) name (namesOf parts)) in
+          let et′ = rw (← p .count, em, en′) at et in
+          let same = row-same types members names u name id size kind parts ready (p .fit) m k rows-fit names-fit in
+          rw (fitted-yes types members names u name id size kind parts i r room q, ← p .count, ← p .long)
+          (record {
+            is = refl;
+            types = et′ ∙ ap (λ (h : StructDef). sets types (8 * u .types) (typeRow h)) same;
+            members = em;
+            names = en′;
+          })
 
 -- a refusal was answered, and nothing stored
 pub took-no : {s : Verdict} {u : Used} (r : Refusal) (types members names : List ℕ) → s ≡ no (whyOf r)
@@ -151,3 +169,8 @@ took-no r types members names e = rw e (record { is = refl; types = refl; member
 pub took-so : {s s′ : Verdict} {u : Used} {t₀ m₀ n₀ t m n : List ℕ} {r : Turn}
     → s ≡ s′ → Took s′ u t₀ m₀ n₀ t m n r → Took s u t₀ m₀ n₀ t m n r
 took-so e t = rw e t
+
+-- so much is used afterwards
+pub took-used : {s : Verdict} {u : Used} {t₀ m₀ n₀ t m n : List ℕ} {r r′ : Used}
+    → r ≡ r′ → Took s u t₀ m₀ n₀ t m n (Added r′) → Took s u t₀ m₀ n₀ t m n (Added r)
+took-used e t = rw e t

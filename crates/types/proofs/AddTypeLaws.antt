@@ -5,7 +5,6 @@ use mathlib.Core.Bool.{Bool, true, false, not, _&&_}
 use mathlib.Core.List.{List, []}
 use borrow.Author.Tests.{eq-eqb, ne-eqb, le-leb, lt-leb, leb-true}
 use lib.Dec.{eqb, leb}
-use lib.ListN.{length}
 use Rattle.types.specs.declared.book.TypeEntry.{TypeEntry}
 use Rattle.types.specs.declared.checks.Checked.{Checked}
 use Rattle.types.specs.declared.checks.Checked.the-variants.{Good, NameWrong, Twice, LocalOutside}
@@ -16,12 +15,12 @@ use Rattle.types.specs.declared.lookups.FoundTy.{FoundTy}
 use Rattle.types.specs.declared.lookups.FoundTy.the-variants.{Is, Nothing}
 use Rattle.types.specs.declared.member.StructKind.the-variants.{Str}
 use Rattle.types.specs.declared.member.Ty.{Ty}
-use Rattle.types.specs.Add.{no, addUdt, addAoi, addMembers, addString, addNamed, addFresh, addEntry}
+use Rattle.types.specs.Add.{no, addLaid, addMembers, addString, addNamed, addFresh, addEntry}
 use Rattle.types.specs.Add.{isAoi, isString, hasId, stringOk, newDef, fitted}
 use Rattle.types.specs.Checks.{checked, entriesFrom}
 use Rattle.types.specs.Ids.{idFor}
 use Rattle.types.specs.Lookup.{typeAmong}
-use Rattle.types.specs.Names.{goodName, nameBytes}
+use Rattle.types.specs.Names.{goodName}
 use Rattle.types.specs.Registry.{View}
 use Rattle.types.specs.Structs.{stringParts, stringSize}
 use Rattle.types.proofs.TestLaws.{and-left, and-right}
@@ -30,13 +29,9 @@ use Rattle.types.proofs.TestLaws.{and-left, and-right}
 
 module _ (v : View) (book : List ℕ) (i at n : ℕ) (aoi : Bool) (name : List ℕ) (id : ℕ) (ds : List Decl) (c : Checked)
     (e : c ≡ checked book aoi [] (entriesFrom book at 0 n)) where
-  pub members-aoi : c ≡ Good → aoi ≡ true → addMembers v book i at n aoi name id ds ≡ addAoi v book i name id ds
+  pub members-laid : c ≡ Good → addMembers v book i at n aoi name id ds ≡ addLaid v book i aoi name id ds
   unfolding addMembers
-  members-aoi q a = rw (← e, q, a)
-
-  pub members-udt : c ≡ Good → aoi ≡ false → addMembers v book i at n aoi name id ds ≡ addUdt v book i name id ds
-  unfolding addMembers
-  members-udt q a = rw (← e, q, a)
+  members-laid q = rw (← e, q)
 
   pub members-name : c ≡ NameWrong → addMembers v book i at n aoi name id ds ≡ no (2, i)
   unfolding addMembers
@@ -127,14 +122,6 @@ module _ (v : View) (book : List ℕ) (i at : ℕ) (e : TypeEntry) (name : List 
   fresh-none q = rw (← ep, q)
 
 -- ---- 2, 3
-
--- a good name has at most 40 bytes
-pub good-long : (s : List ℕ) → goodName s ≡ true → length s ≤ 40
-unfolding goodName
-good-long s q =
-    let a = leb 1 (length s) in
-    let b = leb (length s) 40 in
-    leb-true _ _ (and-right a b (and-left (a && b) (nameBytes s) q))
 
 module _ (v : View) (book : List ℕ) (i at : ℕ) (e : TypeEntry) (name : List ℕ) (ds : List Decl) (g : Bool)
     (eg : g ≡ goodName name) where

@@ -6,7 +6,7 @@ use native.Mathlib.Nat.{add-zero}
 use native.Mathlib.Omega.{arith}
 use mathlib.Core.Path.{_≡_, refl, ap, _∙_}
 use mathlib.Core.Bool.{Bool, true, false, cond}
-use mathlib.Core.List.{List, [], _∷_, _++_}
+use mathlib.Core.List.{List, [], _∷_}
 use lib.ListN.{length, getD}
 use Rattle.types.specs.declared.atomic.Atomic.the-variants.{DWord}
 use Rattle.types.specs.declared.book.MemberEntry.{MemberEntry}
@@ -75,38 +75,3 @@ module _ {A : Type 0} where
   getD-list f n k d h =
       let e : 0 + k ≡ k = omega arith in
       getD-from f 0 n k d h ∙ ap f e
-
-  snoc-from : (f : ℕ → A) (i n : ℕ) → listFrom f i (suc n) ≡ listFrom f i n ++ f (i + n) ∷ []
-  unfolding listFrom
-  snoc-from f i zero = rw add-zero
-  snoc-from f i (suc n) =
-      let e : i + suc n ≡ i + 1 + n = omega arith in
-      rw e (ap (λ (l : List A). f i ∷ l) (snoc-from f (i + 1) n))
-
-  -- and one more
-  pub list-snoc : (f : ℕ → A) (n : ℕ) → listFrom f 0 (n + 1) ≡ listFrom f 0 n ++ f n ∷ []
-  list-snoc f n =
-      let e : n + 1 ≡ suc n = omega arith in
-      let o : 0 + n ≡ n = omega arith in
-      rw e (snoc-from f 0 n ∙ ap (λ (k : ℕ). listFrom f 0 n ++ f k ∷ []) o)
-
-  from-same : (f g : ℕ → A) (i n : ℕ) → ((k : ℕ) → k < n → f (i + k) ≡ g (i + k)) → listFrom f i n ≡ listFrom g i n
-  unfolding listFrom
-  from-same f g i zero h = refl
-  from-same f g i (suc n) h =
-      let e : f i ≡ g i = rw add-zero at (h 0 (omega arith)) in
-      rw (e, from-same f g (i + 1) n later)
-    where
-      later : (k : ℕ) → k < n → f (i + 1 + k) ≡ g (i + 1 + k)
-      later k l =
-          let e : i + 1 + k ≡ i + suc k = omega arith in
-          rw e (h (suc k) (omega arith))
-
-  -- the same values below n
-  pub list-same : (f g : ℕ → A) (n : ℕ) → ((k : ℕ) → k < n → f k ≡ g k) → listFrom f 0 n ≡ listFrom g 0 n
-  list-same f g n h = from-same f g 0 n shifted
-    where
-      shifted : (k : ℕ) → k < n → f (0 + k) ≡ g (0 + k)
-      shifted k l =
-          let e : 0 + k ≡ k = omega arith in
-          rw e (h k l)

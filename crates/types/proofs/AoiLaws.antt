@@ -13,7 +13,7 @@ use Rattle.types.specs.Layout.{isBool}
 use Rattle.types.specs.Defs.{Part}
 use Rattle.types.specs.Digits.{bitHostName}
 use Rattle.types.specs.Structs.{named, namesOf, rowsOf, bools, bitHostAt, hostParts}
-use Rattle.types.specs.Structs.{BoolsCounted, OneIf, HostPut, Put, BitHostLong, HostsLong}
+use Rattle.types.specs.Passes.{BoolsCounted, OneIf, HostPut, Put, BitHostLong, HostsLong}
 use Rattle.types.proofs.EntryLaws.{decls-cons, decls-none}
 use Rattle.types.proofs.StoreLaws.{one-name, names-append, rows-then, names-then}
 

@@ -9,9 +9,10 @@ use lib.Seq.{sets}
 use Rattle.types.specs.Defs.{Part}
 use Rattle.types.specs.Digits.{hostName}
 use Rattle.types.specs.Entries.{declsFrom}
-use Rattle.types.specs.Structs.{namesOf, rowsOf, partsFrom, namedIn, hostParts, enableParts, aoiStart}
-use Rattle.types.specs.Structs.{aoiParts}
-use Rattle.types.specs.Structs.{Put, Storable, StorableAoi}
+use Rattle.types.specs.Passes.{partsFrom}
+use Rattle.types.specs.Structs.{namesOf, rowsOf, namedIn, hostParts, enableParts, aoiStart}
+use Rattle.types.specs.Passes.{aoiParts}
+use Rattle.types.specs.Passes.{Put, Storable, StorableAoi}
 use Rattle.types.proofs.StoreLaws.{names-append, rows-then, names-then}
 use Rattle.types.proofs.BoundLaws.{hosts-count}
 

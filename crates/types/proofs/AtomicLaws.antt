@@ -1,23 +1,27 @@
 -- Laws of the atomic types: places and atomics name each other; the code's table is the definition's rows; a search
 -- over the fifteen goes one after the other.
-use Prim.Native.Nat.{ℕ, zero, suc, _+_, _≤_, _<_}
+use Prim.Native.Nat.{ℕ, zero, suc, _+_, _-_, _≤_, _<_}
 use native.Mathlib.Nat.{not-suc-le-zero, le-of-suc-le-suc}
 use native.Mathlib.Numerals.{add-one}
 use native.Mathlib.Omega.{arith}
-use mathlib.Core.Path.{_≡_, refl, sym}
-use mathlib.Core.Bool.{Bool, true, false}
+use mathlib.Core.Path.{_≡_, refl, sym, ap, _∙_}
+use mathlib.Core.Bool.{Bool, true, false, cond}
 use mathlib.Core.List.{List, [], _∷_, map}
 use lib.Arith.{lt-of-le-ne}
-use lib.Dec.{lit<}
-use lib.ListN.{length, getD, take, drop, length-append, List·getD-eq-default}
+use lib.Dec.{lit<, ltb}
+use lib.ListN.{length, getD, take, drop, length-append, List·getD-eq-default, List·getD-map}
 use lib.Seq.{drop-cons, take-append-seam}
 use Rattle.types.specs.declared.atomic.Atomic.{Atomic}
 use Rattle.types.specs.declared.atomic.Atomic.the-variants.{Bool as BOOL, SInt, Int, DInt, LInt, USInt, UInt}
 use Rattle.types.specs.declared.atomic.Atomic.the-variants.{UDInt}
 use Rattle.types.specs.declared.atomic.Atomic.the-variants.{ULInt, Real, LReal, Byte, Word, DWord, LWord}
 use Rattle.types.specs.declared.atomic.AtomicRow.{AtomicRow}
+use Rattle.types.specs.declared.atomic.FoundAtomic.{FoundAtomic}
 use Rattle.types.specs.declared.atomic.FoundAtomic.the-variants.{Is, Nothing}
-use Rattle.types.specs.Atomic.{atomics, atomicAt, numOf, nameOf, rowOf, rowsOf, firstOf}
+use Rattle.types.specs.Atomic.{atomics, atomicAt, codeOf, numOf, nameOf, rowOf, rowsOf, firstOf, atomicNamed}
+use Rattle.types.specs.Atomic.{codeAt, codeNamed, firstCode, saidBy}
+use Rattle.types.specs.Names.{sameName}
+use Rattle.types.specs.Said.{done}
 
 -- the atomic at its own place
 pub at-num : (a : Atomic) → atomicAt (numOf a) ≡ a
@@ -77,6 +81,69 @@ unfolding firstOf
 first-none p i h k =
     let e : i ≡ 15 = omega arith in
     rw e
+
+-- what the first atomic says is the first code
+pub first-said : (p : Atomic → Bool) (l : List Atomic) → saidBy (firstOf p l) ≡ firstCode p l
+unfolding firstOf firstCode
+first-said p [] = refl
+first-said p (a ∷ l) = go (p a) (first-said p l)
+  where
+    go : (b : Bool) → saidBy (firstOf p l) ≡ firstCode p l
+        → saidBy (cond b (Is a) (firstOf p l)) ≡ cond b (done (codeOf a)) (firstCode p l)
+    go true e = refl
+    go false e = e
+
+pub named-said : (s : List ℕ) → saidBy (atomicNamed s) ≡ codeNamed s
+unfolding atomicNamed codeNamed
+named-said s = first-said (λ a. sameName (nameOf a) s) atomics
+
+-- the place of a code in the list
+abbrev placeOf : ℕ → ℕ
+placeOf c = cond (ltb c 0xD1) (c - 0xC1) (c - 0xC6)
+
+code-back : (a : Atomic) → atomicAt (placeOf (codeOf a)) ≡ a
+unfolding atomicAt codeOf
+code-back BOOL = refl
+code-back SInt = refl
+code-back Int = refl
+code-back DInt = refl
+code-back LInt = refl
+code-back USInt = refl
+code-back UInt = refl
+code-back UDInt = refl
+code-back ULInt = refl
+code-back Real = refl
+code-back LReal = refl
+code-back Byte = refl
+code-back Word = refl
+code-back DWord = refl
+code-back LWord = refl
+
+-- no two atomics have the same code
+pub code-same : (a b : Atomic) → codeOf a ≡ codeOf b → a ≡ b
+code-same a b e = sym (code-back a) ∙ ap (λ (c : ℕ). atomicAt (placeOf c)) e ∙ code-back b
+
+-- the atomic at a place has the code at that place
+pub at-said : (i : ℕ) → codeOf (atomicAt i) ≡ codeAt i
+unfolding atomicAt codeAt codeOf
+at-said i = sym (List·getD-map codeOf atomics i BOOL)
+
+-- and no other has it
+pub at-is : (a : Atomic) (i : ℕ) → codeOf a ≡ codeAt i → a ≡ atomicAt i
+at-is a i e = code-same a (atomicAt i) (e ∙ sym (at-said i))
+
+-- answers that say the same are the same
+pub found-same : (r s : FoundAtomic) → saidBy r ≡ saidBy s → r ≡ s
+found-same (Is a) (Is b) e =
+    let c : codeOf a ≡ codeOf b = cc in
+    ap Is (code-same a b c)
+found-same (Is a) Nothing e = cc
+found-same Nothing (Is b) e = cc
+found-same Nothing Nothing e = refl
+
+-- so an answer that says a name's code is the atomic of that name
+pub named-is : (r : FoundAtomic) (s : List ℕ) → saidBy r ≡ codeNamed s → r ≡ atomicNamed s
+named-is r s e = found-same r (atomicNamed s) (e ∙ sym (named-said s))
 
 -- i is none of 1 to n, as the arms of a match leave it
 abbrev pub NoneOf : ℕ → ℕ → Type 0

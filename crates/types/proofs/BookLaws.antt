@@ -57,12 +57,6 @@ module _ (start end : ℕ) (s : Span) (at long : ℕ) (p : at ≡ s .at) (q : lo
   unfolding inBodies
   from-bodies l = rw (← p, ← q) (simp (le-leb start at l))
 
-pub set-true : (a b : Bool) → a ≡ true → true ≡ (a || b)
-set-true a b e = rw e
-
-pub unset-zero : (a b : Bool) → a ≡ false → b ≡ (a || b)
-unset-zero a b e = rw e
-
 -- ---- an entry
 
 module _ (start end : ℕ) (e : TypeEntry) where

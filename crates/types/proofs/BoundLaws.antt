@@ -3,6 +3,7 @@
 use Prim.Native.Nat.{ℕ, zero, suc, _+_, _-_, _*_, _^_, _≤_}
 use native.Mathlib.Omega.{arith}
 use mathlib.Core.Path.{_≡_, refl, ap}
+use mathlib.Core.Bool.{Bool, true, false}
 use mathlib.Core.List.{List, [], _∷_}
 use lib.ListN.{length, length-append}
 use Rattle.types.specs.declared.layout.Cursor.{Cursor}
@@ -15,8 +16,10 @@ use Rattle.types.specs.Defs.{Part}
 use Rattle.types.specs.Digits.{hostName}
 use Rattle.types.specs.Laid.{Every}
 use Rattle.types.specs.Layout.{most, alignUp, opened, nextBit}
-use Rattle.types.specs.Structs.{namesOf, thenParts, partsFrom, measured, sizeAt, udtStart, udtParts}
-use Rattle.types.specs.Structs.{aoiHosts, hostParts, aoiStart, aoiParts, stringSize}
+use Rattle.types.specs.Passes.{thenParts, partsFrom, measured, udtParts, aoiParts, partsOf, measuredAoi}
+use Rattle.types.specs.Passes.{measuredOf}
+use Rattle.types.specs.Structs.{namesOf, sizeAt, udtStart}
+use Rattle.types.specs.Structs.{aoiHosts, hostParts, aoiStart, stringSize}
 use Rattle.types.proofs.StoreLaws.{names-append}
 use Rattle.types.proofs.PlaceLaws.{Full, place-cases, Ends, no-access, no-far}
 
@@ -68,29 +71,43 @@ hosts-count k (suc h) = ap suc (hosts-count (k + 1) h)
 
 module _ (name : Decl → List ℕ) (type : List ℕ) (ds : List Decl) (n₀ : ℕ) (c : Cursor) (n : ℕ)
     (q : measured (hostName type) udtStart n₀ ds ≡ Laid c n) where
-  pub udt-count : length (udtParts name type ds) ≡ c .members
+  udt-count : length (udtParts name type ds) ≡ c .members
   unfolding udtParts
   udt-count = omega (arith, parts-count name (hostName type) c n udtStart n₀ ds q)
 
-  pub udt-names : Every (λ d. length (name d) ≡ d .name .long) ds → n₀ + length (namesOf (udtParts name type ds)) ≡ n
+  udt-names : Every (λ d. length (name d) ≡ d .name .long) ds → n₀ + length (namesOf (udtParts name type ds)) ≡ n
   unfolding udtParts
   udt-names l = names-count name (hostName type) c n udtStart n₀ ds l q
 
 -- an AOI's names begin with its hosts', EnableIn and EnableOut, which have 17 bytes
 module _ (name : Decl → List ℕ) (type : List ℕ) (ds : List Decl) (n₀ : ℕ) (c : Cursor) (n : ℕ)
     (q : measured (hostName type) (aoiStart (aoiHosts ds)) n₀ ds ≡ Laid c n) where
-  pub aoi-count : length (aoiParts name type ds) ≡ c .members
+  aoi-count : length (aoiParts name type ds) ≡ c .members
   unfolding aoiParts
   aoi-count =
       let h = aoiHosts ds in
       simp length-append (omega (arith, hosts-count 0 h, parts-count name (hostName type) c n (aoiStart h) n₀ ds q))
 
-  pub aoi-names : Every (λ d. length (name d) ≡ d .name .long) ds
+  aoi-names : Every (λ d. length (name d) ≡ d .name .long) ds
       → n₀ ≡ length (namesOf (hostParts 0 (aoiHosts ds))) + 17 → length (namesOf (aoiParts name type ds)) ≡ n
   unfolding aoiParts namesOf
   aoi-names l e =
       let h = aoiHosts ds in
       simp (names-append, length-append) (omega (arith, names-count name (hostName type) c n (aoiStart h) n₀ ds l q))
+
+-- either, by its kind
+pub type-count : (aoi : Bool) (name : Decl → List ℕ) (type : List ℕ) (ds : List Decl) (c : Cursor) (n : ℕ)
+    → measuredOf aoi type ds ≡ Laid c n → length (partsOf aoi name type ds) ≡ c .members
+unfolding measuredAoi
+type-count true name type ds c n q = aoi-count name type ds _ c n q
+type-count false name type ds c n q = udt-count name type ds 0 c n q
+
+pub type-names : (aoi : Bool) (name : Decl → List ℕ) (type : List ℕ) (ds : List Decl) (c : Cursor) (n : ℕ)
+    → measuredOf aoi type ds ≡ Laid c n → Every (λ d. length (name d) ≡ d .name .long) ds
+    → length (namesOf (partsOf aoi name type ds)) ≡ n
+unfolding measuredAoi
+type-names true name type ds c n q l = aoi-names name type ds _ c n q l refl
+type-names false name type ds c n q l = omega (arith, udt-names name type ds 0 c n q l)
 
 -- ---- the size
 
@@ -137,13 +154,19 @@ module _ (host : ℕ → List ℕ) (e : Cursor) (n′ : ℕ) where
 
 -- the hosts of an AOI are members too
 module _ (host : ℕ → List ℕ) (n₀ : ℕ) (ds : List Decl) (c : Cursor) (n : ℕ) where
-  pub udt-most : measured host udtStart n₀ ds ≡ Laid c n → c .members ≤ 2000 → sizeAt c ≤ 2 ^ 26 + 224
+  udt-most : measured host udtStart n₀ ds ≡ Laid c n → c .members ≤ 2000 → sizeAt c ≤ 2 ^ 26 + 224
   udt-most q l = size-most host c n udtStart n₀ ds (omega arith) q l
 
-  pub aoi-most : (h : ℕ) → measured host (aoiStart h) n₀ ds ≡ Laid c n → c .members ≤ 2000 → sizeAt c ≤ 2 ^ 26 + 224
+  aoi-most : (h : ℕ) → measured host (aoiStart h) n₀ ds ≡ Laid c n → c .members ≤ 2000 → sizeAt c ≤ 2 ^ 26 + 224
   aoi-most h q l =
       let few = parts-count (λ d. []) host c n (aoiStart h) n₀ ds q in
       size-most host c n (aoiStart h) n₀ ds (omega arith) q l
+
+pub type-most : (aoi : Bool) (type : List ℕ) (ds : List Decl) (c : Cursor) (n : ℕ)
+    → measuredOf aoi type ds ≡ Laid c n → c .members ≤ 2000 → sizeAt c ≤ 2 ^ 26 + 224
+unfolding measuredAoi
+type-most true type ds c n q l = aoi-most (hostName type) _ ds c n (aoiHosts ds) q l
+type-most false type ds c n q l = udt-most (hostName type) 0 ds c n q l
 
 -- refusal 7 keeps a string's capacity at or below 2^26 - 4
 pub string-most : (c : ℕ) → c ≤ 2 ^ 26 - 4 → stringSize c ≤ 2 ^ 26

@@ -11,8 +11,10 @@ use Rattle.types.specs.Turns.{stuckAt}
 use Rattle.words.specs.Words.{Bytes}
 use Rattle.types.specs.declared.building.Built.{Built}
 use Rattle.types.specs.declared.building.Built.the-variants.{Types, Refused}
+use Rattle.types.specs.declared.predefined.PredefinedIds.{PredefinedIds}
 use Rattle.types.specs.declared.refusal.Refusal.{Refusal}
-use Rattle.types.specs.declared.refusal.Refusal.the-variants.{TypesUnknown, PredefinedIds, BookMalformed}
+use Rattle.types.specs.declared.refusal.Refusal.the-variants.{TypesUnknown, BookMalformed}
+use Rattle.types.specs.declared.refusal.Refusal.the-variants.{PredefinedIds as idsWrong}
 use Rattle.types.specs.declared.round.Round.{Round}
 use Rattle.types.specs.declared.round.Round.the-variants.{Refused as Stopped, Went}
 use Rattle.types.specs.declared.used.Used.{Used}
@@ -20,7 +22,7 @@ use Rattle.types.specs.Book.{bookOk}
 use Rattle.types.specs.Build.{buildOf, Ended, FirstWaits, Cleared, RunIn, waits}
 use Rattle.types.specs.Defs.{Def}
 use Rattle.types.specs.Lookup.{rowNames}
-use Rattle.types.specs.OneRound.{roundIn, first, RoundIn, RoundMade, Goes}
+use Rattle.types.specs.OneRound.{roundIn, Reached, RoundIn, RoundMade, Goes}
 use Rattle.types.specs.Predefined.{predefinedIds, predefined}
 use Rattle.types.specs.Registry.{Stands}
 use Rattle.types.specs.Rounds.{Answer, refused}
@@ -43,13 +45,14 @@ pub record Going (book : List ℕ) (start : List Def) (T : ℕ) (tys₀ f₀ k�
   pub members : length k ≡ length k₀
   pub rows : length r ≡ length r₀
 
-pub going-start : {book tys f k r t m n types members names : List ℕ} {T a b c e : ℕ} {u : Used}
-    → RunIn book T a b c e types members names tys f k r → Bytes book → Stands (predefined a b c e) t m n u
-    → Going book (predefined a b c e) T tys f k r t m n tys f k r u T
-going-start {a = a} {b} {c} {e} p bytes s =
+pub going-start : {book tys f k r t m n types members names : List ℕ} {T : ℕ} {ids : PredefinedIds} {ds : List Def}
+    {u : Used}
+    → RunIn book T ids types members names tys f k r → Bytes book → Reached book ds → Stands ds t m n u
+    → Going book ds T tys f k r t m n tys f k r u T
+going-start p bytes reached s =
     record {
       const = record { bytes = bytes; okay = p .okay; is = p .is; room = p .scratch .room (p .okay) };
-      outer = outer-start (first a b c e (p .ids)) s (p .is) (p .scratch .unset)
+      outer = outer-start reached s (p .is) (p .scratch .unset)
           (rw (p .is) (p .scratch .flags (p .okay)));
       words = refl;
       flags = refl;
@@ -148,19 +151,19 @@ module _ {book tys₀ f₀ k₀ r₀ t m n tys f k r : List ℕ} {start : List D
 
 -- ---- before the rounds
 
-module _ (a b c e : ℕ) (book : List ℕ) where
-  pub ended-ids : {t m n : List ℕ} → predefinedIds a b c e ≡ false → Cleared t m n
-      → Ended (buildOf a b c e book) t m n (Refused PredefinedIds)
+module _ (ids : PredefinedIds) (book : List ℕ) where
+  pub ended-ids : {t m n : List ℕ} → predefinedIds ids ≡ false → Cleared t m n
+      → Ended (buildOf ids book) t m n (Refused idsWrong)
   unfolding buildOf
-  ended-ids q = ended-refused _ PredefinedIds (rw q)
+  ended-ids q = ended-refused _ idsWrong (rw q)
 
-  module _ (q : predefinedIds a b c e ≡ true) where
+  module _ (q : predefinedIds ids ≡ true) where
     pub ended-book : {t m n : List ℕ} → bookOk book ≡ false → Cleared t m n
-        → Ended (buildOf a b c e book) t m n (Refused BookMalformed)
+        → Ended (buildOf ids book) t m n (Refused BookMalformed)
     unfolding buildOf
     ended-book p = ended-refused _ BookMalformed (rw (q, p))
 
     pub ended-run : {t m n : List ℕ} {r : Built} → bookOk book ≡ true
-        → Ended (roundsFrom book (predefined a b c e)) t m n r → Ended (buildOf a b c e book) t m n r
+        → Ended (roundsFrom book (predefined ids)) t m n r → Ended (buildOf ids book) t m n r
     unfolding buildOf
     ended-run p h = rw (q, p) h

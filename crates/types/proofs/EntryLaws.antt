@@ -18,7 +18,7 @@ use Rattle.types.specs.declared.member.Ty.{Ty}
 use Rattle.types.specs.declared.member.Ty.the-variants.{Atomic, Struct}
 use Rattle.types.specs.Atomic.{sizeOf}
 use Rattle.types.specs.Layout.{isBool}
-use Rattle.types.specs.Structs.{Fair}
+use Rattle.types.specs.Passes.{Fair}
 use Rattle.types.specs.Tables.{TyFits, tyOf}
 use Rattle.types.specs.Entries.{boolArray, storedTy, storedCount, alignIn, plain, resolved, declAt, declsFrom}
 use Rattle.types.specs.Entries.{Found}

@@ -17,11 +17,11 @@ use Rattle.types.specs.declared.member.Bit.the-variants.{At}
 use Rattle.types.specs.declared.member.Member.{Member}
 use Rattle.types.specs.Atomic.{sizeOf}
 use Rattle.types.specs.Laid.{firstBit, pastBit, Apart, Earlier, hasBit, Plain, Resolved}
-use Rattle.types.specs.Layout.{times, isBool, alignUp, otherAt, opened, nextBit, closed, startOf, endOf, placed}
+use Rattle.types.specs.Layout.{times, isBool, alignUp, otherAt, opened, nextBit, closed, startOf, placed}
 use Rattle.types.specs.Layout.{sharedBits}
 use Rattle.types.specs.Structs.{bools}
 use Rattle.types.specs.Waste.{sizeIn}
-use Rattle.types.proofs.PlaceLaws.{pastOther, place-cases}
+use Rattle.types.proofs.PlaceLaws.{endOf, pastOther, place-cases}
 
 -- ---- free and used bits
 

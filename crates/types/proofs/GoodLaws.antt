@@ -1,11 +1,11 @@
 -- What every caller may count on in the tables of a registry that our own calls made (document 01, "What promises shut
--- out"): each type can be read, counted and listed, is laid out well, and is a string where its kind says so. No two
--- hold the same id or have the same name. The rows after them are zero.
+-- out"): each type can be read, counted and listed, is laid out well, is a string where its kind says so, and has good
+-- names. No two hold the same id or have the same name. The rows after them are zero.
 use Prim.Native.Nat.{ℕ, zero, suc, _+_, _*_, _^_, _<_, _≤_}
 use native.Mathlib.Nat.{add-zero}
 use native.Mathlib.Omega.{arith}
 use mathlib.Core.Path.{_≡_, refl, sym, ap, _∙_}
-use mathlib.Core.Bool.{false}
+use mathlib.Core.Bool.{true, false}
 use mathlib.Core.List.{List, [], _∷_, map}
 use lib.ListN.{length, getD, drop, length-append}
 use Rattle.words.proofs.Lists.{length-part}
@@ -15,12 +15,12 @@ use Rattle.types.specs.declared.member.StructDef.{StructDef}
 use Rattle.types.specs.declared.member.StructKind.the-variants.{Str}
 use Rattle.types.specs.declared.member.Ty.{Ty}
 use Rattle.types.specs.declared.member.Ty.the-variants.{Atomic, Struct}
-use Rattle.types.specs.Defs.{Part, Def, partAt, partsAt, defOf}
+use Rattle.types.specs.Defs.{Part, Def, nameIn, partAt, partsAt, defOf}
 use Rattle.types.specs.Laid.{Earlier, Lies, Laid}
 use Rattle.types.specs.Layout.{times}
 use Rattle.types.specs.Listing.{Short, TypeNamed, Listable}
 use Rattle.types.specs.Lookup.{NamesInside, rowName}
-use Rattle.types.specs.Names.{sameName}
+use Rattle.types.specs.Names.{sameName, goodName}
 use Rattle.types.specs.Registry.{typesTable, membersTable, namesTable}
 use Rattle.types.specs.Registry.{typeCount}
 use Rattle.types.specs.Structs.{namesOf, stringParts}
@@ -29,10 +29,12 @@ use Rattle.types.specs.Waste.{sizeIn, sizesIn, bitsOf, Countable}
 use Rattle.types.proofs.AddLaws.{every-nth}
 use Rattle.types.proofs.CountLaws.{count-of}
 use Rattle.types.proofs.LaidLaws.{part-lies}
+use Rattle.types.proofs.NameLaws.{name-rule}
+use Rattle.types.proofs.PartLaws.{Formed, PartFormed}
+use Rattle.types.proofs.ProperLaws.{FirstFour}
 use Rattle.types.proofs.RegistryLaws.{names-long, word-after}
 use Rattle.types.proofs.RoundsKeep.{Good}
 use Rattle.types.proofs.ShownLaws.{noDef, Row, name-same, sizes-same, names-inside, all-readable}
-use Rattle.types.proofs.ShortLaws.{ShortPart}
 use Rattle.types.proofs.StringLaws.{StringRow, string-bytes}
 use Rattle.types.proofs.TemplateLaws.{parts-long}
 use Rattle.types.proofs.WellLaws.{sizesOf, laid-same}
@@ -57,6 +59,11 @@ unfolding partAt
 row-lies sizes i size m n row count k laid l =
     let e = ap (λ (p : Part). p .member) (parts-nth m n row count k l) in
     rw e at (part-lies sizes i size noPart (partsAt m n row count) k laid (omega (arith, parts-long m n row count)))
+
+-- a member's row: its name follows the rule, and it stands as it should
+pub record MemberRow (members names : List ℕ) (row : ℕ) : Type 0 where
+  pub name : goodName (nameIn names (nameAt members row)) ≡ true
+  pub formed : Formed (memberAt members row)
 
 -- ---- one type of the registry
 
@@ -134,6 +141,16 @@ module _ (ds : List Def) (g : Good ds) where
         (partsAt members names (typeAt types i .first) (typeAt types i .count))
     good-laid = rw (r .head, parts-are) def-laid
 
+    -- it holds an id
+    pub good-used : typeAt types i .id ≡ 0 → ⊥
+    good-used = rw (r .head) (r .used)
+
+    pub good-id : typeAt types i .id ≡ d .id
+    good-id = ap (λ (h : StructDef). h .id) (r .head)
+
+    pub good-kind : typeAt types i .kind ≡ d .kind
+    good-kind = ap (λ (h : StructDef). h .kind) (r .head)
+
     pub good-most : typeAt types i .size ≤ 2 ^ 26 + 224
     good-most = rw (r .head) (g .well i l .most)
 
@@ -145,7 +162,7 @@ module _ (ds : List Def) (g : Good ds) where
     pub good-string : typeAt types i .kind ≡ Str → StringRow members (typeAt types i)
     unfolding stringParts
     good-string e =
-        let s = g .well i l .string (sym (ap (λ (h : StructDef). h .kind) (r .head)) ∙ e) in
+        let s = g .well i l .string (sym good-kind ∙ e) in
         let two : length (d .parts) ≡ 2 = ap (λ (ps : List Part). length ps) (s .rows) in
         let part : (k : ℕ) → k < 2 → memberAt members (r .row + k) ≡ getD (stringParts (s .capacity)) k noPart .member =
         λ k h. member-is k (omega arith) ∙ ap (λ (ps : List Part). getD ps k noPart .member) (s .rows) in
@@ -167,21 +184,37 @@ module _ (ds : List Def) (g : Good ds) where
     pub good-countable : Countable types members (typeAt types i)
     good-countable =
         record {
-          rows = all-readable ds (g .shown) i (omega (arith, g .shown .few)) (λ e. r .used (sym (ap (λ
-              (h : StructDef). h .id) (r .head)) ∙ e));
+          rows = all-readable ds (g .shown) i (omega (arith, g .shown .few)) good-used;
           small = rw (r .head)
               (λ k h b. small (memberAt members (r .row + k)) (drop (suc k) (d .parts))
               (rw (member-is k h) (part-lies (sizesIn types) i (d .size) noPart (d .parts) k def-laid h)) b);
         }
 
-    -- ---- its names are short
+    -- ---- its names
+
+    -- its name follows the rule
+    pub good-name : goodName (rowName types names i) ≡ true
+    good-name = rw (name-same ds i d r) (g .proper i l .name)
+
+    -- and is a predefined type's in the first four rows, its kind too
+    pub good-first : i < 4 → FirstFour i (rowName types names i) (typeAt types i .kind)
+    good-first = rw (name-same ds i d r, good-kind) (g .proper i l .first)
+
+    part-formed : (k : ℕ) → k < length (d .parts) → PartFormed (partAt members names (r .row + k))
+    part-formed k h = rw (part-is k h) (every-nth PartFormed noPart (d .parts) k (g .proper i l .parts) h)
+
+    -- and its members stand as they should, under names that follow it
+    pub good-members : (k : ℕ) → k < typeAt types i .count → MemberRow members names (typeAt types i .first + k)
+    unfolding partAt
+    good-members =
+        rw (r .head) (λ k h. record { name = part-formed k h .name; formed = part-formed k h .member })
 
     name-short : Short (typeAt types i .name)
     name-short =
         let h = r .head in
         record {
           inside = rw h (omega (arith, r .bytes, g .shown .bytes, length-append (d .name) (namesOf (d .parts))));
-          most = rw h (omega (arith, g .well i l .long));
+          most = rw h (omega (arith, name-rule (d .name) (g .proper i l .name) .most));
         }
 
     member-short : (k : ℕ) → k < length (d .parts) → Short (nameAt members (r .row + k))
@@ -190,12 +223,11 @@ module _ (ds : List Def) (g : Good ds) where
         let w = r .within k h in
         let inside : nameAt members (r .row + k) .at + nameAt members (r .row + k) .long ≤ 32768
         = omega (arith, w .name, r .bytes, g .shown .bytes) in
-        let is = ap (λ (p : Part). length (p .name)) (part-is k h) in
         let long = length-part names (nameAt members (r .row + k) .at) (nameAt members (r .row + k) .long)
         (omega (arith, inside, names-long ds)) in
         record {
           inside = inside;
-          most = omega (arith, is, long, every-nth ShortPart noPart (d .parts) k (g .well i l .short) h);
+          most = omega (arith, long, name-rule _ (part-formed k h .name) .most);
         }
 
 module _ (ds : List Def) (g : Good ds) where

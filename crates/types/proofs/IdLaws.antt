@@ -1,13 +1,13 @@
--- Laws of template ids: one id more is held, the lowest free id is the only one, and the search over the rows finds
--- what the definition over the list of ids does.
+-- Laws of template ids (document 01, "Ids"): one id more is held, the search over the rows finds what the definition
+-- over the list of ids does, and what is picked lies in the range and is held by no type.
 use Prim.Native.Nat.{ℕ, zero, suc, _+_, _-_, _<_, _≤_}
 use native.Mathlib.Decide.{decLt}
 use native.Mathlib.Omega.{arith}
 use mathlib.Core.Path.{_≡_, refl, sym, _∙_}
 use mathlib.Core.Bool.{Bool, true, false, cond, _&&_, _||_, and-eq-true-iff}
 use mathlib.Core.List.{List}
-use borrow.Author.Tests.{eq-eqb, ne-eqb, eqb-true, le-leb, lt-leb, lt-ltb, le-ltb, leb-true, ltb-true}
-use lib.Dec.{eqb, leb, ltb}
+use borrow.Author.Tests.{eq-eqb, ne-eqb, eqb-true, le-leb, lt-leb, leb-true}
+use lib.Dec.{eqb, leb}
 use Rattle.types.specs.declared.ids.Picked.{Picked}
 use Rattle.types.specs.declared.ids.Picked.the-variants.{Free, OutsideRange, InUse, NoneFree}
 use Rattle.types.specs.Book.{listFrom}
@@ -22,7 +22,7 @@ held-more t n r i h l e k a b = go (decLt k r)
     go (yes o) = h k a o
     go (no o) = let q : r ≡ k = omega (arith, o) in (i, l, e ∙ q)
 
--- the answer is the only one
+-- the answer of `free_id` is the only one
 pub lowest-one : (t : List ℕ) (n r r′ : ℕ) → Lowest t n r → Lowest t n r′ → r ≡ r′
 lowest-one t n r r′ a b = go (decLt r r′) (decLt r′ r)
   where
@@ -80,60 +80,38 @@ use-held t k j (suc n) e = go (use-held t k (j + 1) n) (eqb (idWord t j) k) refl
 
 -- ---- the lowest free id
 
-record Low (ids : List ℕ) (k m r : ℕ) : Type 0 where
-  pub low : k ≤ r
-  pub high : r ≤ k + m
-  pub taken : (j : ℕ) → k ≤ j → j < r → inUse j ids ≡ true
-  pub free : r < k + m → inUse r ids ≡ false
-
-low-from : (ids : List ℕ) (m k : ℕ) → Low ids k m (lowestFrom ids k m)
+free-at : (ids : List ℕ) (k m r : ℕ) → k ≤ r → r < k + m → ((j : ℕ) → k ≤ j → j < r → inUse j ids ≡ true)
+    → inUse r ids ≡ false → Free r ≡ lowestFrom ids k m
 unfolding lowestFrom
-low-from ids zero k =
-    record {
-      low = omega arith;
-      high = omega arith;
-      taken = λ j a b. absurd (let z : ⊥ = omega arith in z);
-      free = λ l. absurd (let z : ⊥ = omega arith in z);
-    }
-low-from ids (suc m) k = go (low-from ids m (k + 1)) (inUse k ids) refl
+free-at ids k zero r l h t f = absurd (let z : ⊥ = omega arith in z)
+free-at ids k (suc m) r l h t f =
+    go (λ b. free-at ids (k + 1) m r (omega (arith, b)) (omega arith) (λ j a c. t j (omega arith) c) f) (decLt k r)
   where
-    go : Low ids (k + 1) m (lowestFrom ids (k + 1) m) → (b : Bool) → inUse k ids ≡ b
-        → Low ids k (suc m) (cond b (lowestFrom ids (k + 1) m) k)
-    go w true e =
-        record {
-          low = omega (arith, w .low);
-          high = omega (arith, w .high);
-          taken = λ j a b. first j b (decLt k j) a;
-          free = λ l. w .free (omega arith);
-        }
-      where
-        first : (j : ℕ) → j < lowestFrom ids (k + 1) m → Dec (k < j) → k ≤ j → inUse j ids ≡ true
-        first j b (yes o) a = w .taken j (omega arith) b
-        first j b (no o) a = let q : j ≡ k = omega (arith, o) in rw q e
-    go w false e =
-        record {
-          low = omega arith;
-          high = omega arith;
-          taken = λ j a b. absurd (let z : ⊥ = omega arith in z);
-          free = λ l. e;
-        }
+    go : (k < r → Free r ≡ lowestFrom ids (k + 1) m) → Dec (k < r)
+        → Free r ≡ cond (inUse k ids) (lowestFrom ids (k + 1) m) (Free k)
+    go ih (yes b) = rw (t k (omega arith) b) (ih b)
+    go ih (no b) = let q : k ≡ r = omega (arith, b) in rw (q, f)
 
--- what the search over the rows finds is the definition's
-pub lowest-free : (t : List ℕ) (n r : ℕ) → Lowest t n r → r ≡ lowestFree (listFrom (idWord t) 0 n)
-unfolding lowestFree
-lowest-free t n r w =
-    let v = low-from (listFrom (idWord t) 0 n) 0xE00 0x100 in
-    lowest-one t n r (lowestFrom (listFrom (idWord t) 0 n) 0x100 0xE00) w
-    (record {
-      low = v .low;
-      high = v .high;
-      taken = λ k a b. let h = use-held t k 0 n (v .taken k a b) in (h .0, omega (arith, h .1), h .2);
-      free = λ l h.
-          clash
-          (held-use t (lowestFrom (listFrom (idWord t) 0 n) 0x100 0xE00) 0 n (h .0) (omega arith) (omega (arith, h .1))
-          (h .2))
-          (v .free l);
-    })
+none-free : (ids : List ℕ) (k m : ℕ) → ((j : ℕ) → k ≤ j → j < k + m → inUse j ids ≡ true)
+    → NoneFree ≡ lowestFrom ids k m
+unfolding lowestFrom
+none-free ids k zero t = refl
+none-free ids k (suc m) t =
+    rw (t k (omega arith) (omega arith)) (none-free ids (k + 1) m (λ j a b. t j (omega arith) (omega arith)))
+
+-- what the search over the rows finds
+module _ (t : List ℕ) (n r : ℕ) (w : Lowest t n r) where
+  taken-below : (j : ℕ) → 0x100 ≤ j → j < r → inUse j (listFrom (idWord t) 0 n) ≡ true
+  taken-below j a b =
+      let h = w .taken j a b in
+      held-use t j 0 n (h .0) (omega arith) (omega (arith, h .1)) (h .2)
+
+  free-there : r < 0xF00 → inUse r (listFrom (idWord t) 0 n) ≡ false
+  free-there l = go (inUse r (listFrom (idWord t) 0 n)) refl
+    where
+      go : (b : Bool) → inUse r (listFrom (idWord t) 0 n) ≡ b → b ≡ false
+      go true e = let h = use-held t r 0 n e in absurd (w .free l (h .0, omega (arith, h .1), h .2))
+      go false e = refl
 
 -- ---- the ways to pick an id
 
@@ -155,13 +133,17 @@ module _ (ids : List ℕ) (id : ℕ) where
     unfolding idFor
     pick-given q = simp (le-leb _ _ l, le-leb _ _ h, sym e ∙ q)
 
-  pub pick-lowest : (r : ℕ) → r ≡ lowestFree ids → r < 0xF00 → Free r ≡ idFor ids false id
-  unfolding idFor
-  pick-lowest r e l = rw (← e) (simp (lt-ltb _ _ l))
+module _ (t : List ℕ) (n id r : ℕ) (w : Lowest t n r) where
+  pub pick-lowest : r < 0xF00 → Free r ≡ idFor (listFrom (idWord t) 0 n) false id
+  unfolding idFor lowestFree
+  pick-lowest l =
+      free-at (listFrom (idWord t) 0 n) 0x100 0xE00 r (w .low) (omega arith) (taken-below t n r w)
+      (free-there t n r w l)
 
-  pub pick-none : (r : ℕ) → r ≡ lowestFree ids → 0xF00 ≤ r → NoneFree ≡ idFor ids false id
-  unfolding idFor
-  pick-none r e l = rw (← e) (simp (le-ltb _ _ l))
+  pub pick-none : 0xF00 ≤ r → NoneFree ≡ idFor (listFrom (idWord t) 0 n) false id
+  unfolding idFor lowestFree
+  pick-none l =
+      none-free (listFrom (idWord t) 0 n) 0x100 0xE00 (λ j a b. taken-below t n r w j a (omega arith))
 
 -- ---- what is picked
 
@@ -171,6 +153,29 @@ InRange (Free id) = (0x100 ≤ id) × (id ≤ 0xEFF)
 InRange OutsideRange = Unit {0}
 InRange InUse = Unit {0}
 InRange NoneFree = Unit {0}
+
+-- and so does one of m ids from k on
+abbrev From : ℕ → ℕ → Picked → Type 0
+From k m (Free id) = (k ≤ id) × (id < k + m)
+From k m OutsideRange = Unit {0}
+From k m InUse = Unit {0}
+From k m NoneFree = Unit {0}
+
+from-more : (k m : ℕ) (p : Picked) → From (k + 1) m p → From k (suc m) p
+from-more k m (Free id) (a, b) = (omega arith, omega arith)
+from-more k m OutsideRange a = tt
+from-more k m InUse a = tt
+from-more k m NoneFree a = tt
+
+from-range : (ids : List ℕ) (k m : ℕ) → From k m (lowestFrom ids k m)
+unfolding lowestFrom
+from-range ids k zero = tt
+from-range ids k (suc m) = go (inUse k ids) (from-more k m (lowestFrom ids (k + 1) m) (from-range ids (k + 1) m))
+  where
+    go : (b : Bool) → From k (suc m) (lowestFrom ids (k + 1) m)
+        → From k (suc m) (cond b (lowestFrom ids (k + 1) m) (Free k))
+    go true rest = rest
+    go false rest = (omega arith, omega arith)
 
 pub picked-range : (ids : List ℕ) (given : Bool) (id : ℕ) → InRange (idFor ids given id)
 unfolding idFor lowestFree
@@ -183,14 +188,13 @@ picked-range ids true id = go (leb 0x100 id && leb id 0xEFF) refl (inUse id ids)
         let both = and-eq-true-iff (leb 0x100 id) (leb id 0xEFF) .0 e in
         (leb-true _ _ (both .0), leb-true _ _ (both .1))
     go false e u = tt
-picked-range ids false id = go (ltb (lowestFrom ids 0x100 0xE00) 0xF00) refl
+picked-range ids false id = go (lowestFrom ids 0x100 0xE00) (from-range ids 0x100 0xE00)
   where
-    go : (b : Bool) → ltb (lowestFrom ids 0x100 0xE00) 0xF00 ≡ b
-        → InRange (cond b (Free (lowestFrom ids 0x100 0xE00)) NoneFree)
-    go true e =
-        let l : lowestFrom ids 0x100 0xE00 < 0xF00 = ltb-true _ _ e in
-        (low-from ids 0xE00 0x100 .low, omega arith)
-    go false e = tt
+    go : (p : Picked) → From 0x100 0xE00 p → InRange p
+    go (Free k) (a, b) = (a, omega arith)
+    go OutsideRange a = tt
+    go InUse a = tt
+    go NoneFree a = tt
 
 -- and no type holds it
 abbrev pub Unheld : List ℕ → Picked → Type 0
@@ -198,6 +202,16 @@ Unheld ids (Free id) = inUse id ids ≡ false
 Unheld ids OutsideRange = Unit {0}
 Unheld ids InUse = Unit {0}
 Unheld ids NoneFree = Unit {0}
+
+from-unheld : (ids : List ℕ) (k m : ℕ) → Unheld ids (lowestFrom ids k m)
+unfolding lowestFrom
+from-unheld ids k zero = tt
+from-unheld ids k (suc m) = go (inUse k ids) refl (from-unheld ids (k + 1) m)
+  where
+    go : (b : Bool) → inUse k ids ≡ b → Unheld ids (lowestFrom ids (k + 1) m)
+        → Unheld ids (cond b (lowestFrom ids (k + 1) m) (Free k))
+    go true e rest = rest
+    go false e rest = e
 
 pub picked-unheld : (ids : List ℕ) (given : Bool) (id : ℕ) → Unheld ids (idFor ids given id)
 unfolding idFor lowestFree
@@ -207,11 +221,4 @@ picked-unheld ids true id = go (leb 0x100 id && leb id 0xEFF) (inUse id ids) ref
     go true true e = tt
     go true false e = e
     go false u e = tt
-picked-unheld ids false id = go (ltb (lowestFrom ids 0x100 0xE00) 0xF00) refl
-  where
-    go : (b : Bool) → ltb (lowestFrom ids 0x100 0xE00) 0xF00 ≡ b
-        → Unheld ids (cond b (Free (lowestFrom ids 0x100 0xE00)) NoneFree)
-    go true e =
-        let l : lowestFrom ids 0x100 0xE00 < 0xF00 = ltb-true _ _ e in
-        low-from ids 0xE00 0x100 .free (omega arith)
-    go false e = tt
+picked-unheld ids false id = from-unheld ids 0x100 0xE00

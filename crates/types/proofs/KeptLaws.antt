@@ -1,69 +1,106 @@
 -- What follows from tables as our own calls left them (document 01, "What promises shut out"): each call's conditions,
--- that every type is laid out well, and that no two hold the same id or have the same name. A build keeps it.
-use Prim.Native.Nat.{ℕ, _+_, _^_, _<_, _≤_}
+-- that a row is a type with all that is known of one or zero, and that no two types hold the same id or have the same
+-- name. A build keeps it, and says how many types there are.
+use Prim.Native.Nat.{ℕ, _+_, _*_, _^_, _<_, _≤_}
 use native.Mathlib.Decide.{decLt}
 use native.Mathlib.Omega.{arith}
-use mathlib.Core.Path.{_≡_, refl}
-use mathlib.Core.Bool.{Bool, true, false, cond}
+use mathlib.Core.Path.{_≡_, refl, sym, ap, _∙_}
+use mathlib.Core.Bool.{true, false, true≢false}
 use mathlib.Core.List.{List, []}
+use lib.ListN.{length}
 use Rattle.types.specs.Said.{Why}
 use Rattle.words.specs.Words.{Bytes}
 use Rattle.types.specs.declared.building.Built.{Built}
-use Rattle.types.specs.declared.member.StructKind.the-variants.{Str}
-use Rattle.types.specs.declared.refusal.Refusal.{Refusal}
-use Rattle.types.specs.Book.{bookOk}
+use Rattle.types.specs.declared.building.Built.the-variants.{Types}
+use Rattle.types.specs.declared.member.StructDef.{StructDef}
+use Rattle.types.specs.declared.member.StructKind.the-variants.{Predefined, Str}
+use Rattle.types.specs.declared.predefined.PredefinedIds.{PredefinedIds}
 use Rattle.types.specs.Build.{buildOf, Ended}
 use Rattle.types.specs.Defs.{Def, AllReadable, partsAt}
-use Rattle.types.specs.Kept.{Made, none, built, Kept, Listed}
+use Rattle.types.specs.Kept.{Made, none, built, Kept}
 use Rattle.types.specs.Laid.{Laid}
 use Rattle.types.specs.Listing.{Listable}
 use Rattle.types.specs.Lookup.{NamesInside, rowName}
-use Rattle.types.specs.Names.{sameName}
-use Rattle.types.specs.Predefined.{predefinedIds, predefined}
+use Rattle.types.specs.Names.{sameName, goodName}
+use Rattle.types.specs.Predefined.{predefinedId, predefined}
 use Rattle.types.specs.Registry.{noTypes, noMembers, noNames, typesTable, membersTable, namesTable, typeCount}
 use Rattle.types.specs.Registry.{typeRows, memberRows, bytesOf}
 use Rattle.types.specs.Rounds.{Answer, refused, accepted}
 use Rattle.types.specs.Tables.{noType, typeAt}
-use Rattle.types.specs.Turns.{roundsFrom}
-use Rattle.types.specs.Waste.{sizesIn}
-use Rattle.types.proofs.GoodLaws.{good-count, good-inside, good-laid, good-most, good-listable}
+use Rattle.types.specs.Template.{userId}
+use Rattle.types.specs.Waste.{sizesIn, visibleBits}
+use Rattle.types.proofs.BuildWays.{accepted-both}
+use Rattle.types.proofs.GoodLaws.{MemberRow, good-count, good-inside, good-laid, good-most, good-listable}
+use Rattle.types.proofs.GoodLaws.{good-used, good-id, good-kind, good-first, good-name, good-members}
 use Rattle.types.proofs.GoodLaws.{good-string, good-unused, good-ids-apart, good-names-apart}
-use Rattle.types.proofs.PredefinedLaws.{predefined-shown}
-use Rattle.types.proofs.PredefinedWell.{predefined-well}
-use Rattle.types.proofs.RoundsKeep.{Good, rounds-good}
+use Rattle.types.proofs.ProperLaws.{FirstFour, proper-none}
+use Rattle.types.proofs.RoundsKeep.{Good, predefined-begun, rounds-begun}
 use Rattle.types.proofs.ShownLaws.{shown-none, all-readable, ids-fit}
 use Rattle.types.proofs.StringLaws.{StringRow}
-use Rattle.types.proofs.UniqueLaws.{unlike-none, predefined-unlike}
+use Rattle.types.proofs.UniqueLaws.{unlike-none}
+use Rattle.types.proofs.VisibleLaws.{visible-inside}
 use Rattle.types.proofs.WellLaws.{well-none}
 
--- ---- what a build makes is good
+-- ---- what a build makes
 
--- an accepted build passed both tests
-passed : (p b : Bool) (a : Answer (List Def) Why) (ds : List Def)
-    → cond p (cond b a (refused (1, 0))) (refused (22, 0)) ≡ accepted ds → (p ≡ true) × (a ≡ accepted ds)
-passed true true a ds e = (refl, e)
-passed true false a ds e = (refl, cc)
-passed false b a ds e = (cc, cc)
-
-accepted-both : (timer counter control string : ℕ) (book : List ℕ) (ds : List Def)
-    → buildOf timer counter control string book ≡ accepted ds
-    → (predefinedIds timer counter control string ≡ true)
-    × (roundsFrom book (predefined timer counter control string) ≡ accepted ds)
-unfolding buildOf
-accepted-both timer counter control string book ds e =
-    passed (predefinedIds timer counter control string) (bookOk book) _ ds e
-
+-- a registry that a build can leave is good
 pub made-good : (ds : List Def) → Made ds → Good ds
-made-good ds (none e) = rw e (record { shown = shown-none; well = well-none; unlike = unlike-none })
-made-good ds (built timer counter control string book bytes e) =
-    let a = accepted-both timer counter control string book ds e in
-    rounds-good book bytes (predefined timer counter control string) ds
-    (record {
-      shown = predefined-shown timer counter control string (a .0);
-      well = predefined-well timer counter control string;
-      unlike = predefined-unlike timer counter control string (a .0);
-    })
-    (a .1)
+made-good ds (none e) =
+    rw e (record { shown = shown-none; well = well-none; unlike = unlike-none; proper = proper-none })
+made-good ds (built ids book bytes e) =
+    let a = accepted-both ids book ds e in
+    rounds-begun book bytes (predefined ids) ds
+    (predefined-begun ids (a .0)) (a .1) .good
+
+-- ---- a row: a type with all that is known of one, or no type
+
+pub record TypeRow (types members names : List ℕ) (i : ℕ) : Type 0 where
+  pub counted : i < typeCount types
+  pub few : i < 200
+  pub used : typeAt types i .id ≡ 0 → ⊥
+  pub listable : Listable types members (typeAt types i)
+  -- it is laid out well, is at most 2^26 + 224 bytes long, and its visible members' bits never pass them
+  pub laid : Laid (sizesIn types) i (typeAt types i .size)
+      (partsAt members names (typeAt types i .first) (typeAt types i .count))
+  pub most : typeAt types i .size ≤ 2 ^ 26 + 224
+  pub bits : visibleBits (sizesIn types) (partsAt members names (typeAt types i .first) (typeAt types i .count))
+      ≤ 8 * typeAt types i .size
+  -- one of kind Str is a string
+  pub string : typeAt types i .kind ≡ Str → StringRow members (typeAt types i)
+  -- the first four are TIMER, COUNTER, CONTROL and STRING, with predefined types' ids; the others have users' ids
+  pub first : i < 4 → FirstFour i (rowName types names i) (typeAt types i .kind)
+  pub early : i < 4 → predefinedId (typeAt types i .id) ≡ true
+  pub late : 4 ≤ i → userId (typeAt types i .id) ≡ true
+  pub kind : userId (typeAt types i .id) ≡ true → typeAt types i .kind ≡ Predefined → ⊥
+  -- its name and its members' follow the rule, and each member stands as it should
+  pub name : goodName (rowName types names i) ≡ true
+  pub parts : (k : ℕ) → k < typeAt types i .count → MemberRow members names (typeAt types i .first + k)
+
+pub data RowIs (types members names : List ℕ) (i : ℕ) : Type 0 where
+  holds : TypeRow types members names i → RowIs types members names i
+  empty : typeAt types i ≡ noType → RowIs types members names i
+
+good-row : (ds : List Def) (g : Good ds) (i : ℕ) → i < length ds
+    → TypeRow (typesTable ds) (membersTable ds) (namesTable ds) i
+good-row ds g i l =
+    let p = g .proper i l in
+    let id = good-id ds g i l in
+    record {
+      counted = rw (good-count ds g) l;
+      few = omega (arith, g .shown .few);
+      used = good-used ds g i l;
+      listable = good-listable ds g i l;
+      laid = good-laid ds g i l;
+      most = good-most ds g i l;
+      bits = visible-inside (sizesIn (typesTable ds)) i _ _ (good-laid ds g i l);
+      string = good-string ds g i l;
+      first = good-first ds g i l;
+      early = rw id (p .early);
+      late = rw id (p .late);
+      kind = rw (id, good-kind ds g i l) (p .kind);
+      name = good-name ds g i l;
+      parts = good-members ds g i l;
+    }
 
 -- ---- what a caller may count on
 
@@ -71,38 +108,46 @@ module _ {types members names : List ℕ} (k : Kept types members names) where
   good : Good (k .defs)
   good = made-good (k .defs) (k .made)
 
+  -- the rows and names of every type lie inside the tables
   pub kept-readable : AllReadable types members
   kept-readable = rw (k .rows, k .parts) (all-readable (k .defs) (good .shown))
 
+  -- so do the names of all types there are
   pub kept-inside : NamesInside types names (typeCount types)
   kept-inside = rw (k .rows, k .bytes) (good-inside (k .defs) good)
 
+  -- ids have twelve bits
   pub kept-ids : (n : ℕ) → n < 200 → typeAt types n .id < 0x1000
   kept-ids n l = rw (k .rows) (ids-fit (k .defs) (good .shown) n l)
 
-  pub kept-listed : Listed types members (typeCount types)
-  kept-listed =
-      rw (k .rows, k .parts)
-      (record {
-        few = rw (good-count (k .defs) good) (good .shown .few);
-        each = λ i l. good-listable (k .defs) good i (rw (good-count (k .defs) good) at l);
-      })
+  -- so many types there are
+  pub kept-count : typeCount types ≡ length (k .defs)
+  kept-count = rw (k .rows) (good-count (k .defs) good)
 
-  -- every type is laid out well, and is at most 2^26 + 224 bytes long
-  pub kept-laid : (i : ℕ) → i < typeCount types
-      → Laid (sizesIn types) i (typeAt types i .size)
-      (partsAt members names (typeAt types i .first) (typeAt types i .count))
-  kept-laid =
+  -- a row below the count is a type's ..
+  pub kept-type : (i : ℕ) → i < typeCount types → TypeRow types members names i
+  kept-type =
       rw (k .rows, k .parts, k .bytes)
-      (λ i l. good-laid (k .defs) good i (rw (good-count (k .defs) good) at l))
+      (λ i l. good-row (k .defs) good i (rw (good-count (k .defs) good) at l))
 
-  pub kept-most : (i : ℕ) → i < typeCount types → typeAt types i .size ≤ 2 ^ 26 + 224
-  kept-most = rw (k .rows) (λ i l. good-most (k .defs) good i (rw (good-count (k .defs) good) at l))
+  -- .. and every other one is zero
+  pub kept-row : (i : ℕ) → RowIs types members names i
+  kept-row i = go (decLt i (typeCount types))
+    where
+      after : length (k .defs) ≤ i → typeAt types i ≡ noType
+      after = rw (k .rows) (good-unused (k .defs) good i)
 
-  -- a type of kind Str is a string
-  pub kept-string : (i : ℕ) → i < typeCount types → typeAt types i .kind ≡ Str → StringRow members (typeAt types i)
-  kept-string =
-      rw (k .rows, k .parts) (λ i l. good-string (k .defs) good i (rw (good-count (k .defs) good) at l))
+      go : Dec (i < typeCount types) → RowIs types members names i
+      go (yes l) = holds (kept-type i l)
+      go (no l) = empty (after (omega (arith, l, kept-count)))
+
+  -- a row that holds an id is a type's
+  pub kept-used : (i : ℕ) → (typeAt types i .id ≡ 0 → ⊥) → TypeRow types members names i
+  kept-used i u = go (kept-row i)
+    where
+      go : RowIs types members names i → TypeRow types members names i
+      go (holds r) = r
+      go (empty e) = absurd (u (ap (λ (d : StructDef). d .id) e))
 
   -- no two types hold the same template id, and no two have the same name
   pub kept-ids-apart : (i j : ℕ) → i < j → j < typeCount types → typeAt types i .id ≡ typeAt types j .id → ⊥
@@ -115,38 +160,6 @@ module _ {types members names : List ℕ} (k : Kept types members names) where
       rw (k .rows, k .bytes)
       (λ i j l h. good-names-apart (k .defs) good i j l (rw (good-count (k .defs) good) at h))
 
-  -- the rows after the types are zero
-  pub kept-unused : (i : ℕ) → typeCount types ≤ i → typeAt types i ≡ noType
-  kept-unused = rw (k .rows) (λ i l. good-unused (k .defs) good i (rw (good-count (k .defs) good) at l))
-
--- ---- a row: a type with all that is known of one, or no type
-
-pub record TypeRow (types members names : List ℕ) (i : ℕ) : Type 0 where
-  pub few : i < 200
-  pub listable : Listable types members (typeAt types i)
-  pub laid : Laid (sizesIn types) i (typeAt types i .size)
-      (partsAt members names (typeAt types i .first) (typeAt types i .count))
-  pub most : typeAt types i .size ≤ 2 ^ 26 + 224
-  pub string : typeAt types i .kind ≡ Str → StringRow members (typeAt types i)
-
-pub data RowIs (types members names : List ℕ) (i : ℕ) : Type 0 where
-  holds : TypeRow types members names i → RowIs types members names i
-  empty : typeAt types i ≡ noType → RowIs types members names i
-
-pub kept-row : {types members names : List ℕ} → Kept types members names → (i : ℕ) → RowIs types members names i
-kept-row {types} {members} {names} k i = go (decLt i (typeCount types))
-  where
-    go : Dec (i < typeCount types) → RowIs types members names i
-    go (yes l) =
-        holds (record {
-          few = omega (arith, l, kept-listed k .few);
-          listable = kept-listed k .each i l;
-          laid = kept-laid k i l;
-          most = kept-most k i l;
-          string = kept-string k i l;
-        })
-    go (no l) = empty (kept-unused k i (omega (arith, l)))
-
 -- ---- and what keeps it
 
 -- tables of zeros are kept
@@ -155,20 +168,32 @@ pub none-kept : {types members names : List ℕ} → types ≡ noTypes → membe
 unfolding typesTable membersTable namesTable typeRows memberRows bytesOf
 none-kept a b c = record { defs = []; made = none refl; rows = a; parts = b; bytes = c }
 
-module _ (timer counter control string : ℕ) (book : List ℕ) (bytes : Bytes book) where
-  kept-by : (a : Answer (List Def) Why) → buildOf timer counter control string book ≡ a
+module _ (ids : PredefinedIds) (book : List ℕ) (bytes : Bytes book) where
+  kept-by : (a : Answer (List Def) Why) → buildOf ids book ≡ a
       → {t m n : List ℕ} {r : Built} → Ended a t m n r → Kept t m n
   kept-by (refused x) e w = none-kept (w .types) (w .members) (w .names)
   kept-by (accepted ds) e w =
       record {
         defs = ds;
-        made = built timer counter control string book bytes e;
+        made = built ids book bytes e;
         rows = w .types;
         parts = w .members;
         bytes = w .names;
       }
 
   -- a build keeps it, accepted or refused
-  pub build-kept : {t m n : List ℕ} {r : Built} → Ended (buildOf timer counter control string book) t m n r
+  pub build-kept : {t m n : List ℕ} {r : Built} → Ended (buildOf ids book) t m n r
       → Kept t m n
-  build-kept w = kept-by (buildOf timer counter control string book) refl w
+  build-kept w = kept-by (buildOf ids book) refl w
+
+  count-by : (a : Answer (List Def) Why) → buildOf ids book ≡ a
+      → {t m n : List ℕ} (x : ℕ) → Ended a t m n (Types x) → x ≡ typeCount t
+  count-by (refused y) e x w = let z : true ≡ false = cc (w .is) in absurd (true≢false z)
+  count-by (accepted ds) e x w =
+      let is : x ≡ length ds = cc (w .is) in
+      is ∙ rw (w .types) (sym (good-count ds (made-good ds (built ids book bytes e))))
+
+  -- an accepted build says how many types there are
+  pub build-count : {t m n : List ℕ} {r : Built} (x : ℕ) → Ended (buildOf ids book) t m n r
+      → r ≡ Types x → x ≡ typeCount t
+  build-count x w q = count-by (buildOf ids book) refl x (rw q at w)

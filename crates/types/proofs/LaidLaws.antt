@@ -4,7 +4,7 @@
 use Prim.Native.Nat.{ℕ, zero, suc, _+_, _-_, _*_, _≤_, _<_}
 use native.Mathlib.Omega.{arith}
 use mathlib.Core.Path.{_≡_, refl, sym, _∙_}
-use mathlib.Core.Bool.{true, false, true≢false}
+use mathlib.Core.Bool.{Bool, true, false, true≢false}
 use mathlib.Core.List.{List, [], _∷_, _++_}
 use mathlib.Core.Logic.{inl, inr}
 use lib.ListN.{length, getD, drop}
@@ -20,8 +20,10 @@ use Rattle.types.specs.Defs.{Part}
 use Rattle.types.specs.Digits.{hostName}
 use Rattle.types.specs.Laid.{firstBit, pastBit, Apart, Clear, Plain, Rising, Lies, Laid, Resolved, Every}
 use Rattle.types.specs.Layout.{times, alignUp, placed}
-use Rattle.types.specs.Structs.{named, thenParts, partsFrom, measured, sizeAt, udtStart, udtParts}
-use Rattle.types.specs.Structs.{bools, aoiHosts, bitHostAt, hostParts, enableAt, enableOut, aoiStart, aoiParts}
+use Rattle.types.specs.Passes.{thenParts, partsFrom, measured, udtParts, aoiParts, partsOf, measuredAoi}
+use Rattle.types.specs.Passes.{measuredOf}
+use Rattle.types.specs.Structs.{named, sizeAt, udtStart}
+use Rattle.types.specs.Structs.{bools, aoiHosts, bitHostAt, hostParts, enableAt, enableOut, aoiStart}
 use Rattle.types.specs.Structs.{stringParts, stringSize, dataOf, dintAt, statusAt, statusParts, ctlAt}
 use Rattle.types.specs.Structs.{controlParts}
 use Rattle.types.proofs.FreeLaws.{Ready, Taken, Step, HostStep, Stepped, not-plain, steps}
@@ -129,7 +131,7 @@ size-room c = omega arith
 module _ (sizes : ℕ → ℕ) (i : ℕ) where
   -- ---- UDT
 
-  pub udt-laid : (name : Decl → List ℕ) (type : List ℕ) (ds : List Decl) (n₀ : ℕ) (c : Cursor) (n : ℕ)
+  udt-laid : (name : Decl → List ℕ) (type : List ℕ) (ds : List Decl) (n₀ : ℕ) (c : Cursor) (n : ℕ)
       → Every (Resolved sizes i) ds → measured (hostName type) udtStart n₀ ds ≡ Ended c n
       → Laid sizes i (sizeAt c) (udtParts name type ds)
   unfolding udtParts
@@ -155,7 +157,7 @@ module _ (sizes : ℕ → ℕ) (i : ℕ) where
       )
 
   -- EnableIn and EnableOut have bits 0 and 1, and all BOOLs to come fit into the hosts
-  pub aoi-laid : (name : Decl → List ℕ) (type : List ℕ) (ds : List Decl) (n₀ : ℕ) (c : Cursor) (n : ℕ)
+  aoi-laid : (name : Decl → List ℕ) (type : List ℕ) (ds : List Decl) (n₀ : ℕ) (c : Cursor) (n : ℕ)
       → Every (Resolved sizes i) ds → measured (hostName type) (aoiStart (aoiHosts ds)) n₀ ds ≡ Ended c n
       → Laid sizes i (sizeAt c) (aoiParts name type ds)
   unfolding aoiParts aoiHosts Laid Clear
@@ -177,6 +179,13 @@ module _ (sizes : ℕ → ℕ) (i : ℕ) where
       (λ v w. inl (omega arith), clear 0 (omega arith)) in
       hosts-laid (sizeAt c) 0 h _ (omega arith)
       (record { earlier = tt; inside = omega arith; clear = apart; rising = unordered 0 _ }, out)
+
+  pub type-laid : (aoi : Bool) (name : Decl → List ℕ) (type : List ℕ) (ds : List Decl) (c : Cursor) (n : ℕ)
+      → Every (Resolved sizes i) ds → measuredOf aoi type ds ≡ Ended c n
+      → Laid sizes i (sizeAt c) (partsOf aoi name type ds)
+  unfolding measuredAoi
+  type-laid true name type ds c n rs q = aoi-laid name type ds _ c n rs q
+  type-laid false name type ds c n rs q = udt-laid name type ds 0 c n rs q
 
   -- ---- strings
 

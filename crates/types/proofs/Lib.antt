@@ -8,6 +8,7 @@ pub mod Measuring
 pub mod NameLaws
 pub mod DefLaws
 pub mod DigitLaws
+pub mod HostNames
 pub mod EntryLaws
 pub mod FixedLaws
 pub mod FoundLaws
@@ -19,10 +20,14 @@ pub mod ListingLaws
 pub mod PlaceLaws
 pub mod FreeLaws
 pub mod LaidLaws
+pub mod LaidOutLaws
 pub mod BookLaws
 pub mod CheckLaws
 pub mod BoundLaws
+pub mod GivenLaws
 pub mod PastLaws
+pub mod RowWords
+pub mod ThereLaws
 pub mod SaidLaws
 pub mod ShapeLaws
 pub mod ShownLaws
@@ -34,6 +39,7 @@ pub mod TableLaws
 pub mod TemplateLaws
 pub mod WalkLaws
 pub mod WasteLaws
+pub mod VisibleLaws
 pub mod RegistryLaws
 pub mod ResolveLaws
 pub mod RoundLaws
@@ -41,10 +47,8 @@ pub mod OrderLaws
 pub mod AddLaws
 pub mod RoomLaws
 pub mod AddStoreLaws
-pub mod AddUdtLaws
 pub mod TurnLaws
-pub mod AddAoiLaws
-pub mod AddStringLaws
+pub mod AddLaidLaws
 pub mod AddTypeLaws
 pub mod PredefinedLaws
 pub mod CountLaws
@@ -52,7 +56,8 @@ pub mod UniqueLaws
 pub mod VerdictLaws
 pub mod WellLaws
 pub mod PredefinedWell
-pub mod ShortLaws
+pub mod ProperLaws
+pub mod PartLaws
 pub mod StringLaws
 pub mod OrderBook
 pub mod RoundsKeep
@@ -63,6 +68,7 @@ pub mod StandLaws
 pub mod RunLaws
 pub mod OneRoundLaws
 pub mod BuildLaws
+pub mod BuildWays
 pub mod ScratchLaws
 pub mod KeptLaws
 pub mod SearchLaws

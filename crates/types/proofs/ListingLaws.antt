@@ -108,16 +108,13 @@ fits-then {s} {t} {at} {m} {out} {mid} h a =
     let n : length mid ≡ length out = ap length (a .bytes) ∙ length-sets out at s in
     record { room = omega (arith, h .room, length-append s t, a .next, n) }
 
-pub lined : {s : List ℕ} {r : ℕ} {out left : List ℕ} → Added s 0 out r left → Lined s out r left
-lined a = record { long = omega (arith, a .next); bytes = a .bytes }
+pub lined : {s : List ℕ} {r : ℕ} {out left : List ℕ} → Fits s 0 out → Added s 0 out r left → Lined s out r left
+lined h a = record { long = omega (arith, a .next); room = omega (arith, h .room); bytes = a .bytes }
 
 -- any number's digits fit into twenty places
 pub digits-20 : (x : ℕ) → length (digits x) ≤ 20
 unfolding digits
 digits-20 x = digits-most 20 x
-
-pub digits-fit : (x at : ℕ) (out : List ℕ) → at + 20 ≤ length out → Fits (digits x) at out
-digits-fit x at out h = record { room = omega (arith, digits-20 x) }
 
 -- ---- the fields of a line, one after the other
 
@@ -223,10 +220,11 @@ module _ (names : List ℕ) (d : StructDef) (bytes bits : ℕ) where
             ));
       }
 
-  pub type-lined : {r : ℕ} {out left : List ℕ} → Added (line typeFields) 0 out r left
+  pub type-lined : {r : ℕ} {out left : List ℕ} → Left (line typeFields) 0 out typeFields 0 out
+      → Added (line typeFields) 0 out r left
       → Lined (typeLine (nameIn names (d .name)) (d .id) (d .size) (d .count) bytes bits) out r left
   unfolding typeLine
-  type-lined a = lined a
+  type-lined l a = lined (l .fits) a
 
 -- a member's line
 module _ (types names : List ℕ) (number : ℕ) (m : Member) (name : Span) where
@@ -252,10 +250,11 @@ module _ (types names : List ℕ) (number : ℕ) (m : Member) (name : Span) wher
             ));
       }
 
-  pub member-lined : {r : ℕ} {out left : List ℕ} → Added (line memberFields) 0 out r left
+  pub member-lined : {r : ℕ} {out left : List ℕ} → Left (line memberFields) 0 out memberFields 0 out
+      → Added (line memberFields) 0 out r left
       → Lined (memberLine number (typeName (structNames types names) (m .ty)) m (nameIn names name)) out r left
   unfolding memberLine
-  member-lined a = lined a
+  member-lined l a = lined (l .fits) a
 
 -- a refusal's line
 module _ (number place : ℕ) where
@@ -269,10 +268,11 @@ module _ (number place : ℕ) where
         room = simp length-append (omega (arith, digits-20 number, digits-20 place));
       }
 
-  pub refused-lined : {r : ℕ} {out left : List ℕ} → Added (line refusedFields) 0 out r left
+  pub refused-lined : {r : ℕ} {out left : List ℕ} → Left (line refusedFields) 0 out refusedFields 0 out
+      → Added (line refusedFields) 0 out r left
       → Lined (refusedLine number place) out r left
   unfolding refusedLine
-  refused-lined a = lined a
+  refused-lined l a = lined (l .fits) a
 
 -- ---- rows
 

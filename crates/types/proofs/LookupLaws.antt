@@ -1,14 +1,21 @@
 -- Laws of looking a type up: the structures that are left, one after the other.
 use Prim.Native.Nat.{ℕ, suc, _+_, _-_, _<_, _≤_}
 use native.Mathlib.Omega.{arith}
-use mathlib.Core.Path.{_≡_, sym, _∙_}
-use mathlib.Core.Bool.{Bool, true, false}
-use mathlib.Core.List.{List}
+use mathlib.Core.Path.{_≡_, refl, sym, ap₂, _∙_}
+use mathlib.Core.Bool.{Bool, true, false, cond}
+use mathlib.Core.List.{List, [], _∷_}
+use Rattle.types.specs.declared.atomic.FoundAtomic.{FoundAtomic}
+use Rattle.types.specs.declared.atomic.FoundAtomic.the-variants.{Is as found, Nothing as none}
+use Rattle.types.specs.declared.lookups.FoundTy.{FoundTy}
 use Rattle.types.specs.declared.lookups.FoundTy.the-variants.{Is, Nothing}
 use Rattle.types.specs.declared.member.Ty.the-variants.{Struct}
 use Rattle.types.specs.Book.{listFrom}
-use Rattle.types.specs.Lookup.{namedAmong}
+use Rattle.types.specs.Atomic.{atomicNamed}
+use Rattle.types.specs.Atomic.{saidBy as atomicSays}
+use Rattle.types.specs.Lookup.{atomicOr, namedAmong, numberAmong, orElse, saidBy, typeAmong, wordAmong}
 use Rattle.types.specs.Names.{sameName}
+use Rattle.types.specs.Said.{done}
+use Rattle.types.proofs.AtomicLaws.{named-said}
 
 module _ (name : ℕ → List ℕ) (s : List ℕ) (n i : ℕ) where
   module _ (l : i < n) (b : Bool) (e : b ≡ sameName (name i) s) where
@@ -32,3 +39,26 @@ module _ (name : ℕ → List ℕ) (s : List ℕ) (n i : ℕ) where
   named-never l =
       let f : n - i ≡ 0 = omega arith in
       rw f
+
+-- ---- what a search says
+
+numbers-said : (known : List (List ℕ)) (s : List ℕ) (i : ℕ) → saidBy (namedAmong known s i) ≡ numberAmong known s i
+unfolding namedAmong numberAmong
+numbers-said [] s i = refl
+numbers-said (x ∷ xs) s i = go (sameName x s) (numbers-said xs s (i + 1))
+  where
+    go : (b : Bool) → saidBy (namedAmong xs s (i + 1)) ≡ numberAmong xs s (i + 1)
+        → saidBy (cond b (Is (Struct i)) (namedAmong xs s (i + 1)))
+        ≡ cond b (done (0x8000 + i)) (numberAmong xs s (i + 1))
+    go true e = refl
+    go false e = e
+
+or-said : (a : FoundAtomic) (f : FoundTy) → saidBy (atomicOr a f) ≡ orElse (atomicSays a) (saidBy f)
+or-said (found a) f = refl
+or-said none f = refl
+
+-- what the type of a name says is its word
+pub among-said : (known : List (List ℕ)) (s : List ℕ) → saidBy (typeAmong known s) ≡ wordAmong known s
+unfolding typeAmong wordAmong
+among-said known s =
+    or-said (atomicNamed s) (namedAmong known s 0) ∙ ap₂ orElse (named-said s) (numbers-said known s 0)

@@ -16,7 +16,7 @@ use Rattle.types.specs.declared.measure.Measured.{Measured}
 use Rattle.types.specs.declared.measure.Measured.the-variants.{Laid, AccessWrong as accessWrong, TooFar as tooFar}
 use Rattle.types.specs.declared.member.Member.{Member}
 use Rattle.types.specs.Layout.{placed, opened, nextBit, closed, sharedBits}
-use Rattle.types.specs.Structs.{thenMeasure, measureOne, measured, Fair, Far, Near}
+use Rattle.types.specs.Passes.{thenMeasure, measureOne, measured, Fair, Far, Near}
 use Rattle.types.proofs.PlaceLaws.{place-cases}
 
 module _ (host : ℕ → List ℕ) (c : Cursor) (n : ℕ) (d : Decl) (p : Placed) (e : p ≡ placed c d) where

@@ -10,7 +10,8 @@ use Rattle.types.specs.declared.measure.Measured.{Measured}
 use Rattle.types.specs.declared.measure.Measured.the-variants.{Laid, AccessWrong, TooFar}
 use Rattle.types.specs.Digits.{hostName}
 use Rattle.types.specs.Entries.{declAt, declsFrom, Found}
-use Rattle.types.specs.Structs.{measureOne, measured, udtStart, aoiStart, Far, Near, Measurable}
+use Rattle.types.specs.Passes.{measureOne, measured, Far, Near, Measurable}
+use Rattle.types.specs.Structs.{udtStart, aoiStart}
 use Rattle.types.proofs.DigitLaws.{host-most}
 use Rattle.types.proofs.EntryLaws.{decls-cons, decls-none, found-first, decl-fair}
 use Rattle.types.proofs.MeasureLaws.{measured-on, measured-access, measured-far, measured-done, far-on, near}

@@ -6,11 +6,12 @@ use native.Mathlib.Omega.{arith}
 use mathlib.Core.Path.{_≡_, refl, sym, ap, _∙_}
 use mathlib.Core.Bool.{Bool, true, false, _&&_, not}
 use mathlib.Core.List.{List, [], _∷_, map}
-use borrow.Author.Tests.{eq-eqb, ne-eqb, eqb-true, le-leb, lt-leb}
-use lib.Dec.{eqb}
+use borrow.Author.Tests.{eq-eqb, ne-eqb, eqb-true, le-leb, lt-leb, leb-true}
+use lib.Dec.{eqb, leb}
 use lib.ListN.{length, getD, drop, drop-of-length-le}
 use lib.Seq.{drop-cons}
 use Rattle.types.specs.Names.{lowerOf, sameName, nameByte, nameBytes, goodName}
+use Rattle.types.proofs.TestLaws.{and-left, and-right}
 
 -- ---- small letters
 
@@ -168,3 +169,25 @@ good-long s h k = simp (le-leb 1 (length s) h, lt-leb (length s) 40 k)
 pub good-within : (s : List ℕ) → 1 ≤ length s → length s ≤ 40 → nameBytes s ≡ goodName s
 unfolding goodName
 good-within s h k = simp (le-leb 1 (length s) h, le-leb (length s) 40 k)
+
+-- what a good name has
+pub record NameRule (s : List ℕ) : Type 0 where
+  pub least : 1 ≤ length s
+  pub most : length s ≤ 40
+  pub bytes : nameBytes s ≡ true
+
+pub name-rule : (s : List ℕ) → goodName s ≡ true → NameRule s
+unfolding goodName
+name-rule s q =
+    let a = leb 1 (length s) in
+    let b = leb (length s) 40 in
+    let long = and-left (a && b) (nameBytes s) q in
+    record {
+      least = leb-true _ _ (and-left a b long);
+      most = leb-true _ _ (and-right a b long);
+      bytes = and-right (a && b) (nameBytes s) q;
+    }
+
+-- and what has it is good
+pub rule-good : (s : List ℕ) → NameRule s → goodName s ≡ true
+rule-good s r = sym (good-within s (r .least) (r .most)) ∙ r .bytes

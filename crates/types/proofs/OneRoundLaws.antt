@@ -22,36 +22,29 @@ use Rattle.types.specs.Defs.{Def}
 use Rattle.types.specs.Lookup.{rowNames}
 use Rattle.types.specs.OneRound.{roundIn, Reached, first, more, RoundIn, RoundMade}
 use Rattle.types.specs.Registry.{viewIn, viewOf, Stands}
-use Rattle.types.specs.Resolve.{typeNames, allKnown}
+use Rattle.types.specs.Order.{allKnown}
+use Rattle.types.specs.Resolve.{typeNames, hasName}
 use Rattle.types.specs.Rounds.{no, ok, went}
 use Rattle.types.specs.Turns.{entriesAt, countOf, declsOf, readyIn, verdictOn, addIn, TurnIn, Turned, Tries}
-use Rattle.types.proofs.PredefinedLaws.{predefined-shown}
-use Rattle.types.proofs.PredefinedWell.{predefined-well}
 use Rattle.types.proofs.RegistryLaws.{stands-more}
 use Rattle.types.proofs.RoundLaws.{round-keep}
-use Rattle.types.proofs.RoundsKeep.{Good, keeps}
+use Rattle.types.proofs.RoundsKeep.{Begun, keeps, predefined-begun}
 use Rattle.types.proofs.RunLaws.{Inner, inner-start, inner-past, inner-wait, inner-no, inner-yes, inner-end}
 use Rattle.types.proofs.ShownLaws.{Shown, shown-more}
 use Rattle.types.proofs.SoundLaws.{Sound, sound, among-all}
 use Rattle.types.proofs.StandLaws.{turn-in, turn-same, turn-waits, turn-refused, turn-added}
 use Rattle.types.proofs.StandLaws.{AddedBy, tries-stand}
-use Rattle.types.proofs.UniqueLaws.{predefined-unlike}
 use Rattle.types.proofs.VerdictLaws.{verdict-fits}
 use Rattle.types.proofs.WaitLaws.{waits-on}
 
 -- ---- registries that rounds reach
 
-reached-good : (book : List ℕ) → Bytes book → (ds : List Def) → Reached book ds → Good ds
-reached-good book b _ (first timer counter control string q) =
-    record {
-      shown = predefined-shown timer counter control string q;
-      well = predefined-well timer counter control string;
-      unlike = predefined-unlike timer counter control string q;
-    }
-reached-good book b _ (more ds ds′ i r e) = keeps book b ds ds′ i (reached-good book b ds r) e
+reached-begun : (book : List ℕ) → Bytes book → (ds : List Def) → Reached book ds → Begun ds
+reached-begun book b _ (first ids q) = predefined-begun ids q
+reached-begun book b _ (more ds ds′ i r e) = keeps book b ds ds′ i (reached-begun book b ds r) e
 
 pub reached-shown : {book : List ℕ} {ds : List Def} → Bytes book → Reached book ds → Shown ds
-reached-shown {book} {ds} b r = reached-good book b ds r .shown
+reached-shown {book} {ds} b r = reached-begun book b ds r .good .shown
 
 -- a round goes from one to another
 pub reached-round : {book : List ℕ} {ds ds′ : List Def} (ws ws′ : List ℕ) → Reached book ds
@@ -187,7 +180,7 @@ module _ {book t₀ m₀ n₀ tys₀ f₀ k₀ r₀ t m n tys f k r : List ℕ} 
         }
 
     module _ {t′ m′ n′ : List ℕ} {x : Turn} (h : Turned
-        (allKnown (rowNames t n (u .types)) (typeNames book at 0 (countOf book i)))
+        (allKnown hasName (rowNames t n (u .types)) (typeNames book at 0 (countOf book i)))
         (addTo (viewIn t n u) book i at (declsOf (viewIn t n u) book (entriesFrom book at 0 (countOf book i)))) u
         t m n t′ m′ n′ x) (o : getD f i 0 ≡ 0) where
       -- the turn against the definition, where the round stands

@@ -13,18 +13,23 @@ use Rattle.types.specs.declared.atomic.FoundAtomic.{FoundAtomic}
 use Rattle.types.specs.declared.atomic.FoundAtomic.the-variants.{Is as found, Nothing as none-found}
 use Rattle.types.specs.declared.lookups.FoundTy.the-variants.{Is, Nothing}
 use Rattle.types.specs.declared.member.Ty.the-variants.{Struct}
-use Rattle.types.specs.Add.{Verdict, no as against, yes as for}
+use Rattle.types.specs.declared.predefined.PredefinedIds.{PredefinedIds}
+use Rattle.types.specs.Add.{Verdict, no as against, yes as for, newDef}
 use Rattle.types.specs.Atomic.{atomics, nameOf, firstOf, atomicNamed}
-use Rattle.types.specs.Book.{typesIn, every}
+use Rattle.types.specs.Book.{typesIn}
+use Rattle.types.specs.Build.{buildOf}
 use Rattle.types.specs.Defs.{Def}
 use Rattle.types.specs.Lookup.{namedAmong, atomicOr, typeAmong}
 use Rattle.types.specs.Names.{sameName, lowerOf}
 use Rattle.types.specs.Order.{Known}
-use Rattle.types.specs.Ordering.{typeNamed, hasName, Ordering}
+use Rattle.types.specs.Ordering.{typeNamed, Ordering}
+use Rattle.types.specs.Predefined.{withTimer, withCounter, withControl, predefined}
+use Rattle.types.specs.Predefined.{timerName, counterName, controlName, stringName}
 use Rattle.types.specs.Registry.{viewOf}
-use Rattle.types.specs.Resolve.{isFound, allKnown}
+use Rattle.types.specs.Resolve.{isFound, hasName}
 use Rattle.types.specs.Rounds.{no, ok, accepted, refused}
 use Rattle.types.specs.Turns.{usesOf, readyIn, verdictOn, stepOf, addIn, upFrom, roundsFrom}
+use Rattle.types.proofs.BuildWays.{accepted-both, refused-rounds}
 use Rattle.types.proofs.NameLaws.{same-lower, lower-same}
 use Rattle.types.proofs.OrderLaws.{Ties, shown, none}
 use Rattle.types.proofs.VerdictLaws.{verdict-name, verdict-never}
@@ -109,11 +114,6 @@ names-known =
 
 -- ---- the rounds over a book go by the names that are known
 
-known-every : (K us : List (List ℕ)) → allKnown K us ≡ every (hasName K) us
-unfolding allKnown every
-known-every K [] = refl
-known-every K (u ∷ us) = rw (known-every K us)
-
 module _ (book : List ℕ) (ds : List Def) (i : ℕ) where
   step-name : (s : Verdict) → verdictOn book (viewOf ds) i ≡ s → (es : List Def) → stepOf s ds ≡ ok es
       → viewOf es .names ≡ viewOf ds .names ++ typeNamed book i ∷ []
@@ -132,7 +132,7 @@ pub book-ties : (book : List ℕ)
 unfolding readyIn addIn
 book-ties book =
     record {
-      asks = λ ds i. known-every (viewOf ds .names) (usesOf book i);
+      asks = λ ds i. refl;
       adds = λ ds es i e. step-name book ds i (verdictOn book (viewOf ds) i) refl es e;
       never = λ ds i p e. step-never book ds i (verdictOn book (viewOf ds) i) refl p e;
     }
@@ -160,3 +160,30 @@ module _ (book : List ℕ) (start : List Def) where
   refused-unordered p e o g =
       none (book-ties book) names-known (typesIn book) start (upFrom 0 (typesIn book)) p
       (omega (arith, length-up 0 (typesIn book))) e o (g .same) (g .ordered)
+
+-- ---- over a whole build
+
+-- the book's types in an order with every member type atomic, predefined or earlier, and the types of a registry are
+-- the predefined ones, then those in that order
+pub record BuiltInOrder (ids : PredefinedIds) (book : List ℕ) (ds : List Def) : Type 0 where
+  pub order : List ℕ
+  pub ordering : Ordering book (predefined ids) order
+  pub names : map (λ (d : Def). d .name) ds
+      ≡ timerName ∷ counterName ∷ controlName ∷ stringName ∷ map (typeNamed book) order
+
+module _ (ids : PredefinedIds) (book : List ℕ) where
+  -- an accepted build shows an ordering of the book, and its types were added in it
+  pub build-ordered : (ds : List Def) → buildOf ids book ≡ accepted ds
+      → BuiltInOrder ids book ds
+  unfolding viewOf withTimer withCounter withControl predefined newDef
+  build-ordered ds e =
+      let a = accepted-both ids book ds e in
+      let s = accepted-ordered book (predefined ids) ds (a .1) in
+      record { order = s .0; ordering = s .1; names = s .2 }
+
+  -- where a build gives refusal 10, no ordering of the book has every member type atomic, predefined or earlier
+  pub build-unordered : (p : ℕ) → buildOf ids book ≡ refused (10, p)
+      → (o : List ℕ) → Ordering book (predefined ids) o → ⊥
+  build-unordered p e =
+      refused-unordered book (predefined ids) p
+      (refused-rounds ids book p e)

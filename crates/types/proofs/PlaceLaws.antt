@@ -16,8 +16,10 @@ use Rattle.types.specs.declared.layout.Placed.the-variants.{One, AccessW
 use Rattle.types.specs.declared.measure.Measured.the-variants.{Laid, AccessWrong as accessWrong, TooFar as tooFar}
 use Rattle.types.specs.declared.member.Member.{Member}
 use Rattle.types.specs.Layout.{most, accessOk, isBool, otherAt, opened, nextBit, placeBool, closed}
-use Rattle.types.specs.Layout.{startOf, endOf, placeOther, placed, InUdt, Shut}
-use Rattle.types.specs.Structs.{thenMeasure, measured, udtStart}
+use Rattle.types.specs.Layout.{times, memberEnd, startOf, onEnd, placeOther, placed, InUdt, Shut}
+use Rattle.types.specs.Passes.{thenMeasure, measured}
+use Rattle.types.specs.Said.{done, refused}
+use Rattle.types.specs.Structs.{udtStart}
 use Rattle.types.proofs.LayoutLaws.{placed-bool}
 
 -- a UDT's host has no bit left, or there is none
@@ -26,7 +28,10 @@ Full Closed = Unit {0}
 Full (Open byte bit) = 8 ≤ bit
 Full (Shared i) = ⊥
 
--- where any other member leaves the cursor
+-- where any other member ends, and where it leaves the cursor
+unfoldable pub endOf : Cursor → Decl → ℕ
+endOf c d = startOf c d + d .size * times (d .count)
+
 abbrev pub pastOther : Cursor → Decl → Cursor
 pastOther c d = record { offset = endOf c d; host = closed (c .host); members = c .members + 1 }
 
@@ -57,9 +62,14 @@ module _ (P : Placed → Type 0) (c : Cursor) (d : Decl) (w : Ways P c d) where
   bool-cases b (Shared i) e = w .shared b i e
 
   other-cases : isBool (d .ty) ≡ false → P (placeOther c d)
-  unfolding placeOther
-  other-cases b =
-      either P (leb (endOf c d) most) _ _ (λ l. w .other b (leb-true _ _ l)) (λ l. w .far b (leb-false _ _ l))
+  unfolding placeOther memberEnd endOf
+  other-cases b = go (leb (endOf c d) most) refl
+    where
+      go : (t : Bool) → leb (endOf c d) most ≡ t
+          → P (onEnd (cond t (done (endOf c d)) (refused 12 0)) (λ e. One (otherAt d (startOf c d))
+          (record { offset = e; host = closed (c .host); members = c .members + 1 })))
+      go true q = w .other b (leb-true _ _ q)
+      go false q = w .far b (leb-false _ _ q)
 
   -- what holds of each way that a step can go holds of the step
   pub place-cases : P (placed c d)

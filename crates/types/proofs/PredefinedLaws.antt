@@ -1,6 +1,6 @@
 -- Laws of the predefined types (document 01, "Layout", Predefined; "Order of building"): the tests of their ids, their
 -- parts can be stored and read back, each is added to the earlier ones, and the tables show all four.
-use Prim.Native.Nat.{ℕ, _+_, _*_, _<_, _≤_}
+use Prim.Native.Nat.{ℕ, _+_, _*_, _/_, _<_, _≤_}
 use native.Mathlib.Omega.{arith}
 use mathlib.Core.Path.{_≡_, refl, sym, _∙_}
 use mathlib.Core.Bool.{true, false, not, and-eq-true-iff}
@@ -9,26 +9,29 @@ use borrow.Author.Tests.{le-leb, lt-leb, leb-true, eq-eqb, ne-eqb}
 use lib.Dec.{eqb, leb}
 use lib.ListN.{length}
 use lib.Seq.{sets}
+use Rattle.words.specs.Words.{part}
 use Rattle.types.specs.declared.member.StructKind.{StructKind}
 use Rattle.types.specs.declared.member.StructKind.the-variants.{Predefined, Str}
+use Rattle.types.specs.declared.predefined.PredefinedIds.{PredefinedIds}
 use Rattle.types.specs.declared.used.Turn.the-variants.{Added}
 use Rattle.types.specs.declared.used.Used.{Used}
 use Rattle.types.specs.Add.{yes, hasRoom, newDef, Took}
 use Rattle.types.specs.Defs.{Part, Def, Readable}
 use Rattle.types.specs.Handle.{handleOf}
 use Rattle.types.specs.Laid.{Every}
-use Rattle.types.specs.Predefined.{predefinedId, distinct, predefinedIds, added, Ready}
+use Rattle.types.specs.Predefined.{predefinedId, distinct, predefinedIds, added, Ready, ControlReady}
 use Rattle.types.specs.Predefined.{withTimer, withCounter, withControl, predefined}
 use Rattle.types.specs.Predefined.{timerName, counterName, controlName, stringName}
 use Rattle.types.specs.Registry.{viewIn, viewOf, membersOf, bytesOf, bareHead, withHandle, usedWith}
 use Rattle.types.specs.Registry.{noTypes, noMembers, noNames, typeRows, memberRows, Stands}
 use Rattle.types.specs.Registry.{typesTable, membersTable, namesTable}
 use Rattle.types.specs.Structs.{namesOf, rowsOf, statusParts, controlParts, stringParts, stringSize}
-use Rattle.types.specs.Structs.{timerParts, counterParts, controlTypeParts}
+use Rattle.types.specs.Structs.{timerParts, counterParts, controlTypeParts, controlOf, pairs}
 use Rattle.types.specs.Tables.{typeRow}
 use Rattle.types.specs.Template.{userId, templateIn}
-use Rattle.types.proofs.AddLaws.{string-fits, fitted-yes}
-use Rattle.types.proofs.AddStoreLaws.{new-readable, took-new}
+use Rattle.types.proofs.AddLaws.{fitted-yes}
+use Rattle.types.proofs.AddLaidLaws.{string-counted}
+use Rattle.types.proofs.AddStoreLaws.{Counted, stored-readable, stored-took}
 use Rattle.types.proofs.DefLaws.{PartFits}
 use Rattle.types.proofs.HandleLaws.{handle-small}
 use Rattle.types.proofs.RegistryLaws.{length-snoc, members-of-snoc, long-snoc, members-long, names-long}
@@ -61,73 +64,73 @@ module _ (id : ℕ) where
       unfolding predefinedId userId
       id-high l h = simp (le-leb _ _ p, le-leb _ _ q, le-leb _ _ l, lt-leb _ _ h)
 
-module _ (a b c d : ℕ) where
-  pub same-1 : a ≡ b → false ≡ distinct a b c d
+module _ (ids : PredefinedIds) where
+  pub same-1 : ids .timer ≡ ids .counter → false ≡ distinct ids
   unfolding distinct
   same-1 e = simp (eq-eqb _ _ e)
 
-  module _ (p : a ≡ b → ⊥) where
-    pub same-2 : a ≡ c → false ≡ distinct a b c d
+  module _ (p : ids .timer ≡ ids .counter → ⊥) where
+    pub same-2 : ids .timer ≡ ids .control → false ≡ distinct ids
     unfolding distinct
     same-2 e = simp (ne-eqb _ _ p, eq-eqb _ _ e)
 
-    module _ (q : a ≡ c → ⊥) where
-      pub same-3 : a ≡ d → false ≡ distinct a b c d
+    module _ (q : ids .timer ≡ ids .control → ⊥) where
+      pub same-3 : ids .timer ≡ ids .string → false ≡ distinct ids
       unfolding distinct
       same-3 e = simp (ne-eqb _ _ p, ne-eqb _ _ q, eq-eqb _ _ e)
 
-      module _ (r : a ≡ d → ⊥) where
-        pub same-4 : b ≡ c → false ≡ distinct a b c d
+      module _ (r : ids .timer ≡ ids .string → ⊥) where
+        pub same-4 : ids .counter ≡ ids .control → false ≡ distinct ids
         unfolding distinct
         same-4 e = simp (ne-eqb _ _ p, ne-eqb _ _ q, ne-eqb _ _ r, eq-eqb _ _ e)
 
-        module _ (s : b ≡ c → ⊥) where
-          pub same-5 : b ≡ d → false ≡ distinct a b c d
+        module _ (s : ids .counter ≡ ids .control → ⊥) where
+          pub same-5 : ids .counter ≡ ids .string → false ≡ distinct ids
           unfolding distinct
           same-5 e = simp (ne-eqb _ _ p, ne-eqb _ _ q, ne-eqb _ _ r, ne-eqb _ _ s, eq-eqb _ _ e)
 
-          pub same-6 : (b ≡ d → ⊥) → not (eqb c d) ≡ distinct a b c d
+          pub same-6 : (ids .counter ≡ ids .string → ⊥) → not (eqb (ids .control) (ids .string)) ≡ distinct ids
           unfolding distinct
           same-6 t = simp (ne-eqb _ _ p, ne-eqb _ _ q, ne-eqb _ _ r, ne-eqb _ _ s, ne-eqb _ _ t)
 
-module _ (a b c d : ℕ) where
-  pub wrong-1 : predefinedId a ≡ false → false ≡ predefinedIds a b c d
+module _ (ids : PredefinedIds) where
+  pub wrong-1 : predefinedId (ids .timer) ≡ false → false ≡ predefinedIds ids
   unfolding predefinedIds
   wrong-1 e = simp e
 
-  module _ (p : predefinedId a ≡ true) where
-    pub wrong-2 : predefinedId b ≡ false → false ≡ predefinedIds a b c d
+  module _ (p : predefinedId (ids .timer) ≡ true) where
+    pub wrong-2 : predefinedId (ids .counter) ≡ false → false ≡ predefinedIds ids
     unfolding predefinedIds
     wrong-2 e = simp (p, e)
 
-    module _ (q : predefinedId b ≡ true) where
-      pub wrong-3 : predefinedId c ≡ false → false ≡ predefinedIds a b c d
+    module _ (q : predefinedId (ids .counter) ≡ true) where
+      pub wrong-3 : predefinedId (ids .control) ≡ false → false ≡ predefinedIds ids
       unfolding predefinedIds
       wrong-3 e = simp (p, q, e)
 
-      module _ (r : predefinedId c ≡ true) where
-        pub wrong-4 : predefinedId d ≡ false → false ≡ predefinedIds a b c d
+      module _ (r : predefinedId (ids .control) ≡ true) where
+        pub wrong-4 : predefinedId (ids .string) ≡ false → false ≡ predefinedIds ids
         unfolding predefinedIds
         wrong-4 e = simp (p, q, r, e)
 
-        pub ids-differ : predefinedId d ≡ true → distinct a b c d ≡ predefinedIds a b c d
+        pub ids-differ : predefinedId (ids .string) ≡ true → distinct ids ≡ predefinedIds ids
         unfolding predefinedIds
         ids-differ e = simp (p, q, r, e)
 
 -- what they are where all tests are passed
-pub record Ids (a b c d : ℕ) : Type 0 where
-  pub timer : predefinedId a ≡ true
-  pub counter : predefinedId b ≡ true
-  pub control : predefinedId c ≡ true
-  pub string : predefinedId d ≡ true
+pub record Allowed (ids : PredefinedIds) : Type 0 where
+  pub timer : predefinedId (ids .timer) ≡ true
+  pub counter : predefinedId (ids .counter) ≡ true
+  pub control : predefinedId (ids .control) ≡ true
+  pub string : predefinedId (ids .string) ≡ true
 
-pub ids-good : (a b c d : ℕ) → predefinedIds a b c d ≡ true → Ids a b c d
+pub ids-allowed : (ids : PredefinedIds) → predefinedIds ids ≡ true → Allowed ids
 unfolding predefinedIds
-ids-good a b c d e =
-    let four = and-eq-true-iff _ (distinct a b c d) .0 e .0 in
-    let three = and-eq-true-iff _ (predefinedId d) .0 four in
-    let two = and-eq-true-iff _ (predefinedId c) .0 (three .0) in
-    let one = and-eq-true-iff _ (predefinedId b) .0 (two .0) in
+ids-allowed ids e =
+    let four = and-eq-true-iff _ (distinct ids) .0 e .0 in
+    let three = and-eq-true-iff _ (predefinedId (ids .string)) .0 four in
+    let two = and-eq-true-iff _ (predefinedId (ids .control)) .0 (three .0) in
+    let one = and-eq-true-iff _ (predefinedId (ids .counter)) .0 (two .0) in
     record { timer = one .0; counter = one .1; control = two .1; string = three .1 }
 
 -- and one of them
@@ -172,27 +175,58 @@ control-type-fits : (n : ℕ) → Every (PartFits n) controlTypeParts
 unfolding controlTypeParts
 control-type-fits n = control-fits n _ _ _
 
--- so many parts, so many bytes of names, and rows can hold them
-pub record Kept (name : List ℕ) (parts : List Part) (k l : ℕ) : Type 0 where
-  pub count : length parts ≡ k
-  pub long : length (name ++ namesOf parts) ≡ l
-  pub fit : (n : ℕ) → Every (PartFits n) parts
+-- their parts and names counted, after any number of types
+abbrev pub Kept : List ℕ → List Part → ℕ → ℕ → Type 0
+Kept name parts k l = (n : ℕ) → Counted name parts n k l
 
 pub timer-kept : Kept timerName timerParts 6 20
 unfolding timerParts controlParts statusParts namesOf
-timer-kept = record { count = refl; long = refl; fit = timer-fits }
+timer-kept n = record { count = refl; long = refl; fit = timer-fits n }
 
 pub counter-kept : Kept counterName counterParts 8 26
 unfolding counterParts controlParts statusParts namesOf
-counter-kept = record { count = refl; long = refl; fit = counter-fits }
+counter-kept n = record { count = refl; long = refl; fit = counter-fits n }
 
 pub control-kept : Kept controlName controlTypeParts 11 32
 unfolding controlTypeParts controlParts statusParts namesOf
-control-kept = record { count = refl; long = refl; fit = control-type-fits }
+control-kept n = record { count = refl; long = refl; fit = control-type-fits n }
+
+-- the code's byte strings: the names of the two words, three bytes each, and those of the bits, two bytes each
+abbrev preAcc : List ℕ
+preAcc = 80 ∷ 82 ∷ 69 ∷ 65 ∷ 67 ∷ 67 ∷ []
+
+abbrev lenPos : List ℕ
+lenPos = 76 ∷ 69 ∷ 78 ∷ 80 ∷ 79 ∷ 83 ∷ []
+
+abbrev timerBits : List ℕ
+timerBits = 69 ∷ 78 ∷ 84 ∷ 84 ∷ 68 ∷ 78 ∷ []
+
+abbrev counterBits : List ℕ
+counterBits = 67 ∷ 85 ∷ 67 ∷ 68 ∷ 68 ∷ 78 ∷ 79 ∷ 86 ∷ 85 ∷ 78 ∷ []
+
+abbrev controlBits : List ℕ
+controlBits = 69 ∷ 78 ∷ 69 ∷ 85 ∷ 68 ∷ 78 ∷ 69 ∷ 77 ∷ 69 ∷ 82 ∷ 85 ∷ 76 ∷ 73 ∷ 78 ∷ 70 ∷ 68 ∷ []
+
+module _ {t m n : List ℕ} {u : Used} where
+  pub timer-ready : Ready t m n u 6 20 → ControlReady t m n u timerName preAcc timerBits
+  unfolding part pairs controlParts statusParts namesOf
+  timer-ready r = record { ready = r; two = refl; few = omega arith; parts = refl; long = refl }
+
+  pub counter-ready : Ready t m n u 8 26 → ControlReady t m n u counterName preAcc counterBits
+  unfolding part pairs controlParts statusParts namesOf
+  counter-ready r = record { ready = r; two = refl; few = omega arith; parts = refl; long = refl }
+
+  pub control-ready : Ready t m n u 11 32 → ControlReady t m n u controlName lenPos controlBits
+  unfolding part pairs controlParts statusParts namesOf
+  control-ready r = record { ready = r; two = refl; few = omega arith; parts = refl; long = refl }
+
+-- any control type's parts and names are counted
+pub control-counted : {t m n name words bits : List ℕ} {u : Used} → ControlReady t m n u name words bits
+    → Kept name (controlOf words bits) (3 + length bits / 2) (length name + 9 + length bits)
+control-counted r n = record { count = r .parts; long = r .long; fit = control-fits n _ _ _ }
 
 pub string-kept : Kept stringName (stringParts 82) 2 13
-unfolding stringParts namesOf
-string-kept = record { count = refl; long = refl; fit = λ n. string-fits n 82 }
+string-kept n = string-counted stringName 82 n
 
 -- ---- a type with a predefined id, added to the earlier ones
 
@@ -226,14 +260,15 @@ module _ (ds : List Def) (name : List ℕ) (id size : ℕ) (kind : StructKind) (
       → m + k ≤ 2000 → b + l ≤ 32768 → Built (added ds name id size kind parts) (t + 1) (m + k) (b + l)
   unfolding newDef
   built-more p u i f r b =
+      let c = p (length ds) in
       record {
         shown =
             shown-more ds new (u .shown)
-            (new-fits (omega (arith, u .few)) (omega (arith, u .rows, p .count)) (omega (arith, u .long, p .long))
-            (p .fit (length ds)) (id-within id i));
+            (new-fits (omega (arith, u .few)) (omega (arith, u .rows, c .count)) (omega (arith, u .long, c .long))
+            (c .fit) (id-within id i));
         few = omega (arith, length-snoc ds new, u .few);
-        rows = omega (arith, members-of-snoc ds new, u .rows, p .count);
-        long = omega (arith, long-snoc ds new, u .long, p .long);
+        rows = omega (arith, members-of-snoc ds new, u .rows, c .count);
+        long = omega (arith, long-snoc ds new, u .long, c .long);
       }
 
   -- and the tables that stand for it
@@ -250,37 +285,33 @@ pub none-built : Built [] 0 0 0
 unfolding membersOf bytesOf
 none-built = record { shown = shown-none; few = refl; rows = refl; long = refl }
 
-module _ (a : ℕ) (i : predefinedId a ≡ true) where
-  pub timer-built : Built (withTimer a) 1 6 20
+module _ (ids : PredefinedIds) (good : Allowed ids) where
+  pub timer-built : Built (withTimer ids) 1 6 20
   unfolding withTimer
-  timer-built = built-more [] _ a _ _ _ timer-kept none-built i (omega arith) (omega arith) (omega arith)
+  timer-built =
+      built-more [] _ (ids .timer) _ _ _ timer-kept none-built (good .timer) (omega arith) (omega arith) (omega arith)
 
-  module _ (b : ℕ) (j : predefinedId b ≡ true) where
-    pub counter-built : Built (withCounter a b) 2 14 46
-    unfolding withCounter
-    counter-built =
-        built-more (withTimer a) _ b _ _ _ counter-kept timer-built j (omega arith) (omega arith) (omega arith)
+  pub counter-built : Built (withCounter ids) 2 14 46
+  unfolding withCounter
+  counter-built =
+      built-more (withTimer ids) _ (ids .counter) _ _ _ counter-kept timer-built (good .counter) (omega arith)
+      (omega arith) (omega arith)
 
-    module _ (c : ℕ) (k : predefinedId c ≡ true) where
-      pub control-built : Built (withControl a b c) 3 25 78
-      unfolding withControl
-      control-built =
-          built-more (withCounter a b) _ c _ _ _ control-kept counter-built k (omega arith) (omega arith) (omega arith)
+  pub control-built : Built (withControl ids) 3 25 78
+  unfolding withControl
+  control-built =
+      built-more (withCounter ids) _ (ids .control) _ _ _ control-kept counter-built (good .control) (omega arith)
+      (omega arith) (omega arith)
 
-      pub string-built : (d : ℕ) → predefinedId d ≡ true → Built (predefined a b c d) 4 27 91
-      unfolding predefined
-      string-built d l =
-          built-more (withControl a b c) _ d _ _ _ string-kept control-built l (omega arith) (omega arith)
-          (omega arith)
+  -- 4 types, 27 members and 91 bytes of names, which their tables show
+  pub predefined-built : Built (predefined ids) 4 27 91
+  unfolding predefined
+  predefined-built =
+      built-more (withControl ids) _ (ids .string) _ _ _ string-kept control-built (good .string) (omega arith)
+      (omega arith) (omega arith)
 
--- 4 types, 27 members and 91 bytes of names, which their tables show
-pub predefined-built : (a b c d : ℕ) → predefinedIds a b c d ≡ true → Built (predefined a b c d) 4 27 91
-predefined-built a b c d e =
-    let i = ids-good a b c d e in
-    string-built a (i .timer) b (i .counter) c (i .control) d (i .string)
-
-pub predefined-shown : (a b c d : ℕ) → predefinedIds a b c d ≡ true → Shown (predefined a b c d)
-predefined-shown a b c d e = predefined-built a b c d e .shown
+pub predefined-shown : (ids : PredefinedIds) → predefinedIds ids ≡ true → Shown (predefined ids)
+predefined-shown ids e = predefined-built ids (ids-allowed ids e) .shown
 
 -- ---- in the tables
 
@@ -289,33 +320,35 @@ pub none-stands : {t m n : List ℕ} → t ≡ noTypes → m ≡ noMembers → n
 unfolding typesTable typeRows membersTable memberRows namesTable bytesOf membersOf
 none-stands e f g = record { types = e; members = f; names = g; used = refl }
 
-pub timer-stands : (a : ℕ) {t m n t′ m′ n′ : List ℕ} {u r : Used} → Stands [] t m n u
-    → Took (yes (newDef (viewIn t n u) timerName a 12 Predefined timerParts)) u t m n t′ m′ n′ (Added r)
-    → Stands (withTimer a) t′ m′ n′ r
-unfolding withTimer
-timer-stands a s k = added-stands [] _ a _ _ _ shown-none s k
+module _ (ids : PredefinedIds) {t m n t′ m′ n′ : List ℕ} {u r : Used} where
+  pub timer-stands : Stands [] t m n u
+      → Took (yes (newDef (viewIn t n u) timerName (ids .timer) 12 Predefined (controlOf preAcc timerBits))) u t m n
+      t′ m′ n′ (Added r)
+      → Stands (withTimer ids) t′ m′ n′ r
+  unfolding withTimer timerParts part pairs
+  timer-stands s k = added-stands [] _ _ _ _ _ shown-none s k
 
-module _ (a : ℕ) (i : predefinedId a ≡ true) (b : ℕ) where
-  pub counter-stands : {t m n t′ m′ n′ : List ℕ} {u r : Used} → Stands (withTimer a) t m n u
-      → Took (yes (newDef (viewIn t n u) counterName b 12 Predefined counterParts)) u t m n t′ m′ n′ (Added r)
-      → Stands (withCounter a b) t′ m′ n′ r
-  unfolding withCounter
-  counter-stands s k = added-stands (withTimer a) _ b _ _ _ (timer-built a i .shown) s k
+  module _ (good : Allowed ids) where
+    pub counter-stands : Stands (withTimer ids) t m n u
+        → Took (yes (newDef (viewIn t n u) counterName (ids .counter) 12 Predefined (controlOf preAcc counterBits))) u
+        t m n t′ m′ n′ (Added r)
+        → Stands (withCounter ids) t′ m′ n′ r
+    unfolding withCounter counterParts part pairs
+    counter-stands s k = added-stands (withTimer ids) _ _ _ _ _ (timer-built ids good .shown) s k
 
-  module _ (j : predefinedId b ≡ true) (c : ℕ) where
-    pub control-stands : {t m n t′ m′ n′ : List ℕ} {u r : Used} → Stands (withCounter a b) t m n u
-        → Took (yes (newDef (viewIn t n u) controlName c 12 Predefined controlTypeParts)) u t m n t′ m′ n′ (Added r)
-        → Stands (withControl a b c) t′ m′ n′ r
-    unfolding withControl
-    control-stands s k = added-stands (withCounter a b) _ c _ _ _ (counter-built a i b j .shown) s k
+    pub control-stands : Stands (withCounter ids) t m n u
+        → Took (yes (newDef (viewIn t n u) controlName (ids .control) 12 Predefined (controlOf lenPos controlBits))) u
+        t m n t′ m′ n′ (Added r)
+        → Stands (withControl ids) t′ m′ n′ r
+    unfolding withControl controlTypeParts part pairs
+    control-stands s k = added-stands (withCounter ids) _ _ _ _ _ (counter-built ids good .shown) s k
 
-    pub string-stands : predefinedId c ≡ true → (d : ℕ) {t m n t′ m′ n′ : List ℕ} {u r : Used}
-        → Stands (withControl a b c) t m n u
-        → Took (yes (newDef (viewIn t n u) stringName d (stringSize 82) Str (stringParts 82))) u t m n t′ m′ n′
-        (Added r)
-        → Stands (predefined a b c d) t′ m′ n′ r
+    pub string-stands : Stands (withControl ids) t m n u
+        → Took (yes (newDef (viewIn t n u) stringName (ids .string) (stringSize 82) Str (stringParts 82))) u t m n
+        t′ m′ n′ (Added r)
+        → Stands (predefined ids) t′ m′ n′ r
     unfolding predefined
-    string-stands k d s l = added-stands (withControl a b c) _ d _ _ _ (control-built a i b j c k .shown) s l
+    string-stands s k = added-stands (withControl ids) _ _ _ _ _ (control-built ids good .shown) s k
 
 -- the tables of a registry are ready for one type more
 pub ready-for : {ds : List Def} {x y z k l : ℕ} {t m n : List ℕ} {u : Used} → Built ds x y z → Stands ds t m n u
@@ -339,27 +372,26 @@ ready-for {ds} b s f r g =
 -- a type's name, parts and row are stored
 module _ (types members names : List ℕ) (u : Used) {name : List ℕ} {parts : List Part} {k l : ℕ}
     (p : Kept name parts k l) (id size : ℕ) (kind : StructKind) (ready : Ready types members names u k l) where
-  pub stored-readable : Readable (sets members (8 * u .members) (rowsOf (u .bytes + length name) parts))
-      (bareHead u (length name) id size kind k)
-  stored-readable =
-      new-readable types members names u name id size kind parts k (p .count) (ready .usable) (p .fit (u .types))
-      (ready .members) (omega (arith, ready .rows, p .count)) (omega (arith, ready .bytes, p .long))
-
-  room : hasRoom u (length parts) (length (name ++ namesOf parts)) ≡ true
+  room : true ≡ hasRoom u k l
   room =
-      let long = length (name ++ namesOf parts) in
-      sym (room-bytes u (length parts) long (ready .few) (omega (arith, ready .rows, p .count)))
-      ∙ le-leb (u .bytes + long) 32768 (omega (arith, ready .bytes, p .long))
+      sym (le-leb (u .bytes + l) 32768 (ready .bytes)) ∙ room-bytes u k l (ready .few) (ready .rows)
 
-  pub stored-took : {t′ m′ n′ : List ℕ} {r : Used}
+  pub new-readable : Readable (sets members (8 * u .members) (rowsOf (u .bytes + length name) parts))
+      (bareHead u (length name) id size kind k)
+  new-readable =
+      stored-readable types members names u (p (u .types)) id size kind room refl (ready .usable) (ready .members)
+
+  pub new-took : {t′ m′ n′ : List ℕ} {r : Used}
       → m′ ≡ sets members (8 * u .members) (rowsOf (u .bytes + length name) parts)
       → n′ ≡ sets (sets names (u .bytes) name) (u .bytes + length name) (namesOf parts)
       → t′ ≡ sets types (8 * u .types) (typeRow (withHandle (bareHead u (length name) id size kind k)
       (handleOf (templateIn types m′ n′ (bareHead u (length name) id size kind k)))))
       → r ≡ usedWith u k l
       → Took (yes (newDef (viewIn types names u) name id size kind parts)) u types members names t′ m′ n′ (Added r)
-  stored-took em en et er =
-      let took = took-new types members names u name id size kind parts k (p .count) (ready .usable)
-      (p .fit (u .types)) (ready .members) (omega (arith, ready .rows, p .count))
-      (omega (arith, ready .bytes, p .long)) (ready .names) 0 _ refl room em en et in
-      rw (er, ← p .long) (rw (fitted-yes types members names u name id size kind parts 0 _ refl room) at took)
+  new-took em en et er =
+      let counted = p (u .types) in
+      let took = stored-took types members names u counted id size kind room refl (ready .usable) (ready .members) 0
+      (ready .names) em en et in
+      let yes-room : true ≡ hasRoom u (length parts) (length (name ++ namesOf parts)) =
+      rw (counted .count, counted .long) room in
+      rw er (rw (fitted-yes types members names u name id size kind parts 0 _ yes-room refl) at took)

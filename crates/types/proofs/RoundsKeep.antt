@@ -1,23 +1,31 @@
--- What rounds over a book keep: the tables show every type that was added, every one is laid out well, and no two hold
--- the same id or have the same name.
-use Prim.Native.Nat.{ℕ}
+-- What rounds over a book keep (document 01, "Order of building"): the tables show every type that was added, every one
+-- is laid out well and proper, and no two hold the same id or have the same name. They begin with the predefined types.
+use Prim.Native.Nat.{ℕ, _≤_}
+use native.Mathlib.Omega.{arith}
 use mathlib.Core.Path.{_≡_, refl}
+use mathlib.Core.Bool.{true}
 use mathlib.Core.List.{List, [], _∷_, _++_}
+use lib.ListN.{length}
+use Rattle.types.specs.declared.predefined.PredefinedIds.{PredefinedIds}
 use Rattle.types.specs.Said.{Why}
 use Rattle.types.specs.Turns.{stuckAt}
 use Rattle.words.specs.Words.{Bytes}
-use Rattle.types.specs.declared.refusal.Refusal.{Refusal}
 use Rattle.types.specs.Add.{Verdict, no as against, yes as for}
 use Rattle.types.specs.Book.{typesIn}
 use Rattle.types.specs.Defs.{Def}
+use Rattle.types.specs.Predefined.{predefinedIds, predefined}
 use Rattle.types.specs.Registry.{viewOf}
 use Rattle.types.specs.Rounds.{Step, ok, accepted}
 use Rattle.types.specs.Turns.{readyIn, verdictOn, stepOf, addIn, upFrom, roundsFrom}
+use Rattle.types.proofs.PredefinedLaws.{ids-allowed, predefined-built, predefined-shown}
+use Rattle.types.proofs.PredefinedWell.{predefined-well}
+use Rattle.types.proofs.ProperLaws.{AllProper, proper-more, predefined-proper}
+use Rattle.types.proofs.RegistryLaws.{length-snoc}
 use Rattle.types.proofs.RoundLaws.{rounds-keep}
 use Rattle.types.proofs.ShownLaws.{noDef, Shown, shown-more}
-use Rattle.types.proofs.UniqueLaws.{Unlike, new-differs, unlike-more}
-use Rattle.types.proofs.VerdictLaws.{verdict-fits, verdict-laid, verdict-most, verdict-long, verdict-short}
-use Rattle.types.proofs.VerdictLaws.{verdict-string, verdict-unheld, verdict-unknown}
+use Rattle.types.proofs.UniqueLaws.{Unlike, new-differs, unlike-more, predefined-unlike}
+use Rattle.types.proofs.VerdictLaws.{verdict-fits, verdict-laid, verdict-most, verdict-string}
+use Rattle.types.proofs.VerdictLaws.{verdict-proper, verdict-unheld, verdict-unknown}
 use Rattle.types.proofs.WellLaws.{Well, well-more}
 
 -- a registry that our own calls make
@@ -25,6 +33,27 @@ pub record Good (ds : List Def) : Type 0 where
   pub shown : Shown ds
   pub well : Well ds
   pub unlike : Unlike ds
+  pub proper : AllProper ds
+
+-- one that begins with the predefined types
+pub record Begun (ds : List Def) : Type 0 where
+  pub good : Good ds
+  pub four : 4 ≤ length ds
+
+-- the predefined types are one
+pub predefined-begun : (ids : PredefinedIds) → predefinedIds ids ≡ true
+    → Begun (predefined ids)
+predefined-begun ids e =
+    record {
+      good =
+          record {
+            shown = predefined-shown ids e;
+            well = predefined-well ids;
+            unlike = predefined-unlike ids e;
+            proper = predefined-proper ids e;
+          };
+      four = omega (arith, predefined-built ids (ids-allowed ids e) .few);
+    }
 
 -- a step that went on added a type
 record Added (s : Verdict) (ds ds′ : List Def) : Type 0 where
@@ -38,30 +67,35 @@ step-added (for d) ds ds′ e = record { def = d; is = refl; next = cc }
 step-added (against r) ds ds′ e = record { def = noDef; is = cc; next = cc }
 
 module _ (book : List ℕ) (b : Bytes book) where
-  pub keeps : (ds ds′ : List Def) (i : ℕ) → Good ds → addIn book ds i ≡ ok ds′ → Good ds′
+  -- adding a type of the book keeps it, and so do all rounds
+  pub keeps : (ds ds′ : List Def) (i : ℕ) → Begun ds → addIn book ds i ≡ ok ds′ → Begun ds′
   unfolding addIn viewOf
-  keeps ds ds′ i g e =
+  keeps ds ds′ i h e =
       let a = step-added (verdictOn book (viewOf ds) i) ds ds′ e in
+      let g = h .good in
       rw (a .next)
       (record {
-        shown = shown-more ds (a .def) (g .shown) (verdict-fits book ds i (a .def) b (g .shown) (a .is));
-        well =
-            well-more ds (a .def) (g .well)
-            (record {
-              laid = verdict-laid book ds i (a .def) (a .is);
-              most = verdict-most book ds i (a .def) (a .is);
-              long = verdict-long book ds i (a .def) (a .is);
-              short = verdict-short book ds i (a .def) (a .is);
-              string = verdict-string book ds i (a .def) (a .is);
-            });
-        unlike =
-            unlike-more ds (a .def) (g .unlike)
-            (new-differs ds (a .def) (verdict-unheld book ds i (a .def) (a .is))
-            (verdict-unknown book ds i (a .def) (a .is)));
+        good =
+            record {
+              shown = shown-more ds (a .def) (g .shown) (verdict-fits book ds i (a .def) b (g .shown) (a .is));
+              well =
+                  well-more ds (a .def) (g .well)
+                  (record {
+                    laid = verdict-laid book ds i (a .def) (a .is);
+                    most = verdict-most book ds i (a .def) (a .is);
+                    string = verdict-string book ds i (a .def) (a .is);
+                  });
+              unlike =
+                  unlike-more ds (a .def) (g .unlike)
+                  (new-differs ds (a .def) (verdict-unheld book ds i (a .def) (a .is))
+                  (verdict-unknown book ds i (a .def) (a .is)));
+              proper = proper-more ds (a .def) (g .proper) (verdict-proper book ds i (a .def) (a .is) (h .four));
+            };
+        four = omega (arith, h .four, length-snoc ds (a .def));
       })
 
-  pub rounds-good : (start ds : List Def) → Good start → roundsFrom book start ≡ accepted ds → Good ds
+  pub rounds-begun : (start ds : List Def) → Begun start → roundsFrom book start ≡ accepted ds → Begun ds
   unfolding roundsFrom
-  rounds-good start ds g e =
-      rounds-keep stuckAt (readyIn book) (addIn book) Good (λ s s′ i h r q. keeps s s′ i h q) (typesIn book) start
+  rounds-begun start ds g e =
+      rounds-keep stuckAt (readyIn book) (addIn book) Begun (λ s s′ i h r q. keeps s s′ i h q) (typesIn book) start
       (upFrom 0 (typesIn book)) ds g e

@@ -10,7 +10,6 @@ use borrow.Author.Tests.{eq-eqb, ne-eqb}
 use lib.ListN.{length, getD, set, length-append, length-set}
 use Rattle.types.specs.Said.{Why}
 use Rattle.types.specs.Turns.{stuckAt}
-use Rattle.types.specs.declared.refusal.Refusal.{Refusal}
 use Rattle.types.specs.declared.used.Used.{Used}
 use Rattle.types.specs.Book.{typesIn}
 use Rattle.types.specs.Build.{waits}

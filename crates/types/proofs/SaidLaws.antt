@@ -1,23 +1,42 @@
 -- What is said tells the answer (document 01, "Refusal numbers"): a refusal is the only one with its number and place,
 -- so that two answers that say the same are the same.
 use Prim.Native.Nat.{ℕ, _-_}
+use native.Mathlib.Omega.{arith}
 use mathlib.Core.Path.{_≡_, refl, sym, ap, ap₂, _∙_}
 use mathlib.Core.List.{List, [], _∷_}
 use lib.ListN.{getD}
 use Rattle.types.specs.Refusal.{numberOf, placeOf}
-use Rattle.types.specs.Said.{Said, done, refused, why}
-use Rattle.types.specs.Template.{saidBy}
+use Rattle.types.specs.Said.{why}
+use Rattle.types.specs.Given.{saidBy}
+use Rattle.types.specs.Layout.{saidBy as endSays}
 use Rattle.types.specs.declared.refusal.Refusal.{Refusal}
 use Rattle.types.specs.declared.refusal.Refusal.the-variants as refusal
 use Rattle.types.specs.Shape.{fitSays, saidBy as shapedSays}
+use Rattle.types.specs.declared.layout.End.{End}
+use Rattle.types.specs.declared.layout.End.the-variants as ends
 use Rattle.types.specs.declared.shape.Fit.{Fit}
 use Rattle.types.specs.declared.shape.Fit.the-variants as fit
 use Rattle.types.specs.declared.shape.Shaped.{Shaped}
 use Rattle.types.specs.Build.{saidBy as builtSays}
+use Rattle.types.specs.Header.{saidBy as headedSays}
+use Rattle.types.specs.Lookup.{wordOf, saidBy as foundSays}
+use Rattle.types.specs.Shape.{symbolSays}
+use Rattle.types.specs.Waste.{saidBy as wastedSays}
+use Rattle.types.specs.declared.header.Headed.{Headed}
+use Rattle.types.specs.declared.lookups.FoundTy.{FoundTy}
+use Rattle.types.specs.declared.lookups.FoundTy.the-variants as found
+use Rattle.types.specs.declared.member.Ty.{Ty}
+use Rattle.types.specs.declared.member.Ty.the-variants.{Atomic, Struct}
+use Rattle.types.specs.declared.shape.Symbol.{Symbol}
+use Rattle.types.specs.declared.shape.Symbol.the-variants as symbol
+use Rattle.types.specs.declared.waste_bits.Wasted.{Wasted}
+use Rattle.types.specs.declared.waste_bits.Wasted.the-variants as wasted
+use Rattle.types.proofs.AtomicLaws.{code-same}
+use Rattle.types.proofs.ShapeLaws.{code-below}
 use Rattle.types.specs.declared.building.Built.{Built}
 use Rattle.types.specs.declared.building.Built.the-variants as built
-use Rattle.types.specs.declared.templates.Wrote.{Wrote}
-use Rattle.types.specs.declared.templates.Wrote.the-variants as wrote
+use Rattle.types.specs.declared.given.Wrote.{Wrote}
+use Rattle.types.specs.declared.given.Wrote.the-variants as wrote
 
 -- the refusals with a place, from number 1 on
 abbrev refusals : ℕ → List Refusal
@@ -83,8 +102,46 @@ pub shaped-same : (r s : Shaped) → shapedSays r ≡ shapedSays s → r ≡ s
 shaped-same r s e =
     ap₂ (λ f x. record { fit = f; shape = x }) (fit-same (r .fit) (s .fit) (ap (λ t. t .said) e)) (ap (λ t. t .shape) e)
 
+pub headed-same : (r s : Headed) → headedSays r ≡ headedSays s → r ≡ s
+headed-same r s e =
+    ap₂ (λ f h. record { fit = f; header = h }) (fit-same (r .fit) (s .fit) (ap (λ t. t .said) e))
+    (ap (λ t. t .header) e)
+
+pub symbol-same : (r s : Symbol) → symbolSays r ≡ symbolSays s → r ≡ s
+symbol-same (symbol.Type n) (symbol.Type m) e = cc
+symbol-same (symbol.Type n) (symbol.Refused s) e = cc
+symbol-same (symbol.Refused r) (symbol.Type m) e = cc
+symbol-same (symbol.Refused r) (symbol.Refused s) e = let f = why-same r s e in cc
+
+pub wasted-same : (r s : Wasted) → wastedSays r ≡ wastedSays s → r ≡ s
+wasted-same (wasted.Bits n) (wasted.Bits m) e = cc
+wasted-same (wasted.Bits n) (wasted.Refused s) e = cc
+wasted-same (wasted.Refused r) (wasted.Bits m) e = cc
+wasted-same (wasted.Refused r) (wasted.Refused s) e = let f = why-same r s e in cc
+
+-- a type's word tells the type
+word-same : (a b : Ty) → wordOf a ≡ wordOf b → a ≡ b
+word-same (Atomic a) (Atomic b) e = ap Atomic (code-same a b e)
+word-same (Atomic a) (Struct n) e = absurd (let z : ⊥ = omega (arith, code-below a) in z)
+word-same (Struct n) (Atomic b) e = absurd (let z : ⊥ = omega (arith, code-below b) in z)
+word-same (Struct n) (Struct m) e = ap Struct (omega arith)
+
+pub found-same : (r s : FoundTy) → foundSays r ≡ foundSays s → r ≡ s
+found-same (found.Is a) (found.Is b) e =
+    let w : wordOf a ≡ wordOf b = cc in
+    ap found.Is (word-same a b w)
+found-same (found.Is a) found.Nothing e = cc
+found-same found.Nothing (found.Is b) e = cc
+found-same found.Nothing found.Nothing e = refl
+
 pub built-same : (r s : Built) → builtSays r ≡ builtSays s → r ≡ s
 built-same (built.Types n) (built.Types m) e = cc
 built-same (built.Types n) (built.Refused s) e = cc
 built-same (built.Refused r) (built.Types m) e = cc
 built-same (built.Refused r) (built.Refused s) e = let f = why-same r s e in cc
+
+pub end-same : (r s : End) → endSays r ≡ endSays s → r ≡ s
+end-same (ends.At n) (ends.At m) e = cc
+end-same (ends.At n) ends.Over e = cc
+end-same ends.Over (ends.At m) e = cc
+end-same ends.Over ends.Over e = refl

@@ -14,10 +14,11 @@ use Rattle.types.specs.declared.lookups.FoundTy.{FoundTy}
 use Rattle.types.specs.declared.lookups.FoundTy.the-variants.{Is, Nothing}
 use Rattle.types.specs.declared.member.Ty.the-variants.{Struct}
 use Rattle.types.specs.Atomic.{atomicNamed}
-use Rattle.types.specs.Book.{listFrom, typesIn}
+use Rattle.types.specs.Book.{every, listFrom, typesIn}
 use Rattle.types.specs.Lookup.{namedAmong, typeAmong, atomicOr, Unseen}
 use Rattle.types.specs.Names.{sameName}
-use Rattle.types.specs.Resolve.{typeName, isFound, allKnown, thenWord, foundWords}
+use Rattle.types.specs.Order.{allKnown}
+use Rattle.types.specs.Resolve.{typeName, isFound, hasName, thenWord, foundWords}
 use Rattle.types.specs.Turns.{entriesAt, countOf, Missed, Tries}
 use Rattle.types.proofs.AgreeLaws.{length-list, getD-from, getD-list}
 
@@ -83,8 +84,8 @@ module _ (f : ℕ → List ℕ) (s : List ℕ) (from n : ℕ) (u : Unseen (listF
 
 -- not all are known
 pub one-unknown : (known names : List (List ℕ)) (k : ℕ) → k < length names → typeAmong known (getD names k []) ≡ Nothing
-    → allKnown known names ≡ false
-unfolding allKnown
+    → allKnown hasName known names ≡ false
+unfolding every
 one-unknown known [] k l e = absurd (let z : ⊥ = omega arith in z)
 one-unknown known (s ∷ ss) zero l e = rw e
 one-unknown known (s ∷ ss) (suc k) l e =

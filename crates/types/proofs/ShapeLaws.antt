@@ -24,14 +24,16 @@ use Rattle.types.specs.declared.shape.Product.{Product}
 use Rattle.types.specs.declared.shape.Product.the-variants.{Is, Over}
 use Rattle.types.specs.declared.shape.Shape.{Shape}
 use Rattle.types.specs.Atomic.{codeOf}
+use Rattle.types.specs.Kept.{KeptTypes}
 use Rattle.types.specs.Layout.{most, isBool, alignUp}
 use Rattle.types.specs.Said.{done}
 use Rattle.types.specs.Said as say
-use Rattle.types.specs.Shape.{Told, given, refused, isThere, mostLengths, noneZero, lengthsOk, product, three, within}
-use Rattle.types.specs.Shape.{boolTag, boolShape, plainShape, shapeOf, productOf, IdFits, Symbolic}
+use Rattle.types.specs.Shape.{Told, given, refused, isThere, mostLengths, noneZero, lengthsOk, product, three}
+use Rattle.types.specs.Shape.{within, boolTag, boolShape, plainShape, shapeOf, productOf, symbolFor, symbolOf}
 use Rattle.types.specs.Tables.{TyFits, typeAt}
 use Rattle.types.specs.Template.{typeIn, idsIn}
 use Rattle.types.specs.Waste.{sizeIn, sizesIn}
+use Rattle.types.proofs.KeptLaws.{kept-ids}
 use Rattle.types.proofs.TestLaws.{and-left, and-right}
 
 -- ---- the types that are there
@@ -226,7 +228,8 @@ module _ (types : List ℕ) (t : Ty) (s : List ℕ) where
 
 -- ---- the symbol type
 
-code-below : (a : Kind) → codeOf a < 0x9000
+-- a code is below any type word of a structure
+pub code-below : (a : Kind) → codeOf a < 0x8000
 unfolding codeOf
 code-below BOOL = lit< tt
 code-below SInt = lit< tt
@@ -244,21 +247,32 @@ code-below Word = lit< tt
 code-below DWord = lit< tt
 code-below LWord = lit< tt
 
-pub type-below : (types : List ℕ) (t : Ty) → IdFits types t → typeIn (idsIn types) t < 0x9000
-type-below types (Atomic a) h = code-below a
-type-below types (Struct n) h = omega arith
+pub type-below : {types : List ℕ} → KeptTypes types → (t : Ty) → isThere types t ≡ true
+    → typeIn (idsIn types) t < 0x9000
+type-below k (Atomic a) h = omega (arith, code-below a)
+type-below {types} k (Struct n) h = omega (arith, kept-ids (k .kept) n (there-fits types (Struct n) h))
 
--- ---- the shapes that are given, over a table whose ids are below 0x1000
+-- the ways out
+module _ (types : List ℕ) (t : Ty) (used : ℕ) where
+  pub symbol-absent : isThere types t ≡ false → say.refused 15 0 ≡ symbolFor types t used
+  unfolding symbolFor
+  symbol-absent a = rw a
 
--- a shape that is given can be asked for its symbol type
+  pub symbol-many : isThere types t ≡ true → 3 < used → say.refused 23 0 ≡ symbolFor types t used
+  unfolding symbolFor
+  symbol-many a h = rw (a, lt-leb used 3 h)
+
+  pub symbol-is : isThere types t ≡ true → used ≤ 3 → done (symbolOf (idsIn types) t used) ≡ symbolFor types t used
+  unfolding symbolFor
+  symbol-is a h = rw (a, le-leb used 3 h)
+
+-- ---- the shapes that are given
+
+-- a shape that is given has a symbol type
 record Asked (types : List ℕ) (r : Told) : Type 0 where
-  ask : (x : Shape) → r ≡ given x → Symbolic types x
+  ask : (x : Shape) → r ≡ given x → (isThere types (x .ty) ≡ true) × (x .used ≤ 3)
 
-module _ (types : List ℕ) (small : (n : ℕ) → n < 200 → typeAt types n .id < 0x1000) where
-  ids-fit : (t : Ty) → TyFits t → IdFits types t
-  ids-fit (Atomic a) f = tt
-  ids-fit (Struct n) f = small n f
-
+module _ (types : List ℕ) where
   asked-refused : (number : ℕ) → Asked types (refused number 0)
   asked-refused number =
       record {
@@ -272,7 +286,7 @@ module _ (types : List ℕ) (small : (n : ℕ) → n < 200 → typeAt types n .i
   asked-if true f g = f refl
   asked-if false f g = g
 
-  asked-within : (sizes : ℕ → ℕ) (t : Ty) (lengths : List ℕ) (used n : ℕ) → TyFits t → used ≤ 3
+  asked-within : (sizes : ℕ → ℕ) (t : Ty) (lengths : List ℕ) (used n : ℕ) → isThere types t ≡ true → used ≤ 3
       → Asked types (within sizes t lengths used n)
   unfolding within
   asked-within sizes t lengths used n f h =
@@ -282,7 +296,7 @@ module _ (types : List ℕ) (small : (n : ℕ) → n < 200 → typeAt types n .i
         ask = λ x e.
             let p : t ≡ x .ty = ap (λ (r : Told). r .shape .ty) e in
             let q : used ≡ x .used = ap (λ (r : Told). r .shape .used) e in
-            record { ty = rw p at f; id = rw p at (ids-fit t f); used = omega arith };
+            (rw p at f, omega arith);
       })
       (asked-refused 24)
 
@@ -305,13 +319,17 @@ module _ (types : List ℕ) (small : (n : ℕ) → n < 200 → typeAt types n .i
       asked-if (boolTag t s)
       (λ d.
       asked-if (leb (alignUp (getD s 0 0) 32) (2 ^ 32 - 1))
-      (λ h. asked-within (sizesIn types) (Atomic DWord) _ 1 _ tt (omega arith))
+      (λ h. asked-within (sizesIn types) (Atomic DWord) _ 1 _ refl (omega arith))
       (asked-refused 24))
       (asked-if (leb (product s) (2 ^ 64 - 1))
-      (λ h. asked-within (sizesIn types) t _ (length s) _ (there-fits types t a) few)
+      (λ h. asked-within (sizesIn types) t _ (length s) _ a few)
       (asked-refused 24)))
       (asked-refused 23))
       (asked-refused 15)
 
-  pub shape-symbolic : (t : Ty) (s : List ℕ) (x : Shape) → shapeOf types t s ≡ given x → Symbolic types x
-  shape-symbolic t s = asked-shape t s .ask
+  -- the symbol type of a shape as `tag_shape` gives it is never refused
+  pub shape-symbol : (t : Ty) (s : List ℕ) (x : Shape) → shapeOf types t s ≡ given x
+      → symbolFor types (x .ty) (x .used) ≡ done (symbolOf (idsIn types) (x .ty) (x .used))
+  shape-symbol t s x e =
+      let a = asked-shape t s .ask x e in
+      sym (symbol-is types (x .ty) (x .used) (a .0) (a .1))

@@ -59,6 +59,18 @@ pub record Row (ds : List Def) (i : ℕ) (d : Def) : Type 0 where
 unfoldable pub noDef : Def
 noDef = record { name = []; id = 0; handle = 0; size = 0; kind = Udt; parts = [] }
 
+-- what holds of each type of a registry, by its number, and of one type more, holds of each with it
+pub each-more : (P : ℕ → Def → Type 0) (ds : List Def) (d : Def) → ((i : ℕ) → i < length ds → P i (getD ds i noDef))
+    → P (length ds) d → (i : ℕ) → i < length (ds ++ d ∷ []) → P i (getD (ds ++ d ∷ []) i noDef)
+each-more P ds d w n i l = go (decLt i (length ds))
+  where
+    go : Dec (i < length ds) → P i (getD (ds ++ d ∷ []) i noDef)
+    go (yes o) = rw (List·getD-append ds (d ∷ []) noDef i o) (w i o)
+    go (no o) =
+        let q : i ≡ length ds = omega (arith, o, length-snoc ds d) in
+        let e : getD (ds ++ d ∷ []) (length ds) noDef ≡ d = getD-append-seam ds d [] noDef in
+        rw (q, e) n
+
 -- each type of the registry is shown by its row, and the rows after them are unused
 pub record Shown (ds : List Def) : Type 0 where
   pub few : length ds ≤ 200
@@ -204,17 +216,11 @@ shown-more ds d s f =
       few = omega arith;
       members = omega (arith, members-of-snoc ds d);
       bytes = omega (arith, long-snoc ds d);
-      rows = λ i l. row i (omega (arith, l)) (decLt i (length ds));
+      rows = each-more (Row (ds ++ d ∷ [])) ds d (λ i h. row-stays ds d i (getD ds i noDef) h (s .rows i h))
+          (own-row ds d f);
       unused = id-after (ds ++ d ∷ []);
       blank = word-none (ds ++ d ∷ []);
     }
-  where
-    row : (i : ℕ) → i < length ds + 1 → Dec (i < length ds) → Row (ds ++ d ∷ []) i (getD (ds ++ d ∷ []) i noDef)
-    row i l (yes h) =
-        rw (List·getD-append ds (d ∷ []) noDef i h) (row-stays ds d i (getD ds i noDef) h (s .rows i h))
-    row i l (no h) =
-        let e : i ≡ length ds = omega (arith, h) in
-        rw (e, getD-append-seam ds d [] noDef) (own-row ds d f)
 
 -- ---- what follows
 

@@ -19,7 +19,8 @@ use Rattle.types.specs.Checks.{entriesFrom}
 use Rattle.types.specs.Defs.{Def}
 use Rattle.types.specs.Lookup.{rowNames}
 use Rattle.types.specs.Registry.{View, viewIn, viewOf, Stands}
-use Rattle.types.specs.Resolve.{typeNames, allKnown}
+use Rattle.types.specs.Order.{allKnown}
+use Rattle.types.specs.Resolve.{typeNames, hasName}
 use Rattle.types.specs.Turns.{entriesAt, countOf, usesOf, declsOf, readyIn, verdictOn, TurnIn, Turned, Tries}
 use Rattle.types.proofs.RegistryLaws.{members-long, names-long}
 use Rattle.types.proofs.SearchLaws.{tries-more}
@@ -70,7 +71,7 @@ module _ {ds : List Def} {t m n : List ℕ} {u : Used} (shown : Shown ds) (stand
 
     -- what it gives is what the definition says
     pub turn-same : {t′ m′ n′ : List ℕ} {r : Turn}
-        → Turned (allKnown (rowNames t n (u .types)) (typeNames book at 0 (countOf book i)))
+        → Turned (allKnown hasName (rowNames t n (u .types)) (typeNames book at 0 (countOf book i)))
         (addTo (viewIn t n u) book i at (declsOf (viewIn t n u) book (entriesFrom book at 0 (countOf book i)))) u
         t m n t′ m′ n′ r
         → Turned (readyIn book ds i) (verdictOn book (viewOf ds) i) u t m n t′ m′ n′ r

@@ -19,7 +19,8 @@ use Rattle.types.specs.declared.store.Stored.the-variants.{Next, Stop}
 use Rattle.types.specs.Defs.{nameIn}
 use Rattle.types.specs.Digits.{hostName}
 use Rattle.types.specs.Layout.{placed, opened, nextBit}
-use Rattle.types.specs.Structs.{named, namesOf, rowsOf, oneParts, storedOne, Fits}
+use Rattle.types.specs.Passes.{oneParts, storedOne, Fits}
+use Rattle.types.specs.Structs.{named, namesOf, rowsOf}
 use Rattle.types.specs.Tables.{TyFits}
 use Rattle.types.proofs.PlaceLaws.{place-cases}
 use Rattle.types.proofs.StoreLaws.{one-name, rows-then, names-then}

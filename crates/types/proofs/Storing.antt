@@ -21,8 +21,9 @@ use Rattle.types.specs.Defs.{Part}
 use Rattle.types.specs.Digits.{hostName}
 use Rattle.types.specs.Entries.{declAt, declsFrom, Found}
 use Rattle.types.specs.Layout.{placed}
-use Rattle.types.specs.Structs.{namesOf, rowsOf, thenParts, thenMeasure, thenNext, partsFrom, namedIn, measureOne}
-use Rattle.types.specs.Structs.{oneParts, storedOne, Far, Fits, Storable}
+use Rattle.types.specs.Passes.{thenParts, thenMeasure, thenNext, partsFrom, measureOne}
+use Rattle.types.specs.Structs.{namesOf, rowsOf, namedIn}
+use Rattle.types.specs.Passes.{oneParts, storedOne, Far, Fits, Storable}
 use Rattle.types.proofs.DigitLaws.{host-most}
 use Rattle.types.proofs.EntryLaws.{decls-cons, decls-none, found-first, decl-fair, decl-ty}
 use Rattle.types.proofs.MeasureLaws.{far-on, near}

@@ -3,7 +3,7 @@
 use Prim.Native.Nat.{ℕ, _+_, _*_, _/_}
 use native.Mathlib.Omega.{arith}
 use mathlib.Core.Path.{_≡_, refl, sym, ap, _∙_}
-use mathlib.Core.Bool.{false, true≢false}
+use mathlib.Core.Bool.{Bool, true, false, true≢false}
 use mathlib.Core.List.{List}
 use lib.Dec.{eqb}
 use Rattle.types.specs.declared.member.StructDef.{StructDef}
@@ -11,7 +11,7 @@ use Rattle.types.specs.declared.member.StructKind.{StructKind}
 use Rattle.types.specs.declared.member.StructKind.the-variants.{Str}
 use Rattle.types.specs.Defs.{Part}
 use Rattle.types.specs.Layout.{alignUp}
-use Rattle.types.specs.Structs.{dintAt, dataOf, stringParts, stringSize}
+use Rattle.types.specs.Structs.{laidKind, dintAt, dataOf, stringParts, stringSize}
 use Rattle.types.specs.Tables.{kindWord, memberAt}
 
 -- a size and parts that are those of a string
@@ -36,6 +36,10 @@ string-is c = record { capacity = c; rows = refl; bytes = refl }
 pub other-kind : {size : ℕ} {parts : List Part} (k : StructKind) → eqb (kindWord k) 2 ≡ false → k ≡ Str
     → IsString size parts
 other-kind k n e = absurd (true≢false (sym (ap (λ (x : StructKind). eqb (kindWord x) 2) e) ∙ n))
+
+pub no-string : (aoi : Bool) → eqb (kindWord (laidKind aoi)) 2 ≡ false
+no-string true = refl
+no-string false = refl
 
 pub string-bytes : (c : ℕ) → stringSize c ≡ 4 + 4 * ((c + 3) / 4)
 unfolding stringSize alignUp

@@ -5,13 +5,11 @@ use native.Mathlib.Omega.{arith}
 use mathlib.Core.Path.{_≡_, refl}
 use mathlib.Core.Bool.{Bool, true, false}
 use mathlib.Core.List.{List, [], _∷_}
-use mathlib.Core.Logic.{_⊎_, inl, inr, _≢_}
-use native.Mathlib.Decide.{decLt}
 use borrow.Author.Tests.{lt-ltb, le-ltb, ne-eqb}
 use lib.Dec.{eqb}
 use lib.ListN.{length, getD}
 use lib.Seq.{sets}
-use Rattle.words.proofs.Lists.{getD-sets, getD-beside}
+use Rattle.words.proofs.Lists.{getD-sets}
 use Rattle.types.specs.declared.member.Ty.{Ty}
 use Rattle.types.specs.declared.member.Ty.the-variants.{Atomic as atomic, Struct}
 use Rattle.types.specs.declared.member.Bit.{Bit}
@@ -101,29 +99,6 @@ stored t i a b c d e f g h l =
       w7 = at 7 (omega arith);
     }
 
--- another row has the words that it had
-beside : (t row : List ℕ) (i j : ℕ) → length row ≡ 8 → j ≢ i
-    → Eight (sets t (8 * i) row) j (getD t (8 * j) 0) (getD t (8 * j + 1) 0) (getD t (8 * j + 2) 0)
-    (getD t (8 * j + 3) 0)
-    (getD t (8 * j + 4) 0) (getD t (8 * j + 5) 0) (getD t (8 * j + 6) 0) (getD t (8 * j + 7) 0)
-beside t row i j w n =
-    let at : (k : ℕ) → k < 8 → getD (sets t (8 * i) row) (8 * j + k) 0 ≡ getD t (8 * j + k) 0 =
-    λ k l. getD-beside t (8 * i) row (8 * j + k) 0 (side k l (decLt j i)) in
-    record {
-      w0 = simp add-zero at (at 0 (omega arith));
-      w1 = at 1 (omega arith);
-      w2 = at 2 (omega arith);
-      w3 = at 3 (omega arith);
-      w4 = at 4 (omega arith);
-      w5 = at 5 (omega arith);
-      w6 = at 6 (omega arith);
-      w7 = at 7 (omega arith);
-    }
-  where
-    side : (k : ℕ) → k < 8 → Dec (j < i) → (8 * j + k < 8 * i) ⊎ (8 * i + length row ≤ 8 * j + k)
-    side k l (yes m) = inl (omega arith)
-    side k l (no m) = inr (omega (arith, m, n))
-
 -- ---- members
 
 -- what a member's row can hold
@@ -137,10 +112,6 @@ member-words : (t : List ℕ) (i : ℕ) (n : Span) (m : Member) → 8 * i + 8 �
     (flagsOf (m .hidden) (m .local)) (m .access)
 unfolding memberRow
 member-words t i n m h = stored t i _ _ _ _ _ _ _ _ h
-
-member-long : (n : Span) (m : Member) → length (memberRow n m) ≡ 8
-unfolding memberRow
-member-long n m = refl
 
 -- a stored member is read back
 pub member-back : (t : List ℕ) (i : ℕ) (n : Span) (m : Member) → 8 * i + 8 ≤ length t → Storable m
@@ -172,21 +143,6 @@ name-back t i n m h =
     let w = member-words t i n m h in
     simp (w .w0, w .w1)
 
--- and the other members stay
-pub member-beside : (t : List ℕ) (i j : ℕ) (n : Span) (m : Member) → j ≢ i
-    → memberAt (sets t (8 * i) (memberRow n m)) j ≡ memberAt t j
-unfolding memberAt
-member-beside t i j n m d =
-    let w = beside t (memberRow n m) i j (member-long n m) d in
-    simp (w .w0, w .w1, w .w2, w .w3, w .w4, w .w5, w .w6, w .w7)
-
-pub name-beside : (t : List ℕ) (i j : ℕ) (n : Span) (m : Member) → j ≢ i
-    → nameAt (sets t (8 * i) (memberRow n m)) j ≡ nameAt t j
-unfolding nameAt
-name-beside t i j n m d =
-    let w = beside t (memberRow n m) i j (member-long n m) d in
-    simp (w .w0, w .w1)
-
 -- ---- structures
 
 -- what a structure's row can hold
@@ -200,10 +156,6 @@ type-words : (t : List ℕ) (i : ℕ) (d : StructDef) → 8 * i + 8 ≤ length t
 unfolding typeRow
 type-words t i d h = stored t i _ _ _ _ _ _ _ _ h
 
-type-long : (d : StructDef) → length (typeRow d) ≡ 8
-unfolding typeRow
-type-long d = refl
-
 -- a stored structure is read back
 pub type-back : (t : List ℕ) (i : ℕ) (d : StructDef) → 8 * i + 8 ≤ length t → TypeStorable d
     → typeAt (sets t (8 * i) (typeRow d)) i ≡ d
@@ -213,10 +165,3 @@ type-back t i d h s =
     let a : d .id % 65536 ≡ d .id = omega (arith, s .id) in
     let b : d .handle % 65536 ≡ d .handle = omega (arith, s .handle) in
     simp (w .w0, w .w1, w .w2, w .w3, w .w4, w .w5, w .w6, w .w7, kind-back, a, b)
-
--- and the other structures stay
-pub type-beside : (t : List ℕ) (i j : ℕ) (d : StructDef) → j ≢ i → typeAt (sets t (8 * i) (typeRow d)) j ≡ typeAt t j
-unfolding typeAt
-type-beside t i j d n =
-    let w = beside t (typeRow d) i j (type-long d) n in
-    simp (w .w0, w .w1, w .w2, w .w3, w .w4, w .w5, w .w6, w .w7)

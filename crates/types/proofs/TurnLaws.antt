@@ -1,6 +1,6 @@
 -- Laws of a turn: where as many member types were found as there are members, all are known, and the layout reads from
 -- the scratch the declared members of the definition.
-use Prim.Native.Nat.{ℕ, zero, suc, _+_, _-_, _<_, _≤_}
+use Prim.Native.Nat.{ℕ, zero, suc, _+_, _<_, _≤_}
 use native.Mathlib.Omega.{arith}
 use native.Mathlib.Nat.{zero-add}
 use mathlib.Core.Path.{_≡_, refl, sym, ap, _∙_}
@@ -17,14 +17,15 @@ use Rattle.types.specs.declared.used.Turn.{Turn}
 use Rattle.types.specs.declared.used.Turn.the-variants.{Waits}
 use Rattle.types.specs.declared.used.Used.{Used}
 use Rattle.types.specs.Add.{Verdict, addEntry, addTo, Took, Declared}
-use Rattle.types.specs.Book.{listFrom, typeEntry}
+use Rattle.types.specs.Book.{every, listFrom, typeEntry}
 use Rattle.types.specs.Checks.{entryOf, entriesFrom, EntriesInside}
 use Rattle.types.specs.Defs.{nameIn}
 use Rattle.types.specs.Entries.{declared, declAt, declsFrom}
 use Rattle.types.specs.Laid.{Earlier}
 use Rattle.types.specs.Lookup.{rowName, rowNames, typeAmong}
 use Rattle.types.specs.Registry.{View, sizeAt, viewIn}
-use Rattle.types.specs.Resolve.{typeName, typeNames, isFound, allKnown, thenWord, foundWords, Resolves}
+use Rattle.types.specs.Order.{allKnown}
+use Rattle.types.specs.Resolve.{typeName, typeNames, isFound, hasName, thenWord, foundWords, Resolves}
 use Rattle.types.specs.Resolve.{StillIn, Still}
 use Rattle.types.specs.Tables.{tyWord, tyOf}
 use Rattle.types.specs.Turns.{countOf, thenDecl, declsOf, TurnIn, Turned, Missed, Tries}
@@ -38,14 +39,14 @@ use Rattle.types.proofs.TableLaws.{ty-back}
 -- ---- how many were found
 
 pub all-found : (known names : List (List ℕ)) → length names ≤ length (foundWords known names)
-    → allKnown known names ≡ true
-unfolding foundWords allKnown
+    → allKnown hasName known names ≡ true
+unfolding foundWords every
 all-found known [] l = refl
 all-found known (s ∷ ss) l = go (typeAmong known s) l (all-found known ss)
   where
     go : (f : FoundTy) → suc (length ss) ≤ length (thenWord f (foundWords known ss))
-        → (length ss ≤ length (foundWords known ss) → allKnown known ss ≡ true)
-        → (isFound f && allKnown known ss) ≡ true
+        → (length ss ≤ length (foundWords known ss) → allKnown hasName known ss ≡ true)
+        → (isFound f && allKnown hasName known ss) ≡ true
     go (Is ty) h rest = rest (omega arith)
     go Nothing h rest = absurd (let z : ⊥ = omega arith in z)
 
@@ -79,16 +80,17 @@ module _ (known : List (List ℕ)) (f : ℕ → List ℕ) where
   unfolding listFrom foundWords
   later-word j n k w r = let e : j + suc k ≡ j + 1 + k = omega arith in rw e (r .0, rw (w .is) (r .1))
 
-  words-at : (j n : ℕ) → allKnown known (listFrom f j n) ≡ true → (k : ℕ) → k < n → WordAt j n k
-  unfolding listFrom allKnown
+  words-at : (j n : ℕ) → allKnown hasName known (listFrom f j n) ≡ true → (k : ℕ) → k < n → WordAt j n k
+  unfolding listFrom every
   words-at j zero a k l = absurd (let z : ⊥ = omega arith in z)
   words-at j (suc n) a zero l = first-word j n (known-one known (f j) (typeAmong known (f j)) _ refl a)
   words-at j (suc n) a (suc k) l =
       later-word j n k (known-one known (f j) (typeAmong known (f j)) _ refl a)
       (words-at (j + 1) n (known-rest (typeAmong known (f j)) _ a) k (omega arith))
 
-  words-long : (j n : ℕ) → allKnown known (listFrom f j n) ≡ true → length (foundWords known (listFrom f j n)) ≡ n
-  unfolding listFrom allKnown foundWords
+  words-long : (j n : ℕ) → allKnown hasName known (listFrom f j n) ≡ true
+      → length (foundWords known (listFrom f j n)) ≡ n
+  unfolding listFrom every foundWords
   words-long j zero a = refl
   words-long j (suc n) a =
       let w = known-one known (f j) (typeAmong known (f j)) _ refl a in
@@ -106,7 +108,7 @@ module _ (types names book tys : List ℕ) (u : Used) (at n : ℕ) where
   abbrev scratch : List ℕ
   scratch = sets tys 0 (foundWords (view .names) uses)
 
-  module _ (a : allKnown (view .names) uses ≡ true) (l : n ≤ length tys) where
+  module _ (a : allKnown hasName (view .names) uses ≡ true) (l : n ≤ length tys) where
     word-at : (k : ℕ) → k < n
         → (w : Known (view .names) (typeName book at k)) × (tyOf (getD scratch k 0) ≡ w .ty)
     word-at k h =
@@ -171,7 +173,7 @@ module _ (types names book tys : List ℕ) (u : Used) (at n : ℕ) where
 
 module _ (types members names book : List ℕ) (u : Used) (i at n : ℕ) (e : n ≡ countOf book i) where
   abbrev known : Bool
-  known = allKnown (rowNames types names (u .types)) (typeNames book at 0 (countOf book i))
+  known = allKnown hasName (rowNames types names (u .types)) (typeNames book at 0 (countOf book i))
 
   abbrev verdict : Verdict
   verdict =
@@ -238,7 +240,7 @@ module _ (types members names book : List ℕ) (u : Used) (i at n : ℕ) (e : n 
     )
 
     module _ (l : n ≤ r) where
-      found-all : allKnown (rowNames types names (u .types)) (typeNames book at 0 n) ≡ true
+      found-all : allKnown hasName (rowNames types names (u .types)) (typeNames book at 0 n) ≡ true
       found-all = all-found (rowNames types names (u .types)) (typeNames book at 0 n) (omega (arith, w .is, uses-long))
 
       pub turn-ready : n ≤ length tys → EntriesInside book at n → n ≤ 65536 → Declared book tys′ (u .types) at n

@@ -16,6 +16,7 @@ use Rattle.types.specs.declared.atomic.FoundAtomic.the-variants.{Is as f
 use Rattle.types.specs.declared.lookups.FoundTy.{FoundTy}
 use Rattle.types.specs.declared.lookups.FoundTy.the-variants.{Is}
 use Rattle.types.specs.declared.member.Ty.the-variants.{Struct}
+use Rattle.types.specs.declared.predefined.PredefinedIds.{PredefinedIds}
 use Rattle.types.specs.Add.{newDef}
 use Rattle.types.specs.Atomic.{atomicNamed}
 use Rattle.types.specs.Defs.{Def}
@@ -27,7 +28,8 @@ use Rattle.types.specs.Predefined.{distinct, predefinedIds, withTimer, w
 use Rattle.types.specs.Registry.{viewOf}
 use Rattle.types.specs.Resolve.{isFound}
 use Rattle.types.proofs.AddLaws.{every-nth}
-use Rattle.types.proofs.PredefinedLaws.{same-1, same-2, same-3, same-4, same-5, same-6, ids-differ, ids-good}
+use Rattle.types.proofs.PredefinedLaws.{same-1, same-2, same-3, same-4, same-5, same-6, ids-differ}
+use Rattle.types.proofs.PredefinedLaws.{ids-allowed}
 use Rattle.types.proofs.RegistryLaws.{length-snoc}
 use Rattle.types.proofs.ShownLaws.{noDef}
 
@@ -91,48 +93,51 @@ new-differs ds d u n = each-differs d ds 0 u (not-atomic (atomicNamed (d .name))
 
 -- ---- the predefined types
 
-module _ (a b c d : ℕ) (good : predefinedIds a b c d ≡ true) where
-  apart : false ≡ distinct a b c d → ⊥
+module _ (ids : PredefinedIds) (good : predefinedIds ids ≡ true) where
+  apart : false ≡ distinct ids → ⊥
   apart e =
-      let i = ids-good a b c d good in
-      true≢false (sym (e ∙ ids-differ a b c d (i .timer) (i .counter) (i .control) (i .string) ∙ good))
+      let i = ids-allowed ids good in
+      true≢false (sym (e ∙ ids-differ ids (i .timer) (i .counter) (i .control) (i .string) ∙ good))
 
-  ab : a ≡ b → ⊥
-  ab e = apart (same-1 a b c d e)
+  timer-counter : ids .timer ≡ ids .counter → ⊥
+  timer-counter e = apart (same-1 ids e)
 
-  ac : a ≡ c → ⊥
-  ac e = apart (same-2 a b c d ab e)
+  timer-control : ids .timer ≡ ids .control → ⊥
+  timer-control e = apart (same-2 ids timer-counter e)
 
-  ad : a ≡ d → ⊥
-  ad e = apart (same-3 a b c d ab ac e)
+  timer-string : ids .timer ≡ ids .string → ⊥
+  timer-string e = apart (same-3 ids timer-counter timer-control e)
 
-  bc : b ≡ c → ⊥
-  bc e = apart (same-4 a b c d ab ac ad e)
+  counter-control : ids .counter ≡ ids .control → ⊥
+  counter-control e = apart (same-4 ids timer-counter timer-control timer-string e)
 
-  bd : b ≡ d → ⊥
-  bd e = apart (same-5 a b c d ab ac ad bc e)
+  counter-string : ids .counter ≡ ids .string → ⊥
+  counter-string e = apart (same-5 ids timer-counter timer-control timer-string counter-control e)
 
-  cd : c ≡ d → ⊥
-  cd e = apart (sym (ap not (eq-eqb c d e)) ∙ same-6 a b c d ab ac ad bc bd)
+  control-string : ids .control ≡ ids .string → ⊥
+  control-string e =
+      apart
+      (sym (ap not (eq-eqb (ids .control) (ids .string) e))
+      ∙ same-6 ids timer-counter timer-control timer-string counter-control counter-string)
 
-  timer-unlike : Unlike (withTimer a)
+  timer-unlike : Unlike (withTimer ids)
   unfolding withTimer Every
   timer-unlike = unlike-more [] _ unlike-none tt
 
-  counter-unlike : Unlike (withCounter a b)
+  counter-unlike : Unlike (withCounter ids)
   unfolding withTimer withCounter newDef Every sameName lowerOf
-  counter-unlike = unlike-more (withTimer a) _ timer-unlike (record { id = ab; name = refl }, tt)
+  counter-unlike = unlike-more (withTimer ids) _ timer-unlike (record { id = timer-counter; name = refl }, tt)
 
-  control-unlike : Unlike (withControl a b c)
+  control-unlike : Unlike (withControl ids)
   unfolding withTimer withCounter withControl newDef Every sameName lowerOf
   control-unlike =
-      unlike-more (withCounter a b) _ counter-unlike
-      (record { id = ac; name = refl }, (record { id = bc; name = refl }, tt))
+      unlike-more (withCounter ids) _ counter-unlike
+      (record { id = timer-control; name = refl }, (record { id = counter-control; name = refl }, tt))
 
-  pub predefined-unlike : Unlike (predefined a b c d)
+  pub predefined-unlike : Unlike (predefined ids)
   unfolding withTimer withCounter withControl predefined newDef Every sameName lowerOf
   predefined-unlike =
-      unlike-more (withControl a b c) _ control-unlike (
-        record { id = ad; name = refl },
-        (record { id = bd; name = refl }, (record { id = cd; name = refl }, tt)),
+      unlike-more (withControl ids) _ control-unlike (
+        record { id = timer-string; name = refl },
+        (record { id = counter-string; name = refl }, (record { id = control-string; name = refl }, tt)),
       )

@@ -4,7 +4,7 @@
 use Prim.Native.Nat.{ℕ, zero, suc, _+_, _*_, _^_, _<_, _≤_}
 use native.Mathlib.Omega.{arith}
 use mathlib.Core.Path.{_≡_, refl, sym}
-use mathlib.Core.Bool.{Bool, false}
+use mathlib.Core.Bool.{Bool, true, false}
 use mathlib.Core.List.{List, [], _∷_}
 use lib.ListN.{length, length-map}
 use Rattle.types.specs.Turns.{stuckAt}
@@ -23,15 +23,14 @@ use Rattle.types.specs.declared.lookups.FoundTy.the-variants.{Is, Nothin
 use Rattle.types.specs.declared.measure.Measured.{Measured}
 use Rattle.types.specs.declared.measure.Measured.the-variants.{Laid, AccessWrong as accessWrong, TooFar as tooFar}
 use Rattle.types.specs.declared.member.StructKind.{StructKind}
-use Rattle.types.specs.declared.member.StructKind.the-variants.{Udt, Str, Aoi}
+use Rattle.types.specs.declared.member.StructKind.the-variants.{Predefined, Str}
 use Rattle.types.specs.declared.member.Ty.{Ty}
-use Rattle.types.specs.Add.{Verdict, no, yes, hasRoom, usedIn, newDef, fitted, onMeasured, addUdt, addAoi}
+use Rattle.types.specs.Add.{Verdict, no, yes, hasRoom, usedIn, newDef, fitted, onLaid, addLaid}
 use Rattle.types.specs.Add.{onChecked, isAoi, isString, hasId, addMembers, stringOk, addString, addNamed, onId}
 use Rattle.types.specs.Add.{addFresh, addEntry}
 use Rattle.types.specs.Book.{listFrom, typeEntry}
 use Rattle.types.specs.Checks.{checked, entriesFrom}
 use Rattle.types.specs.Defs.{Part, Def, nameIn}
-use Rattle.types.specs.Digits.{hostName}
 use Rattle.types.specs.Entries.{storedTy, resolved, declared}
 use Rattle.types.specs.Ids.{inUse, idFor}
 use Rattle.types.specs.Laid.{Laid as Lies, Resolved, Every}
@@ -39,25 +38,27 @@ use Rattle.types.specs.Lookup.{typeAmong}
 use Rattle.types.specs.Names.{goodName}
 use Rattle.types.specs.Registry.{View, sizeAt, ownNames, viewOf}
 use Rattle.types.specs.Resolve.{isFound}
-use Rattle.types.specs.Structs.{namedIn, udtStart, measured, measuredAoi}
-use Rattle.types.specs.Structs.{sizeAt as sizeOf, aoiHosts}
+use Rattle.types.specs.Passes.{partsOf, measuredOf}
+use Rattle.types.specs.Structs.{namedIn, laidKind, sizeAt as sizeOf}
 use Rattle.types.specs.Turns.{entriesAt, countOf, thenDecl, declsOf, verdictOn}
-use Rattle.types.proofs.AddLaws.{Able, udt-fits, aoi-fits, string-fits}
+use Rattle.types.proofs.AddLaws.{Able, type-fits, string-fits}
 use Rattle.types.proofs.AddStoreLaws.{Roomy, roomy}
-use Rattle.types.proofs.AddTypeLaws.{good-long, string-least, string-most as string-room}
-use Rattle.types.proofs.BoundLaws.{udt-count, udt-most, aoi-count, aoi-most, string-most}
+use Rattle.types.proofs.AddTypeLaws.{string-least, string-most as string-room}
+use Rattle.types.proofs.BoundLaws.{type-count, type-most, string-most}
 use Rattle.types.proofs.DefLaws.{PartFits}
 use Rattle.types.proofs.EntryLaws.{align-fair}
 use Rattle.types.proofs.FoundLaws.{stored-earlier}
 use Rattle.types.proofs.HandleLaws.{handle-small}
 use Rattle.types.proofs.IdLaws.{InRange, picked-range, Unheld, picked-unheld}
-use Rattle.types.proofs.LaidLaws.{udt-laid, aoi-laid, string-laid}
+use Rattle.types.proofs.LaidLaws.{type-laid, string-laid}
+use Rattle.types.proofs.LaidOutLaws.{both, laid-passes}
+use Rattle.types.proofs.PartLaws.{PartFormed, NamedDecls, NamedEntries, type-formed, string-formed}
+use Rattle.types.proofs.PartLaws.{checked-named}
+use Rattle.types.proofs.ProperLaws.{Proper, user-inside, not-predefined, declared-kind}
 use Rattle.types.proofs.ResolveLaws.{found-earlier}
 use Rattle.types.proofs.RoundLaws.{either}
-use Rattle.types.proofs.ShortLaws.{ShortPart, ShortDecls, ShortEntries, udt-short, aoi-short, string-short}
-use Rattle.types.proofs.ShortLaws.{checked-short}
 use Rattle.types.proofs.ShownLaws.{Shown, Fits}
-use Rattle.types.proofs.StringLaws.{IsString, string-is, other-kind}
+use Rattle.types.proofs.StringLaws.{IsString, string-is, other-kind, no-string}
 
 -- ---- the ways out of adding
 
@@ -71,8 +72,9 @@ pub record Made (v : View) (s : List ℕ) (ds : List Decl) (d : Def) : Type 0 wh
   pub parts : (n : ℕ) → Every (Able n) ds → Every (PartFits n) (d .parts)
   pub laid : (n : ℕ) → Every (Resolved (sizeAt v) n) ds → Lies (sizeAt v) n (d .size) (d .parts)
   pub most : d .size ≤ 2 ^ 26 + 224
-  pub long : length s ≤ 40
-  pub short : Every ShortPart (d .parts)
+  pub good : goodName s ≡ true
+  pub formed : Every PartFormed (d .parts)
+  pub kind : d .kind ≡ Predefined → ⊥
   pub string : d .kind ≡ Str → IsString (d .size) (d .parts)
   pub unheld : inUse (d .id) (v .ids) ≡ false
   pub unknown : isFound (typeAmong (v .names) s) ≡ false
@@ -83,21 +85,22 @@ Judged v name ds (no r) = r .0 ≡ 10 → ⊥
 Judged v name ds (yes d) = Made v name ds d
 
 module _ (v : View) (book : List ℕ) (i at : ℕ) (e : TypeEntry) (name : List ℕ) (ds : List Decl)
-    (named : ShortEntries book (entriesFrom book at 0 (e .count)) → ShortDecls book ds) where
+    (named : NamedEntries book (entriesFrom book at 0 (e .count)) → NamedDecls book ds) where
   abbrev Ends : Verdict → Type 0
   Ends s = Judged v name ds s
 
-  module _ (good : length name ≤ 40) (new : isFound (typeAmong (v .names) name) ≡ false) (id : ℕ)
+  module _ (good : goodName name ≡ true) (new : isFound (typeAmong (v .names) name) ≡ false) (id : ℕ)
       (range : InRange (Free id)) (free : Unheld (v .ids) (Free id)) where
     fitted-ends : (size : ℕ) (kind : StructKind) (parts : List Part)
         → ((n : ℕ) → Every (Able n) ds → Every (PartFits n) parts)
         → ((n : ℕ) → Every (Resolved (sizeAt v) n) ds → Lies (sizeAt v) n size parts)
         → (length parts ≤ 2000 → size ≤ 2 ^ 26 + 224)
-        → Every ShortPart parts
+        → Every PartFormed parts
         → (kind ≡ Str → IsString size parts)
+        → (kind ≡ Predefined → ⊥)
         → Ends (fitted v i (newDef v name id size kind parts))
     unfolding fitted newDef
-    fitted-ends size kind parts f g h k s =
+    fitted-ends size kind parts f g h k s p =
         either Ends (hasRoom (usedIn v) (length parts) (length (ownNames (newDef v name id size kind parts)))) _ _
         (λ q. record {
           name = refl;
@@ -107,8 +110,9 @@ module _ (v : View) (book : List ℕ) (i at : ℕ) (e : TypeEntry) (name : List 
           parts = f;
           laid = g;
           most = h (omega (arith, roomy (usedIn v) _ _ (sym q) .members));
-          long = good;
-          short = k;
+          good = good;
+          formed = k;
+          kind = p;
           string = s;
           unheld = free;
           unknown = new;
@@ -116,30 +120,25 @@ module _ (v : View) (book : List ℕ) (i at : ℕ) (e : TypeEntry) (name : List 
         (λ q z. omega arith)
 
     -- 11, 12
-    measured-ends : (m : Measured) (k : ℕ → Verdict) → ((c : Cursor) (n : ℕ) → m ≡ Laid c n → Ends (k (sizeOf c)))
-        → Ends (onMeasured m i k)
-    measured-ends (Laid c n) k f = f c n refl
-    measured-ends accessWrong k f = λ z. omega arith
-    measured-ends tooFar k f = λ z. omega arith
-
-    udt-ends : ShortDecls book ds → Ends (addUdt v book i name id ds)
-    unfolding addUdt
-    udt-ends a =
-        measured-ends (measured (hostName name) udtStart 0 ds) _
-        (λ c n q. fitted-ends (sizeOf c) Udt _ (λ k a. udt-fits k (namedIn book) name ds a)
-        (λ k r. udt-laid (sizeAt v) k (namedIn book) name ds 0 c n r q)
-        (λ l. udt-most (hostName name) 0 ds c n q (omega (arith, udt-count (namedIn book) name ds 0 c n q)))
-        (udt-short book name ds a) (other-kind Udt refl))
-
-    aoi-ends : ShortDecls book ds → Ends (addAoi v book i name id ds)
-    unfolding addAoi measuredAoi
-    aoi-ends a =
-        measured-ends (measuredAoi name ds) _
-        (λ c n q. fitted-ends (sizeOf c) Aoi _ (λ k a. aoi-fits k (namedIn book) name ds a)
-        (λ k r. aoi-laid (sizeAt v) k (namedIn book) name ds _ c n r q)
-        (λ l. aoi-most (hostName name) _ ds c n (aoiHosts ds) q
-        (omega (arith, aoi-count (namedIn book) name ds _ c n q)))
-        (aoi-short book name ds a) (other-kind Aoi refl))
+    laid-ends : (aoi : Bool) → NamedDecls book ds → Ends (addLaid v book i aoi name id ds)
+    unfolding addLaid
+    laid-ends aoi a =
+        rw (laid-passes aoi (namedIn book) name ds)
+        (go (measuredOf aoi name ds)
+        (λ c n q. fitted-ends (sizeOf c) (laidKind aoi) _ (λ k b. type-fits aoi k (namedIn book) name ds b)
+        (λ k r. type-laid (sizeAt v) k aoi (namedIn book) name ds c n r q)
+        (λ l. type-most aoi name ds c n q (omega (arith, type-count aoi (namedIn book) name ds c n q)))
+        (type-formed aoi book name good ds a) (other-kind (laidKind aoi) (no-string aoi))
+        (not-predefined (laidKind aoi) (declared-kind aoi))))
+      where
+        go : (m : Measured)
+            → ((c : Cursor) (n : ℕ) → m ≡ Laid c n
+            → Ends (fitted v i (newDef v name id (sizeOf c) (laidKind aoi) (partsOf aoi (namedIn book) name ds))))
+            → Ends (onLaid (both (partsOf aoi (namedIn book) name ds) m) i
+            (λ parts size. fitted v i (newDef v name id size (laidKind aoi) parts)))
+        go (Laid c n) f = f c n refl
+        go accessWrong f = λ z. omega arith
+        go tooFar f = λ z. omega arith
 
     -- per member 2, 8, 9
     checked-ends : (c : Checked) (k : Verdict) → (c ≡ Good → Ends k) → Ends (onChecked c i k)
@@ -152,8 +151,8 @@ module _ (v : View) (book : List ℕ) (i at : ℕ) (e : TypeEntry) (name : List 
     unfolding addMembers
     members-ends aoi =
         checked-ends (checked book aoi [] (entriesFrom book at 0 (e .count))) _
-        (λ c. let a = named (checked-short book aoi [] (entriesFrom book at 0 (e .count)) c) in
-        either Ends aoi _ _ (λ q. aoi-ends a) (λ q. udt-ends a))
+        (λ c. let a = named (checked-named book aoi [] (entriesFrom book at 0 (e .count)) c) in
+        laid-ends aoi a)
 
     -- 7
     string-ends : Ends (addString v i e name id)
@@ -162,8 +161,8 @@ module _ (v : View) (book : List ℕ) (i at : ℕ) (e : TypeEntry) (name : List 
         either Ends (stringOk e) _ _
         (λ q. fitted-ends _ Str _ (λ n a. string-fits n (e .string)) (λ n r. string-laid (sizeAt v) n (e .string)
         (string-least e q))
-        (λ l. omega (arith, string-most (e .string) (string-room e q))) (string-short (e .string))
-        (λ k. string-is (e .string)))
+        (λ l. omega (arith, string-most (e .string) (string-room e q))) (string-formed (e .string))
+        (λ k. string-is (e .string)) (not-predefined Str refl))
         (λ q z. omega arith)
 
     named-ends : Ends (addNamed v book i at e name id ds)
@@ -178,7 +177,8 @@ module _ (v : View) (book : List ℕ) (i at : ℕ) (e : TypeEntry) (name : List 
   picked-ends InUse k range free f = λ z. omega arith
   picked-ends NoneFree k range free f = λ z. omega arith
 
-  fresh-ends : length name ≤ 40 → isFound (typeAmong (v .names) name) ≡ false → Ends (addFresh v book i at e name ds)
+  fresh-ends : goodName name ≡ true → isFound (typeAmong (v .names) name) ≡ false
+      → Ends (addFresh v book i at e name ds)
   unfolding addFresh
   fresh-ends good new =
       picked-ends (idFor (v .ids) (hasId e) (e .id)) _ (picked-range (v .ids) (hasId e) (e .id))
@@ -190,7 +190,7 @@ module _ (v : View) (book : List ℕ) (i at : ℕ) (e : TypeEntry) (name : List 
   entry-ends =
       either Ends (goodName name) _ _
       (λ q. either Ends (isFound (typeAmong (v .names) name)) _ _ (λ r z. omega arith)
-      (λ r. fresh-ends (good-long name q) r))
+      (λ r. fresh-ends q r))
       (λ q z. omega arith)
 
 -- ---- the declared members of a book's type
@@ -222,15 +222,15 @@ decls-able v book (e ∷ es) (a, rest) =
     go Nothing q ih = tt
 
 -- and has the name of its entry
-decls-named : (v : View) (book : List ℕ) (es : List MemberEntry) → ShortEntries book es
-    → ShortDecls book (declsOf v book es)
+decls-named : (v : View) (book : List ℕ) (es : List MemberEntry) → NamedEntries book es
+    → NamedDecls book (declsOf v book es)
 unfolding declsOf Every resolved
 decls-named v book [] a = tt
 decls-named v book (e ∷ es) (a, rest) =
     go (typeAmong (v .names) (nameIn book (e .ty))) (decls-named v book es rest)
   where
-    go : (f : FoundTy) → ShortDecls book (declsOf v book es)
-        → ShortDecls book (thenDecl f (λ ty. declared (sizeAt v) ty e) (declsOf v book es))
+    go : (f : FoundTy) → NamedDecls book (declsOf v book es)
+        → NamedDecls book (thenDecl f (λ ty. declared (sizeAt v) ty e) (declsOf v book es))
     go (Is ty) ih = (a, ih)
     go Nothing ih = tt
 
@@ -315,14 +315,18 @@ module _ (book : List ℕ) (ds : List Def) (i : ℕ) (d : Def) (e : verdictOn bo
   pub verdict-most : d .size ≤ 2 ^ 26 + 224
   verdict-most = verdict-made book ds i d e .most
 
-  -- with names of at most 40 bytes
-  pub verdict-long : length (d .name) ≤ 40
-  verdict-long =
+  -- and proper, after the predefined types
+  pub verdict-proper : 4 ≤ length ds → Proper (length ds) d
+  verdict-proper l =
       let m = verdict-made book ds i d e in
-      rw (m .name) (m .long)
-
-  pub verdict-short : Every ShortPart (d .parts)
-  verdict-short = verdict-made book ds i d e .short
+      record {
+        name = rw (m .name) (m .good);
+        parts = m .formed;
+        first = λ h. absurd (let z : ⊥ = omega arith in z);
+        early = λ h. absurd (let z : ⊥ = omega arith in z);
+        late = λ h. user-inside (d .id) (m .id .0) (m .id .1);
+        kind = λ u. m .kind;
+      }
 
   -- and a string where its kind says so
   pub verdict-string : d .kind ≡ Str → IsString (d .size) (d .parts)

@@ -14,13 +14,15 @@ use Rattle.types.specs.declared.member.Ty.{Ty}
 use Rattle.types.specs.declared.member.Ty.the-variants.{Atomic as atomic, Struct}
 use Rattle.types.specs.declared.refusal.Refusal.the-variants.{NoSuchType, NoRoom}
 use Rattle.types.specs.declared.sink.Sink.{Sink}
-use Rattle.types.specs.declared.templates.Wrote.the-variants.{Length, Refused}
+use Rattle.types.specs.declared.given.Wrote.{Wrote}
+use Rattle.types.specs.declared.given.Wrote.the-variants.{Length, Refused}
 use Rattle.types.specs.Defs.{Readable, nameIn, partsAt, defOf}
+use Rattle.types.specs.Given.{Given, bufferLeft, lengthGiven}
 use Rattle.types.specs.Pieces.{infosIn, shownIn, namesIn, frontIn}
 use Rattle.types.specs.Sink.{Room, Emitted}
 use Rattle.types.specs.Tables.{typeAt}
 use Rattle.types.specs.Template.{idsIn, userId, padding, memberIds, frontOf, templateOf, templateIn}
-use Rattle.types.specs.Template.{templateAnswer, templateLeaves, Answered}
+use Rattle.types.specs.Template.{hasTemplate, templateFor}
 use Rattle.types.proofs.SinkLaws.{Left, left-all, left-room, left-on}
 use Rattle.types.proofs.TemplateLaws.{infos-any, parts-long, infos-long, names-long, name-long, shown-long}
 use Rattle.types.proofs.TemplateLaws.{padding-long, ids-long}
@@ -104,21 +106,24 @@ writing-room s out fold h l = record { small = omega arith; room = λ w. omega a
 
 -- ---- what a caller gets
 
+abbrev Told : List ℕ → List ℕ → List ℕ → Ty → List ℕ → Wrote → List ℕ → Type 0
+Told types members names ty = Given (hasTemplate types ty) (templateFor types members names ty)
+
 pub no-atomic : (types members names : List ℕ) {ty : Ty} {a : Atomic} (out : List ℕ) → ty ≡ atomic a
-    → Answered types members names ty out (Refused NoSuchType) out
-unfolding templateAnswer templateLeaves
+    → Told types members names ty out (Refused NoSuchType) out
+unfolding lengthGiven bufferLeft
 no-atomic types members names out e = record { is = rw e; bytes = rw e }
 
 module _ (types members names : List ℕ) (n : ℕ) (out : List ℕ) where
-  pub no-row : 200 ≤ n → Answered types members names (Struct n) out (Refused NoSuchType) out
-  unfolding templateAnswer templateLeaves
+  pub no-row : 200 ≤ n → Told types members names (Struct n) out (Refused NoSuchType) out
+  unfolding lengthGiven bufferLeft
   no-row h =
       let e = le-ltb n 200 h in
       record { is = simp e; bytes = simp e }
 
   module _ (h : n < 200) {d : StructDef} (e : d ≡ typeAt types n) where
-    pub no-id : d .id ≡ 0 → Answered types members names (Struct n) out (Refused NoSuchType) out
-    unfolding templateAnswer templateLeaves
+    pub no-id : d .id ≡ 0 → Told types members names (Struct n) out (Refused NoSuchType) out
+    unfolding lengthGiven bufferLeft
     no-id z =
         let f = lt-ltb n 200 h in
         let g = eq-eqb (typeAt types n .id) 0 (sym (ap (λ (x : StructDef). x .id) e) ∙ z) in
@@ -129,8 +134,8 @@ module _ (types members names : List ℕ) (n : ℕ) (out : List ℕ) where
       used z = i (ap (λ (x : StructDef). x .id) e ∙ z)
 
       pub no-room : length out < length (templateIn types members names d)
-          → Answered types members names (Struct n) out (Refused NoRoom) out
-      unfolding templateAnswer templateLeaves
+          → Told types members names (Struct n) out (Refused NoRoom) out
+      unfolding lengthGiven bufferLeft
       no-room l =
           let f = lt-ltb n 200 h in
           let g = ne-eqb (typeAt types n .id) 0 used in
@@ -138,9 +143,9 @@ module _ (types members names : List ℕ) (n : ℕ) (out : List ℕ) where
           record { is = simp (f, g, k); bytes = simp (f, g, k) }
 
       pub room : length (templateIn types members names d) ≤ length out
-          → Answered types members names (Struct n) out (Length (length (templateIn types members names d)))
+          → Told types members names (Struct n) out (Length (length (templateIn types members names d)))
           (sets out 0 (templateIn types members names d))
-      unfolding templateAnswer templateLeaves
+      unfolding lengthGiven bufferLeft
       room l =
           let f = lt-ltb n 200 h in
           let g = ne-eqb (typeAt types n .id) 0 used in

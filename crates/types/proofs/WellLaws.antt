@@ -1,13 +1,11 @@
 -- Every type of a registry is laid out well (document 01, "Layout"; what values may count on), and stays so when types
 -- are added: a layout depends on the sizes of earlier types only.
 use Prim.Native.Nat.{ℕ, _+_, _*_, _^_, _<_, _≤_}
-use native.Mathlib.Decide.{decLt}
 use native.Mathlib.Omega.{arith}
 use mathlib.Core.Path.{_≡_, refl, sym, ap, _∙_}
 use mathlib.Core.List.{List, [], _∷_, _++_, map, map-append}
-use mathlib.Core.Logic.{_⊎_, inl, inr, ⊎-elim}
+use mathlib.Core.Logic.{inl, inr, ⊎-elim}
 use lib.ListN.{length, getD, length-map, List·getD-append}
-use lib.Seq.{getD-append-seam}
 use Rattle.types.specs.declared.member.Bit.{Bit}
 use Rattle.types.specs.declared.member.Bit.the-variants.{None, At}
 use Rattle.types.specs.declared.member.Member.{Member}
@@ -17,9 +15,7 @@ use Rattle.types.specs.Laid.{Earlier, Apart, Clear, Rising, Laid, Every}
 use Rattle.types.specs.Layout.{times}
 use Rattle.types.specs.Waste.{bitsOf}
 use Rattle.types.proofs.AgreeLaws.{size-same}
-use Rattle.types.proofs.RegistryLaws.{length-snoc}
-use Rattle.types.proofs.ShortLaws.{ShortPart}
-use Rattle.types.proofs.ShownLaws.{noDef}
+use Rattle.types.proofs.ShownLaws.{noDef, each-more}
 use Rattle.types.proofs.StringLaws.{IsString}
 
 -- ---- a layout depends on the sizes of earlier types only
@@ -68,12 +64,10 @@ module _ (f g : ℕ → ℕ) (i : ℕ) (same : (k : ℕ) → k < i → f k ≡ g
 
 -- ---- a registry
 
--- type i is laid out well, is not too large, has names of at most 40 bytes, and is a string where its kind says so
+-- type i is laid out well, is not too large, and is a string where its kind says so
 pub record WellMade (sizes : ℕ → ℕ) (i : ℕ) (d : Def) : Type 0 where
   pub laid : Laid sizes i (d .size) (d .parts)
   pub most : d .size ≤ 2 ^ 26 + 224
-  pub long : length (d .name) ≤ 40
-  pub short : Every ShortPart (d .parts)
   pub string : d .kind ≡ Str → IsString (d .size) (d .parts)
 
 abbrev pub sizesOf : List Def → ℕ → ℕ
@@ -92,26 +86,16 @@ pub well-none : Well []
 well-none i l = absurd (let z : ⊥ = omega arith in z)
 
 pub well-more : (ds : List Def) (d : Def) → Well ds → WellMade (sizesOf ds) (length ds) d → Well (ds ++ d ∷ [])
-well-more ds d w n i l = go (decLt i (length ds))
+well-more ds d w n =
+    each-more (WellMade (sizesOf (ds ++ d ∷ []))) ds d
+    (λ i o. stays i (λ k h. sizes-stay ds d k (omega arith)) (w i o))
+    (stays (length ds) (sizes-stay ds d) n)
   where
-    go : Dec (i < length ds) → WellMade (sizesOf (ds ++ d ∷ [])) i (getD (ds ++ d ∷ []) i noDef)
-    go (yes o) =
-        let e = List·getD-append ds (d ∷ []) noDef i o in
-        rw e (record {
-          laid = laid-same (sizesOf ds) (sizesOf (ds ++ d ∷ [])) i (λ k h. sizes-stay ds d k (omega arith)) _ _
-              (w i o .laid);
-          most = w i o .most;
-          long = w i o .long;
-          short = w i o .short;
-          string = w i o .string;
-        })
-    go (no o) =
-        let q : i ≡ length ds = omega (arith, o, length-snoc ds d) in
-        let e : getD (ds ++ d ∷ []) (length ds) noDef ≡ d = getD-append-seam ds d [] noDef in
-        rw (q, e) (record {
-          laid = laid-same (sizesOf ds) (sizesOf (ds ++ d ∷ [])) (length ds) (sizes-stay ds d) _ _ (n .laid);
-          most = n .most;
-          long = n .long;
-          short = n .short;
-          string = n .string;
-        })
+    stays : {x : Def} (i : ℕ) → ((k : ℕ) → k < i → sizesOf ds k ≡ sizesOf (ds ++ d ∷ []) k)
+        → WellMade (sizesOf ds) i x → WellMade (sizesOf (ds ++ d ∷ [])) i x
+    stays i same m =
+        record {
+          laid = laid-same (sizesOf ds) (sizesOf (ds ++ d ∷ [])) i same _ _ (m .laid);
+          most = m .most;
+          string = m .string;
+        }

@@ -13,17 +13,14 @@ use Rattle.types.specs.declared.checks.Checked.the-variants.{Good, NameW
 use Rattle.types.specs.declared.ids.Picked.{Picked}
 use Rattle.types.specs.declared.ids.Picked.the-variants.{Free, OutsideRange, InUse, NoneFree}
 use Rattle.types.specs.declared.layout.Decl.{Decl}
-use Rattle.types.specs.declared.measure.Measured.{Measured}
-use Rattle.types.specs.declared.measure.Measured.the-variants.{Laid, AccessWrong as accessWrong, TooFar as tooFar}
 use Rattle.types.specs.declared.member.StructKind.{StructKind}
-use Rattle.types.specs.declared.member.StructKind.the-variants.{Udt, Str, Aoi}
+use Rattle.types.specs.declared.member.StructKind.the-variants.{Str}
 use Rattle.types.specs.declared.used.Turn.{Turn}
 use Rattle.types.specs.declared.used.Turn.the-variants.{Waits, Refused, Added}
 use Rattle.types.specs.declared.used.Used.{Used}
 use Rattle.types.specs.Book.{typeEntry}
 use Rattle.types.specs.Checks.{checked, entriesFrom, EntriesInside}
 use Rattle.types.specs.Defs.{Part, Def, nameIn}
-use Rattle.types.specs.Digits.{hostName}
 use Rattle.types.specs.Handle.{handleOf}
 use Rattle.types.specs.Ids.{idWord, idFor}
 use Rattle.types.specs.Laid.{Earlier}
@@ -32,8 +29,7 @@ use Rattle.types.specs.Names.{goodName}
 use Rattle.types.specs.Registry.{View, idAt, ownNames, headOf, usedMore}
 use Rattle.types.specs.Resolve.{isFound}
 use Rattle.types.specs.Said.{Why, whyOf}
-use Rattle.types.specs.Structs.{rowsOf, namedIn, sizeAt, udtStart, udtParts, aoiParts, measured}
-use Rattle.types.specs.Structs.{measuredAoi}
+use Rattle.types.specs.Structs.{rowsOf, namedIn, LaidOut, laid, stopped, sizeAt, layoutOf, laidKind}
 use Rattle.types.specs.Structs.{stringParts, stringSize}
 use Rattle.types.specs.Tables.{typeRow, tyOf}
 use Rattle.types.specs.Template.{templateOf}
@@ -72,20 +68,14 @@ fitted v i d = cond (hasRoom (usedIn v) (length (d .parts)) (length (ownNames d)
 
 -- ---- 11, 12
 
-abbrev pub onMeasured : Measured → ℕ → (ℕ → Verdict) → Verdict
-onMeasured (Laid c n) i k = k (sizeAt c)
-onMeasured accessWrong i k = no (11, i)
-onMeasured tooFar i k = no (12, i)
+abbrev pub onLaid : LaidOut → ℕ → (List Part → ℕ → Verdict) → Verdict
+onLaid (laid parts c) i k = k parts (sizeAt c)
+onLaid (stopped number) i k = no (number, i)
 
-unfoldable pub addUdt : View → List ℕ → ℕ → List ℕ → ℕ → List Decl → Verdict
-addUdt v book i name id ds =
-    onMeasured (measured (hostName name) udtStart 0 ds) i
-    (λ size. fitted v i (newDef v name id size Udt (udtParts (namedIn book) name ds)))
-
-unfoldable pub addAoi : View → List ℕ → ℕ → List ℕ → ℕ → List Decl → Verdict
-addAoi v book i name id ds =
-    onMeasured (measuredAoi name ds) i
-    (λ size. fitted v i (newDef v name id size Aoi (aoiParts (namedIn book) name ds)))
+unfoldable pub addLaid : View → List ℕ → ℕ → Bool → List ℕ → ℕ → List Decl → Verdict
+addLaid v book i aoi name id ds =
+    onLaid (layoutOf aoi (namedIn book) name ds) i
+    (λ parts size. fitted v i (newDef v name id size (laidKind aoi) parts))
 
 -- ---- per member 2, 8, 9
 
@@ -108,8 +98,7 @@ hasId e = leb 4 (e .flags)
 -- the entries of n members begin at a place; all are checked, then they are laid out
 unfoldable pub addMembers : View → List ℕ → ℕ → ℕ → ℕ → Bool → List ℕ → ℕ → List Decl → Verdict
 addMembers v book i at n aoi name id ds =
-    onChecked (checked book aoi [] (entriesFrom book at 0 n)) i
-    (cond aoi (addAoi v book i name id ds) (addUdt v book i name id ds))
+    onChecked (checked book aoi [] (entriesFrom book at 0 n)) i (addLaid v book i aoi name id ds)
 
 -- ---- 7
 

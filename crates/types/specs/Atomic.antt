@@ -14,6 +14,7 @@ use Rattle.types.specs.declared.atomic.AtomicRow.{AtomicRow}
 use Rattle.types.specs.declared.atomic.FoundAtomic.{FoundAtomic}
 use Rattle.types.specs.declared.atomic.FoundAtomic.the-variants.{Is, Nothing}
 use Rattle.types.specs.Names.{sameName}
+use Rattle.types.specs.Said.{Said, done, refused}
 
 -- the fifteen, in order
 abbrev pub atomics : List Atomic
@@ -55,6 +56,10 @@ sizes = 1 ∷ 1 ∷ 2 ∷ 4 ∷ 8 ∷ 1 ∷ 2 ∷ 4 ∷ 8 ∷ 4 ∷ 8 ∷ 1 ∷ 
 
 unfoldable pub codeOf : Atomic → ℕ
 codeOf a = getD codes (numOf a) 0
+
+-- the code of the atomic at a place, BOOL's past the last
+unfoldable pub codeAt : ℕ → ℕ
+codeAt i = getD codes i 0xC1
 
 unfoldable pub sizeOf : Atomic → ℕ
 sizeOf a = getD sizes (numOf a) 0
@@ -105,5 +110,22 @@ firstOf p (a ∷ rest) = cond (p a) (Is a) (firstOf p rest)
 unfoldable pub atomicNamed : List ℕ → FoundAtomic
 atomicNamed s = firstOf (λ a. sameName (nameOf a) s) atomics
 
-unfoldable pub atomicCoded : ℕ → FoundAtomic
-atomicCoded c = firstOf (λ a. eqb (codeOf a) c) atomics
+-- ---- the answers, in codes
+
+-- what an answer says: the atomic's code, or that no type is such
+abbrev pub saidBy : FoundAtomic → Said ℕ
+saidBy (Is a) = done (codeOf a)
+saidBy Nothing = refused 15 0
+
+-- the code of the first atomic of a list that passes a test
+unfoldable pub firstCode : (Atomic → Bool) → List Atomic → Said ℕ
+firstCode p [] = refused 15 0
+firstCode p (a ∷ rest) = cond (p a) (done (codeOf a)) (firstCode p rest)
+
+-- the code of a name, without ASCII case
+unfoldable pub codeNamed : List ℕ → Said ℕ
+codeNamed s = firstCode (λ a. sameName (nameOf a) s) atomics
+
+-- a code, where an atomic has it
+unfoldable pub codeGiven : ℕ → Said ℕ
+codeGiven c = firstCode (λ a. eqb (codeOf a) c) atomics

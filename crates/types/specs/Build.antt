@@ -8,6 +8,7 @@ use lib.Dec.{eqb}
 use lib.ListN.{length, getD}
 use Rattle.types.specs.declared.building.Built.{Built}
 use Rattle.types.specs.declared.building.Built.the-variants.{Types, Refused}
+use Rattle.types.specs.declared.predefined.PredefinedIds.{PredefinedIds}
 use Rattle.types.specs.Book.{typesIn, membersIn, bookOk}
 use Rattle.types.specs.Defs.{Def}
 use Rattle.types.specs.Predefined.{predefinedIds, predefined}
@@ -20,10 +21,10 @@ use Rattle.types.specs.Turns.{roundsFrom}
 
 -- ---- the whole
 
-unfoldable pub buildOf : ℕ → ℕ → ℕ → ℕ → List ℕ → Answer (List Def) Why
-buildOf timer counter control string book =
-    cond (predefinedIds timer counter control string)
-    (cond (bookOk book) (roundsFrom book (predefined timer counter control string)) (refused (1, 0)))
+unfoldable pub buildOf : PredefinedIds → List ℕ → Answer (List Def) Why
+buildOf ids book =
+    cond (predefinedIds ids)
+    (cond (bookOk book) (roundsFrom book (predefined ids)) (refused (1, 0)))
     (refused (22, 0))
 
 -- what an answer says: how many types there are, or a refusal
@@ -89,10 +90,10 @@ pub record Scratch (book tys done stuck tried : List ℕ) : Type 0 where
   pub untried : (k : ℕ) → getD tried k 0 ≡ 0
 
 -- what the rounds ask: a good book of t types, good ids, tables of no types, and a scratch
-pub record RunIn (book : List ℕ) (t timer counter control string : ℕ)
+pub record RunIn (book : List ℕ) (t : ℕ) (ids : PredefinedIds)
     (types members names tys done stuck tried : List ℕ) : Type 0 where
   pub okay : bookOk book ≡ true
   pub is : t ≡ typesIn book
-  pub ids : predefinedIds timer counter control string ≡ true
+  pub allowed : predefinedIds ids ≡ true
   pub cleared : Cleared types members names
   pub scratch : Scratch book tys done stuck tried

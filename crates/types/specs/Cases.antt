@@ -11,8 +11,6 @@ use Rattle.types.specs.declared.atomic.Atomic.the-variants.{Bool as BOOL
 use Rattle.types.specs.declared.layout.Cursor.{Cursor}
 use Rattle.types.specs.declared.layout.Decl.{Decl}
 use Rattle.types.specs.declared.layout.Placed.{Placed}
-use Rattle.types.specs.declared.measure.Measured.{Measured}
-use Rattle.types.specs.declared.measure.Measured.the-variants.{Laid, AccessWrong, TooFar}
 use Rattle.types.specs.declared.member.Bit.{Bit}
 use Rattle.types.specs.declared.member.Bit.the-variants.{None, At}
 use Rattle.types.specs.declared.member.Member.{Member}
@@ -21,13 +19,12 @@ use Rattle.types.specs.declared.member.Ty.the-variants.{Atomic}
 use Rattle.words.specs.Words.{bytesOf}
 use Rattle.types.specs.Atomic.{codeOf, sizeOf}
 use Rattle.types.specs.Defs.{Part, Def}
-use Rattle.types.specs.Digits.{hostName}
 use Rattle.types.specs.Entries.{boolArray, storedTy, storedCount, resolved}
 use Rattle.types.specs.Handle.{foldFrom}
 use Rattle.types.specs.Layout.{accessOk, isBool, alignUp, times, boolAt, otherAt, opened, nextBit, closed}
-use Rattle.types.specs.Layout.{startOf, endOf, placeBool, placeOther, placed}
-use Rattle.types.specs.Structs.{partsFrom, measured, sizeAt, udtStart, udtParts, bools, aoiHosts, hostParts}
-use Rattle.types.specs.Structs.{aoiParts, stringSize}
+use Rattle.types.specs.Layout.{startOf, memberEnd, placeBool, placeOther, placed}
+use Rattle.types.specs.Structs.{LaidOut, laid, stopped, layoutFrom, sizeAt, udtLayout, bools, aoiHosts, hostParts}
+use Rattle.types.specs.Structs.{aoiLayout, stringSize}
 use Rattle.types.specs.Template.{infoBytes, infos, userId, shownName, memberNames, padding, memberIds}
 use Rattle.types.specs.Template.{frontOf, templateOf}
 use Rattle.types.specs.Waste.{visibleBits, wasteOf}
@@ -50,102 +47,107 @@ boolDim dim = declared BOOL dim
 
 -- what a case opens to compute one step
 unfoldable pub step : Cursor → Decl → Placed
-unfolding placed accessOk isBool placeBool placeOther opened nextBit closed startOf endOf alignUp times declared
+unfolding placed accessOk isBool placeBool placeOther opened nextBit closed startOf memberEnd alignUp times declared
 step c d = placed c d
 
-unfoldable pub udt : List Decl → List Part
-unfolding udtParts partsFrom step
-udt ds = udtParts (λ d. []) [] ds
+unfoldable pub udt : List Decl → LaidOut
+unfolding udtLayout layoutFrom step
+udt ds = udtLayout (λ d. []) [] ds
 
-unfoldable pub aoi : List Decl → List Part
-unfolding aoiParts aoiHosts bools hostParts partsFrom step
-aoi ds = aoiParts (λ d. []) [] ds
+unfoldable pub aoi : List Decl → LaidOut
+unfolding aoiLayout aoiHosts bools hostParts layoutFrom step
+aoi ds = aoiLayout (λ d. []) [] ds
 
--- the size, if the layout is not refused
-abbrev pub sizeIf : Measured → Option ℕ
-sizeIf (Laid c n) = some (sizeAt c)
-sizeIf AccessWrong = none
-sizeIf TooFar = none
+-- the size and the parts, if the layout is not refused
+abbrev pub sizeIf : LaidOut → Option ℕ
+sizeIf (laid parts c) = some (sizeAt c)
+sizeIf (stopped number) = none
 
-unfoldable pub udtSize : List Decl → Option ℕ
-unfolding measured step
-udtSize ds = sizeIf (measured (hostName []) udtStart 0 ds)
+abbrev pub partsIf : LaidOut → List Part
+partsIf (laid parts c) = parts
+partsIf (stopped number) = []
 
 -- where the hidden parts lie: the hosts
-unfoldable pub hostsAt : List Part → List ℕ
-hostsAt [] = []
-hostsAt (p ∷ ps) = cond (p .member .hidden) (p .member .offset ∷ hostsAt ps) (hostsAt ps)
+unfoldable pub hostsOf : List Part → List ℕ
+hostsOf [] = []
+hostsOf (p ∷ ps) = cond (p .member .hidden) (p .member .offset ∷ hostsOf ps) (hostsOf ps)
+
+abbrev pub hostsAt : LaidOut → List ℕ
+hostsAt l = hostsOf (partsIf l)
 
 -- the visible members
-unfoldable pub visible : List Part → List Member
-visible [] = []
-visible (p ∷ ps) = cond (p .member .hidden) (visible ps) (p .member ∷ visible ps)
+unfoldable pub visibleOf : List Part → List Member
+visibleOf [] = []
+visibleOf (p ∷ ps) = cond (p .member .hidden) (visibleOf ps) (p .member ∷ visibleOf ps)
+
+abbrev pub visible : LaidOut → List Member
+visible l = visibleOf (partsIf l)
 
 -- ---- UDT
 
-pub no-members : udtSize [] ≡ some 0
-unfolding udtSize
+pub no-members : sizeIf (udt []) ≡ some 0
+unfolding udt
 no-members = refl
 
 -- eight BOOLs: one host
 pub eight-bools : hostsAt (udt (replicate 8 bool)) ≡ 0 ∷ []
-unfolding udt hostsAt
+unfolding udt hostsOf
 eight-bools = refl
 
 -- nine: hosts at 0 and 1, 11 members, size 4
 pub nine-bools : hostsAt (udt (replicate 9 bool)) ≡ 0 ∷ 1 ∷ []
-unfolding udt hostsAt
+unfolding udt hostsOf
 nine-bools = refl
 
-pub nine-members : length (udt (replicate 9 bool)) ≡ 11
+pub nine-members : length (partsIf (udt (replicate 9 bool))) ≡ 11
 unfolding udt
 nine-members = refl
 
-pub nine-size : udtSize (replicate 9 bool) ≡ some 4
-unfolding udtSize
+pub nine-size : sizeIf (udt (replicate 9 bool)) ≡ some 4
+unfolding udt
 nine-size = refl
 
 -- BOOL, SINT, BOOL: hosts at 0 and 2, SINT at 1
 pub between-hosts : hostsAt (udt (bool ∷ sint ∷ bool ∷ [])) ≡ 0 ∷ 2 ∷ []
-unfolding udt hostsAt
+unfolding udt hostsOf
 between-hosts = refl
 
 pub between : visible (udt (bool ∷ sint ∷ bool ∷ [])) ≡ boolAt bool 0 0 ∷ otherAt sint 1 ∷ boolAt bool 2 0 ∷ []
-unfolding udt visible
+unfolding udt visibleOf
 between = refl
 
 -- BOOL dim 32: one DWORD
 pub dim-32 : visible (udt (boolDim 32 ∷ [])) ≡ otherAt (declared DWord 1) 0 ∷ []
-unfolding udt visible
+unfolding udt visibleOf
 dim-32 = refl
 
 -- dim 33: two, size 8
 pub dim-33 : visible (udt (boolDim 33 ∷ [])) ≡ otherAt (declared DWord 2) 0 ∷ []
-unfolding udt visible
+unfolding udt visibleOf
 dim-33 = refl
 
-pub dim-33-size : udtSize (boolDim 33 ∷ []) ≡ some 8
-unfolding udtSize
+pub dim-33-size : sizeIf (udt (boolDim 33 ∷ [])) ≡ some 8
+unfolding udt
 dim-33-size = refl
 
 -- ---- AOI
 
 -- 30 BOOLs: one host, last at byte 3 bit 7
 pub thirty-bools : hostsAt (aoi (replicate 30 bool)) ≡ 0 ∷ []
-unfolding aoi hostsAt
+unfolding aoi hostsOf
 thirty-bools = refl
 
 pub thirty-last : getLast? (visible (aoi (replicate 30 bool))) ≡ some (boolAt bool 3 7)
-unfolding aoi visible
+unfolding aoi visibleOf
 thirty-last = refl
 
 -- 31: two, last at byte 4 bit 0
 pub thirty-one-bools : hostsAt (aoi (replicate 31 bool)) ≡ 0 ∷ 4 ∷ []
-unfolding aoi hostsAt
+unfolding aoi hostsOf
 thirty-one-bools = refl
 
 pub thirty-one-last : getLast? (visible (aoi (replicate 31 bool))) ≡ some (boolAt bool 4 0)
-unfolding aoi visible
+unfolding aoi visibleOf
 thirty-one-last = refl
 
 -- ---- strings

@@ -4,7 +4,7 @@ use Prim.Native.Nat.{ℕ, zero, suc, _+_, _*_, _<_, _≤_}
 use mathlib.Core.Path.{_≡_}
 use mathlib.Core.Bool.{Bool, false, cond, _&&_, _||_}
 use mathlib.Core.List.{List, [], _∷_}
-use lib.Dec.{eqb, leb, ltb}
+use lib.Dec.{eqb, leb}
 use lib.ListN.{getD}
 use Rattle.types.specs.declared.ids.Picked.{Picked}
 use Rattle.types.specs.declared.ids.Picked.the-variants.{Free, OutsideRange, InUse, NoneFree}
@@ -17,7 +17,7 @@ idWord types i = getD types (8 * i + 2) 0
 abbrev pub Held : List ℕ → ℕ → ℕ → Type 0
 Held types n id = (i : ℕ) × (i < n) × (idWord types i ≡ id)
 
--- each id below r is held, and r is not; 0xF00 where every id is held
+-- in code: each id below r is held, and r is not; 0xF00 where every id is held
 pub record Lowest (types : List ℕ) (n r : ℕ) : Type 0 where
   pub low : 0x100 ≤ r
   pub high : r ≤ 0xF00
@@ -30,16 +30,17 @@ unfoldable pub inUse : ℕ → List ℕ → Bool
 inUse id [] = false
 inUse id (x ∷ xs) = eqb x id || inUse id xs
 
--- the first of m ids from k on that is free, k + m where each is held
-unfoldable pub lowestFrom : List ℕ → ℕ → ℕ → ℕ
-lowestFrom ids k zero = k
-lowestFrom ids k (suc m) = cond (inUse k ids) (lowestFrom ids (k + 1) m) k
+-- the first of m ids from k on that is free, if one is
+unfoldable pub lowestFrom : List ℕ → ℕ → ℕ → Picked
+lowestFrom ids k zero = NoneFree
+lowestFrom ids k (suc m) = cond (inUse k ids) (lowestFrom ids (k + 1) m) (Free k)
 
-unfoldable pub lowestFree : List ℕ → ℕ
+-- of the ids 0x100..0xEFF
+unfoldable pub lowestFree : List ℕ → Picked
 lowestFree ids = lowestFrom ids 0x100 0xE00
 
 -- a given id is outside 0x100..0xEFF (4) or in use (5); where none is given, none is free (6)
 unfoldable pub idFor : List ℕ → Bool → ℕ → Picked
 idFor ids given id =
     cond given (cond (leb 0x100 id && leb id 0xEFF) (cond (inUse id ids) InUse (Free id)) OutsideRange)
-    (cond (ltb (lowestFree ids) 0xF00) (Free (lowestFree ids)) NoneFree)
+    (lowestFree ids)

@@ -1,21 +1,19 @@
 -- The tables as our own calls left them (document 01, "What promises shut out"): all zero, or those of what a build
 -- accepted of some book and some ids. A promise may assume this, and only this.
-use Prim.Native.Nat.{ℕ, _<_, _≤_}
+use Prim.Native.Nat.{ℕ}
 use mathlib.Core.Path.{_≡_}
 use mathlib.Core.List.{List, []}
 use Rattle.words.specs.Words.{Bytes}
+use Rattle.types.specs.declared.predefined.PredefinedIds.{PredefinedIds}
 use Rattle.types.specs.Build.{buildOf}
 use Rattle.types.specs.Defs.{Def}
-use Rattle.types.specs.Listing.{Listable}
 use Rattle.types.specs.Registry.{typesTable, membersTable, namesTable}
 use Rattle.types.specs.Rounds.{accepted}
-use Rattle.types.specs.Tables.{typeAt}
 
 -- a registry that a build can leave: none yet, or one that it accepted
 pub data Made (ds : List Def) : Type 0 where
   none : ds ≡ [] → Made ds
-  built : (timer counter control string : ℕ) (book : List ℕ) → Bytes book
-      → buildOf timer counter control string book ≡ accepted ds → Made ds
+  built : (ids : PredefinedIds) (book : List ℕ) → Bytes book → buildOf ids book ≡ accepted ds → Made ds
 
 pub record Kept (types members names : List ℕ) : Type 0 where
   pub defs : List Def
@@ -37,8 +35,3 @@ pub record KeptTypes (types : List ℕ) : Type 0 where
   pub members : List ℕ
   pub names : List ℕ
   pub kept : Kept types members names
-
--- the first n types can be listed
-pub record Listed (types members : List ℕ) (n : ℕ) : Type 0 where
-  pub few : n ≤ 200
-  pub each : (i : ℕ) → i < n → Listable types members (typeAt types i)

@@ -18,6 +18,7 @@ use Rattle.types.specs.declared.member.Member.{Member}
 use Rattle.types.specs.declared.member.Ty.{Ty}
 use Rattle.types.specs.declared.member.Ty.the-variants.{Atomic, Struct}
 use Rattle.types.specs.Atomic.{numOf}
+use Rattle.types.specs.Said.{Said, done, refused}
 
 -- a count of 0 is one element
 unfoldable pub times : ℕ → ℕ
@@ -31,9 +32,14 @@ pub record Times (n r : ℕ) : Type 0 where
 abbrev pub most : ℕ
 most = 67108864
 
-unfoldable pub memberEnd : ℕ → ℕ → ℕ → End
+unfoldable pub memberEnd : ℕ → ℕ → ℕ → Said ℕ
 memberEnd offset size count =
-    cond (leb (offset + size * times count) most) (endAt (offset + size * times count)) Over
+    cond (leb (offset + size * times count) most) (done (offset + size * times count)) (refused 12 0)
+
+-- what an answer says
+abbrev pub saidBy : End → Said ℕ
+saidBy (endAt e) = done e
+saidBy Over = refused 12 0
 
 -- access 0, 2 or 3
 unfoldable pub accessOk : ℕ → Bool
@@ -101,19 +107,19 @@ closed Closed = Closed
 closed (Open byte bit) = Closed
 closed (Shared i) = Shared i
 
--- where any other member begins, and where it ends
+-- where any other member begins
 unfoldable pub startOf : Cursor → Decl → ℕ
 startOf c d = alignUp (c .offset) (d .align)
 
-unfoldable pub endOf : Cursor → Decl → ℕ
-endOf c d = startOf c d + d .size * times (d .count)
+abbrev pub onEnd : Said ℕ → (ℕ → Placed) → Placed
+onEnd (done e) k = k e
+onEnd (refused number place) k = TooFar
 
 -- any other member closes the host, is aligned, and must end at or below 2^26
 unfoldable pub placeOther : Cursor → Decl → Placed
 placeOther c d =
-    cond (leb (endOf c d) most)
-    (One (otherAt d (startOf c d)) (record { offset = endOf c d; host = closed (c .host); members = c .members + 1 }))
-    TooFar
+    onEnd (memberEnd (startOf c d) (d .size) (d .count))
+    (λ e. One (otherAt d (startOf c d)) (record { offset = e; host = closed (c .host); members = c .members + 1 }))
 
 -- one declared member: first its access, then a BOOL (dim 0) or any other
 unfoldable pub placed : Cursor → Decl → Placed

@@ -3,6 +3,7 @@ pub mod Atomic
 pub mod Entries
 pub mod Defs
 pub mod Digits
+pub mod Given
 pub mod Handle
 pub mod Header
 pub mod Ids
@@ -12,6 +13,7 @@ pub mod Listing
 pub mod Lookup
 pub mod Names
 pub mod Order
+pub mod Passes
 pub mod Pieces
 pub mod Refusal
 pub mod Said
@@ -23,6 +25,7 @@ pub mod Structs
 pub mod Tables
 pub mod Template
 pub mod Waste
+pub mod Bits
 pub mod Book
 pub mod Checks
 pub mod Cases

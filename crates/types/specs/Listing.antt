@@ -2,8 +2,9 @@
 -- refusal. Numbers are decimal without leading zeros; no number of 64 bits has more digits than `digits` gives.
 use Prim.Native.Nat.{ℕ, _+_, _<_, _≤_}
 use mathlib.Core.Path.{_≡_}
-use mathlib.Core.Bool.{Bool, true, false}
+use mathlib.Core.Bool.{Bool, true, false, _&&_}
 use mathlib.Core.List.{List, [], _∷_, _++_}
+use lib.Dec.{ltb}
 use lib.ListN.{length, drop}
 use lib.Seq.{sets}
 use Rattle.types.specs.declared.listing.Decimal.{Decimal}
@@ -18,7 +19,7 @@ use Rattle.types.specs.Atomic.{nameOf}
 use Rattle.types.specs.Defs.{nameIn}
 use Rattle.types.specs.Digits.{digits}
 use Rattle.types.specs.Tables.{memberAt, nameAt, typeAt}
-use Rattle.types.specs.Template.{templateIn}
+use Rattle.types.specs.Template.{hasTemplate, templateIn}
 use Rattle.types.specs.Waste.{Countable, wasteIn}
 
 -- ---- lines
@@ -96,6 +97,10 @@ memberLineIn types members names row number =
     memberLine number (typeName (structNames types names) (memberAt members row .ty)) (memberAt members row)
     (nameIn names (nameAt members row))
 
+-- the type with a number is there, and has a k-th member
+unfoldable pub hasMember : List ℕ → ℕ → ℕ → Bool
+hasMember types i k = hasTemplate types (Struct i) && ltb k (typeAt types i .count)
+
 -- ---- what the functions ask and promise
 
 -- a name that lies inside the names, and is short enough for a line of 512 bytes
@@ -131,6 +136,7 @@ pub record Added (s : List ℕ) (at : ℕ) (out : List ℕ) (r : ℕ) (left : Li
 -- a line was put at a buffer's start: its length, and what the buffer then holds
 pub record Lined (s out : List ℕ) (r : ℕ) (left : List ℕ) : Type 0 where
   pub long : r ≡ length s
+  pub room : length s ≤ length out
   pub bytes : left ≡ sets out 0 s
 
 -- a number's digits, as code has them

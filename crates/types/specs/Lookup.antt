@@ -8,11 +8,13 @@ use Rattle.types.specs.declared.atomic.FoundAtomic.{FoundAtomic}
 use Rattle.types.specs.declared.atomic.FoundAtomic.the-variants.{Is as found, Nothing as none}
 use Rattle.types.specs.declared.lookups.FoundTy.{FoundTy}
 use Rattle.types.specs.declared.lookups.FoundTy.the-variants.{Is, Nothing}
+use Rattle.types.specs.declared.member.Ty.{Ty}
 use Rattle.types.specs.declared.member.Ty.the-variants.{Atomic, Struct}
-use Rattle.types.specs.Atomic.{atomicNamed}
+use Rattle.types.specs.Atomic.{atomicNamed, codeNamed, codeOf}
 use Rattle.types.specs.Book.{listFrom}
 use Rattle.types.specs.Defs.{nameIn}
 use Rattle.types.specs.Names.{sameName}
+use Rattle.types.specs.Said.{Said, done, refused}
 use Rattle.types.specs.Tables.{typeAt}
 
 -- the name of the structure in a row
@@ -39,6 +41,33 @@ rowNames types names n = listFrom (rowName types names) 0 n
 
 abbrev pub typeOf : List ℕ → List ℕ → ℕ → List ℕ → FoundTy
 typeOf types names n s = typeAmong (rowNames types names n) s
+
+-- ---- the answer of a search, in words
+
+-- a type's word: an atomic's code, or 0x8000 plus a structure's number
+abbrev pub wordOf : Ty → ℕ
+wordOf (Atomic a) = codeOf a
+wordOf (Struct n) = 0x8000 + n
+
+-- what an answer says: the type's word, or that there is no such type
+abbrev pub saidBy : FoundTy → Said ℕ
+saidBy (Is ty) = done (wordOf ty)
+saidBy Nothing = refused 15 0
+
+-- the word of the first structure with a name; the structures are numbered from i on
+unfoldable pub numberAmong : List (List ℕ) → List ℕ → ℕ → Said ℕ
+numberAmong [] s i = refused 15 0
+numberAmong (x ∷ xs) s i = cond (sameName x s) (done (0x8000 + i)) (numberAmong xs s (i + 1))
+
+abbrev pub orElse : Said ℕ → Said ℕ → Said ℕ
+orElse (done c) other = done c
+orElse (refused number place) other = other
+
+-- the word of a name: an atomic's, else the first structure's
+unfoldable pub wordAmong : List (List ℕ) → List ℕ → Said ℕ
+wordAmong known s = orElse (codeNamed s) (numberAmong known s 0)
+
+-- ---- what the functions ask and find
 
 -- a name is no atomic's, and none of the first n names is the same
 pub record Unseen (known : List (List ℕ)) (s : List ℕ) (n : ℕ) : Type 0 where

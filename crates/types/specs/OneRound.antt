@@ -5,6 +5,7 @@ use mathlib.Core.Path.{_≡_}
 use mathlib.Core.Bool.{true}
 use mathlib.Core.List.{List}
 use lib.ListN.{length}
+use Rattle.types.specs.declared.predefined.PredefinedIds.{PredefinedIds}
 use Rattle.types.specs.declared.round.Round.{Round}
 use Rattle.types.specs.declared.round.Round.the-variants.{Refused, Went}
 use Rattle.types.specs.declared.used.Used.{Used}
@@ -24,8 +25,7 @@ roundIn book ds ws = round stuckAt (readyIn book) (addIn book) ds ws
 
 -- a registry that rounds over a book can reach: the predefined types under good ids, then types of the book
 pub data Reached (book : List ℕ) : List Def → Type 0 where
-  first : (timer counter control string : ℕ) → predefinedIds timer counter control string ≡ true
-      → Reached book (predefined timer counter control string)
+  first : (ids : PredefinedIds) → predefinedIds ids ≡ true → Reached book (predefined ids)
   more : (ds ds′ : List Def) (i : ℕ) → Reached book ds → addIn book ds i ≡ ok ds′ → Reached book ds′
 
 -- what a round asks: a good book of t types; tables of a registry that rounds reach, of which so much is used; a flag

@@ -1,23 +1,17 @@
 -- Orderings of a book (document 01, "Order of building"): all its types, each once, in an order in which every member
 -- type is atomic, there at the start, as the predefined types are, or earlier.
 use Prim.Native.Nat.{ℕ}
-use mathlib.Core.Bool.{Bool}
 use mathlib.Core.List.{List}
 use Rattle.types.specs.Book.{typesIn, typeEntry}
 use Rattle.types.specs.Defs.{Def, nameIn}
-use Rattle.types.specs.Lookup.{typeAmong}
 use Rattle.types.specs.Order.{Ordered, Same}
 use Rattle.types.specs.Registry.{viewOf}
-use Rattle.types.specs.Resolve.{isFound}
+use Rattle.types.specs.Resolve.{hasName}
 use Rattle.types.specs.Turns.{usesOf, upFrom}
 
 -- the name of type i
 abbrev pub typeNamed : List ℕ → ℕ → List ℕ
 typeNamed book i = nameIn book (typeEntry book i .name)
-
--- an atomic has the name, or one of the types with the names K
-abbrev pub hasName : List (List ℕ) → List ℕ → Bool
-hasName K s = isFound (typeAmong K s)
 
 pub record Ordering (book : List ℕ) (start : List Def) (o : List ℕ) : Type 0 where
   pub same : Same o (upFrom 0 (typesIn book))

@@ -1,6 +1,6 @@
 -- The predefined types (document 01, "Layout", Predefined; "Order of building"; "What is ported": their ids): TIMER,
 -- COUNTER, CONTROL and STRING, added one after the other before the book's types, under the ids that the caller gives.
-use Prim.Native.Nat.{ℕ, _+_, _<_, _≤_}
+use Prim.Native.Nat.{ℕ, _+_, _/_, _<_, _≤_}
 use mathlib.Core.Path.{_≡_}
 use mathlib.Core.Bool.{Bool, not, _&&_}
 use mathlib.Core.List.{List, [], _∷_, _++_}
@@ -8,11 +8,13 @@ use lib.Dec.{eqb, leb}
 use lib.ListN.{length}
 use Rattle.types.specs.declared.member.StructKind.{StructKind}
 use Rattle.types.specs.declared.member.StructKind.the-variants.{Predefined, Str}
+use Rattle.types.specs.declared.predefined.PredefinedIds.{PredefinedIds}
 use Rattle.types.specs.declared.used.Used.{Used}
 use Rattle.types.specs.Add.{newDef, Usable}
 use Rattle.types.specs.Defs.{Part, Def}
 use Rattle.types.specs.Registry.{viewOf}
-use Rattle.types.specs.Structs.{timerParts, counterParts, controlTypeParts, stringParts, stringSize}
+use Rattle.types.specs.Structs.{namesOf, timerParts, counterParts, controlTypeParts, controlOf, stringParts}
+use Rattle.types.specs.Structs.{stringSize}
 use Rattle.types.specs.Template.{userId}
 
 -- ---- their ids
@@ -22,14 +24,16 @@ unfoldable pub predefinedId : ℕ → Bool
 predefinedId id = leb 1 id && leb id 0xFFF && not (userId id)
 
 -- no two are the same
-unfoldable pub distinct : ℕ → ℕ → ℕ → ℕ → Bool
-distinct a b c d =
-    not (eqb a b) && not (eqb a c) && not (eqb a d) && not (eqb b c) && not (eqb b d) && not (eqb c d)
+unfoldable pub distinct : PredefinedIds → Bool
+distinct ids =
+    not (eqb (ids .timer) (ids .counter)) && not (eqb (ids .timer) (ids .control))
+    && not (eqb (ids .timer) (ids .string)) && not (eqb (ids .counter) (ids .control))
+    && not (eqb (ids .counter) (ids .string)) && not (eqb (ids .control) (ids .string))
 
-unfoldable pub predefinedIds : ℕ → ℕ → ℕ → ℕ → Bool
-predefinedIds timer counter control string =
-    predefinedId timer && predefinedId counter && predefinedId control && predefinedId string
-    && distinct timer counter control string
+unfoldable pub predefinedIds : PredefinedIds → Bool
+predefinedIds ids =
+    predefinedId (ids .timer) && predefinedId (ids .counter) && predefinedId (ids .control)
+    && predefinedId (ids .string) && distinct ids
 
 -- ---- the types, one after the other
 
@@ -50,19 +54,18 @@ stringName = 83 ∷ 84 ∷ 82 ∷ 73 ∷ 78 ∷ 71 ∷ []
 abbrev pub added : List Def → List ℕ → ℕ → ℕ → StructKind → List Part → List Def
 added ds name id size kind parts = ds ++ newDef (viewOf ds) name id size kind parts ∷ []
 
-unfoldable pub withTimer : ℕ → List Def
-withTimer timer = added [] timerName timer 12 Predefined timerParts
+unfoldable pub withTimer : PredefinedIds → List Def
+withTimer ids = added [] timerName (ids .timer) 12 Predefined timerParts
 
-unfoldable pub withCounter : ℕ → ℕ → List Def
-withCounter timer counter = added (withTimer timer) counterName counter 12 Predefined counterParts
+unfoldable pub withCounter : PredefinedIds → List Def
+withCounter ids = added (withTimer ids) counterName (ids .counter) 12 Predefined counterParts
 
-unfoldable pub withControl : ℕ → ℕ → ℕ → List Def
-withControl timer counter control = added (withCounter timer counter) controlName control 12 Predefined controlTypeParts
+unfoldable pub withControl : PredefinedIds → List Def
+withControl ids = added (withCounter ids) controlName (ids .control) 12 Predefined controlTypeParts
 
 -- all four; STRING has capacity 82
-unfoldable pub predefined : ℕ → ℕ → ℕ → ℕ → List Def
-predefined timer counter control string =
-    added (withControl timer counter control) stringName string (stringSize 82) Str (stringParts 82)
+unfoldable pub predefined : PredefinedIds → List Def
+predefined ids = added (withControl ids) stringName (ids .string) (stringSize 82) Str (stringParts 82)
 
 -- ---- in the tables
 
@@ -74,3 +77,11 @@ pub record Ready (t m n : List ℕ) (u : Used) (parts long : ℕ) : Type 0 where
   pub few : u .types < 200
   pub rows : u .members + parts ≤ 2000
   pub bytes : u .bytes + long ≤ 32768
+
+-- and a control type with that name, and those names of its words and its bits
+pub record ControlReady (t m n : List ℕ) (u : Used) (name words bits : List ℕ) : Type 0 where
+  pub ready : Ready t m n u (3 + length bits / 2) (length name + 9 + length bits)
+  pub two : length words ≡ 6
+  pub few : length bits / 2 ≤ 32
+  pub parts : length (controlOf words bits) ≡ 3 + length bits / 2
+  pub long : length (name ++ namesOf (controlOf words bits)) ≡ length name + 9 + length bits

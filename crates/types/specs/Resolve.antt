@@ -2,7 +2,7 @@
 -- known. Each is found by its name; its word is kept for the layout.
 use Prim.Native.Nat.{ℕ, _+_, _*_, _<_, _≤_}
 use mathlib.Core.Path.{_≡_}
-use mathlib.Core.Bool.{Bool, true, false, _&&_}
+use mathlib.Core.Bool.{Bool, true, false}
 use mathlib.Core.List.{List, [], _∷_}
 use lib.ListN.{length}
 use lib.Seq.{sets}
@@ -26,10 +26,9 @@ abbrev pub isFound : FoundTy → Bool
 isFound (Is ty) = true
 isFound Nothing = false
 
--- each of the names is an atomic's or that of one of the known types
-unfoldable pub allKnown : List (List ℕ) → List (List ℕ) → Bool
-allKnown known [] = true
-allKnown known (s ∷ ss) = isFound (typeAmong known s) && allKnown known ss
+-- the name is an atomic's or that of one of the known types
+abbrev pub hasName : List (List ℕ) → List ℕ → Bool
+hasName known s = isFound (typeAmong known s)
 
 -- the words of the types with these names, up to the first that is not known
 abbrev pub thenWord : FoundTy → List ℕ → List ℕ

@@ -1,6 +1,6 @@
 -- Tag shapes (document 01, "Tag shape"): up to three lengths, none 0; BOOL with a length has one only, rounded up to
 -- 32s, stored as DWORDs; and the refusals 15, 23 and 24, in this order.
-use Prim.Native.Nat.{ℕ, _+_, _-_, _*_, _/_, _^_, _≤_, _<_}
+use Prim.Native.Nat.{ℕ, _+_, _-_, _*_, _/_, _^_}
 use mathlib.Core.Path.{_≡_}
 use mathlib.Core.Bool.{Bool, true, cond, not, _&&_}
 use mathlib.Core.List.{List, [], _∷_}
@@ -15,11 +15,13 @@ use Rattle.types.specs.declared.shape.Product.{Product}
 use Rattle.types.specs.declared.shape.Product.the-variants.{Is, Over}
 use Rattle.types.specs.declared.shape.Shape.{Shape}
 use Rattle.types.specs.declared.shape.Shaped.{Shaped}
+use Rattle.types.specs.declared.shape.Symbol.{Symbol}
+use Rattle.types.specs.declared.shape.Symbol.the-variants as symbol
 use Rattle.types.specs.Layout.{most, isBool, alignUp}
 use Rattle.types.specs.Said.{Said, done, why}
 use Rattle.types.specs.Said as say
-use Rattle.types.specs.Tables.{TyFits, typeAt}
-use Rattle.types.specs.Template.{typeIn, hasTemplate}
+use Rattle.types.specs.Tables.{TyFits}
+use Rattle.types.specs.Template.{typeIn, idsIn, hasTemplate}
 use Rattle.types.specs.Waste.{sizeIn, sizesIn}
 
 -- what is said, and the shape beside it
@@ -105,6 +107,17 @@ shapeOf types ty ns =
 abbrev pub symbolOf : (ℕ → ℕ) → Ty → ℕ → ℕ
 symbolOf ids ty used = typeIn ids ty + 8192 * used
 
+-- what an answer says: the symbol type, or a refusal
+abbrev pub symbolSays : Symbol → Said ℕ
+symbolSays (symbol.Type w) = done w
+symbolSays (symbol.Refused r) = why r
+
+-- the symbol type of a shape that a caller hands in
+unfoldable pub symbolFor : List ℕ → Ty → ℕ → Said ℕ
+symbolFor types ty used =
+    cond (isThere types ty) (cond (leb used 3) (done (symbolOf (idsIn types) ty used)) (say.refused 23 0))
+    (say.refused 15 0)
+
 -- ---- what the code's steps ask and give
 
 -- the product, where 64 bits hold it
@@ -115,14 +128,3 @@ productOf ns = cond (leb (product ns) (2 ^ 64 - 1)) (Is (product ns)) Over
 pub record Plain (t : Ty) (ns : List ℕ) : Type 0 where
   pub ty : TyFits t
   pub lengths : noneZero ns ≡ true
-
--- a structure's id is below 0x1000
-abbrev pub IdFits : List ℕ → Ty → Type 0
-IdFits types (Atomic a) = Unit {0}
-IdFits types (Struct n) = typeAt types n .id < 0x1000
-
--- a shape as `tag_shape` gives it, over a table whose ids are below 0x1000 (`ShapeLaws.shape-symbolic`)
-pub record Symbolic (types : List ℕ) (s : Shape) : Type 0 where
-  pub ty : TyFits (s .ty)
-  pub id : IdFits types (s .ty)
-  pub used : s .used ≤ 3

@@ -88,6 +88,36 @@ typeAt t i =
       count = getD t (8 * i + 7) 0;
     }
 
+-- ---- what a row says, in words: every word reads as something
+
+-- below 0x8000 and above 14 as BOOL's
+unfoldable pub tyRead : ℕ → ℕ
+tyRead w = cond (ltb w 0x8000) (cond (ltb w 15) w 0) w
+
+-- above 8 as one of the eight bits
+unfoldable pub bitRead : ℕ → ℕ
+bitRead w = cond (eqb w 0) 0 ((w - 1) % 8 + 1)
+
+-- above 3 as a UDT's
+unfoldable pub kindRead : ℕ → ℕ
+kindRead w = cond (ltb w 4) w 0
+
+-- a member, after its name's place; and the row that holds it
+unfoldable pub memberSays : Member → List ℕ
+memberSays m =
+    tyWord (m .ty) ∷ m .count ∷ m .offset ∷ bitWord (m .bit) ∷ flagsOf (m .hidden) (m .local) ∷ m .access ∷ []
+
+unfoldable pub memberSaid : List ℕ → ℕ → List ℕ
+memberSaid t row =
+    tyRead (getD t (8 * row + 2) 0) ∷ getD t (8 * row + 3) 0 ∷ getD t (8 * row + 4) 0
+    ∷ bitRead (getD t (8 * row + 5) 0) ∷ getD t (8 * row + 6) 0 % 4 ∷ getD t (8 * row + 7) 0 % 256 ∷ []
+
+-- a structure says its row's words; and the row that holds it
+unfoldable pub typeSaid : List ℕ → ℕ → List ℕ
+typeSaid t i =
+    getD t (8 * i) 0 ∷ getD t (8 * i + 1) 0 ∷ getD t (8 * i + 2) 0 % 65536 ∷ getD t (8 * i + 3) 0 % 65536
+    ∷ getD t (8 * i + 4) 0 ∷ kindRead (getD t (8 * i + 5) 0) ∷ getD t (8 * i + 6) 0 ∷ getD t (8 * i + 7) 0 ∷ []
+
 -- ---- a row of zeros: one that is not in use, and one past a table's end
 
 abbrev pub noName : Span

@@ -1,12 +1,10 @@
--- Templates (document 01, "Template and handle"): a template's bytes, its length in a controller's words, and what a
--- caller who asks for one gets.
+-- Templates (document 01, "Template and handle"): a template's bytes, its length, also in a controller's words, and
+-- which types have one.
 use Prim.Native.Nat.{ℕ, zero, suc, _+_, _-_, _*_, _/_, _%_}
-use mathlib.Core.Path.{_≡_}
 use mathlib.Core.Bool.{Bool, false, cond, not, _&&_}
 use mathlib.Core.List.{List, [], _∷_, _++_}
 use lib.Dec.{eqb, leb, ltb}
 use lib.ListN.{length, replicate}
-use lib.Seq.{sets}
 use Rattle.words.specs.Words.{bytesOf}
 use Rattle.types.specs.declared.member.Bit.{Bit}
 use Rattle.types.specs.declared.member.Bit.the-variants.{None, At}
@@ -16,11 +14,9 @@ use Rattle.types.specs.declared.member.StructKind.{StructKind}
 use Rattle.types.specs.declared.member.StructKind.the-variants.{Udt, Predefined, Str, Aoi}
 use Rattle.types.specs.declared.member.Ty.{Ty}
 use Rattle.types.specs.declared.member.Ty.the-variants.{Atomic, Struct}
-use Rattle.types.specs.declared.templates.Wrote.{Wrote}
-use Rattle.types.specs.declared.templates.Wrote.the-variants.{Length, Refused}
 use Rattle.types.specs.Atomic.{codeOf}
 use Rattle.types.specs.Defs.{Part, Def, defOf}
-use Rattle.types.specs.Said.{Said, done, refused, why}
+use Rattle.types.specs.Said.{Said, done, refused}
 use Rattle.types.specs.Tables.{typeAt}
 
 -- bit number, else the low 16 bits of the count
@@ -104,20 +100,7 @@ abbrev pub templateFor : List ℕ → List ℕ → List ℕ → Ty → List ℕ
 templateFor types members names (Atomic a) = []
 templateFor types members names (Struct n) = templateIn types members names (typeAt types n)
 
--- the length of a template t that there is, or not, in a buffer; and what the buffer then holds
-unfoldable pub templateAnswer : Bool → List ℕ → List ℕ → Said ℕ
-templateAnswer there t out =
-    cond there (cond (leb (length t) (length out)) (done (length t)) (refused 16 0)) (refused 15 0)
-
-unfoldable pub templateLeaves : Bool → List ℕ → List ℕ → List ℕ
-templateLeaves there t out = cond (there && leb (length t) (length out)) (sets out 0 t) out
-
--- what an answer says
-abbrev pub saidBy : Wrote → Said ℕ
-saidBy (Length n) = done n
-saidBy (Refused r) = why r
-
--- what a caller who asks for a type's template gets
-pub record Answered (types members names : List ℕ) (ty : Ty) (out : List ℕ) (r : Wrote) (left : List ℕ) : Type 0 where
-  pub is : saidBy r ≡ templateAnswer (hasTemplate types ty) (templateFor types members names ty) out
-  pub bytes : left ≡ templateLeaves (hasTemplate types ty) (templateFor types members names ty) out
+-- the length of the template of the structure with a number; 15 where there is none
+unfoldable pub templateLength : List ℕ → List ℕ → List ℕ → ℕ → Said ℕ
+templateLength types members names n =
+    cond (hasTemplate types (Struct n)) (done (length (templateFor types members names (Struct n)))) (refused 15 0)

@@ -21,7 +21,8 @@ use Rattle.types.specs.Defs.{Def, nameIn}
 use Rattle.types.specs.Entries.{declared}
 use Rattle.types.specs.Lookup.{rowNames, typeAmong, Unseen}
 use Rattle.types.specs.Registry.{View, sizeAt, viewOf}
-use Rattle.types.specs.Resolve.{typeName, typeNames, allKnown}
+use Rattle.types.specs.Order.{allKnown}
+use Rattle.types.specs.Resolve.{typeName, typeNames, hasName}
 use Rattle.types.specs.Rounds.{Step, no, ok, Answer, rounds}
 
 -- ---- one type of the book
@@ -54,7 +55,7 @@ declsOf v book (e ∷ es) =
 
 -- one is added when all its member types are known
 unfoldable pub readyIn : List ℕ → List Def → ℕ → Bool
-readyIn book ds i = allKnown (viewOf ds .names) (usesOf book i)
+readyIn book ds i = allKnown hasName (viewOf ds .names) (usesOf book i)
 
 -- adding type i to those that were added
 unfoldable pub verdictOn : List ℕ → View → ℕ → Verdict

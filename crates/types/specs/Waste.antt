@@ -10,10 +10,14 @@ use Rattle.types.specs.declared.member.Member.{Member}
 use Rattle.types.specs.declared.member.StructDef.{StructDef}
 use Rattle.types.specs.declared.member.Ty.{Ty}
 use Rattle.types.specs.declared.member.Ty.the-variants.{Atomic, Struct}
+use Rattle.types.specs.declared.waste_bits.Wasted.{Wasted}
+use Rattle.types.specs.declared.waste_bits.Wasted.the-variants.{Bits, Refused}
 use Rattle.types.specs.Atomic.{sizeOf}
 use Rattle.types.specs.Defs.{Part, Def, Readable, defOf}
 use Rattle.types.specs.Layout.{times}
+use Rattle.types.specs.Said.{Said, done, refused, why}
 use Rattle.types.specs.Tables.{TyFits, memberAt, typeAt}
+use Rattle.types.specs.Template.{hasTemplate}
 
 -- a type's bytes, where the structures' sizes are known by their numbers
 abbrev pub sizeIn : (ℕ → ℕ) → Ty → ℕ
@@ -41,6 +45,16 @@ sizesIn types n = typeAt types n .size
 -- the waste of the structure in some rows
 abbrev pub wasteIn : List ℕ → List ℕ → List ℕ → StructDef → ℕ
 wasteIn types members names d = wasteOf (sizesIn types) (defOf members names d)
+
+-- what an answer says: how many bits, or a refusal
+abbrev pub saidBy : Wasted → Said ℕ
+saidBy (Bits n) = done n
+saidBy (Refused r) = why r
+
+-- the waste of the structure with a number; 15 where there is none
+unfoldable pub wasteAt : List ℕ → List ℕ → List ℕ → ℕ → Said ℕ
+wasteAt types members names n =
+    cond (hasTemplate types (Struct n)) (done (wasteIn types members names (typeAt types n))) (refused 15 0)
 
 -- a member whose bytes are few enough to count its bits
 pub record Fitting (types : List ℕ) (m : Member) : Type 0 where

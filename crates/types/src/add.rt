@@ -15,9 +15,9 @@ use crate::ids::pick_id;
 use crate::lookups::FoundTy;
 use crate::lookups::lookup;
 use crate::names::good_name;
-use crate::new_types::add_aoi;
+use crate::new_types::NewType;
+use crate::new_types::add_laid;
 use crate::new_types::add_string;
-use crate::new_types::add_udt;
 use crate::refusal::Refusal;
 use crate::tables::MemberTable;
 use crate::tables::NameTable;
@@ -60,43 +60,46 @@ fn string_ok(e: TypeEntry) -> bool
     !is_aoi(e)
 }
 
+// A type of the book whose turn it is: its number there, its entry, and where its members' entries begin; so much of
+// the tables is used.
+pub struct Waiting {
+    pub number: u32,
+    pub entry: TypeEntry,
+    pub at: usize,
+    pub used: Used,
+}
+
 // A type of members: each is checked, then all are laid out.
 fn add_members(
     book: &[u8],
     tys: &[u16],
-    at: usize,
-    n: usize,
-    aoi: bool,
-    i: u32,
+    new: NewType,
     name: &[u8],
-    id: u16,
     types: &mut TypeTable,
     members: &mut MemberTable,
     names: &mut NameTable,
-    u: Used,
 ) -> Turn
-    requires { ⌜ Addable (now types) (now members) (now names) (now book) (now tys) (now name) u at n ⌝ }
-    ensures { λ r. ⌜ Took (addMembers (viewIn (now (types .entry)) (now (names .entry)) u) (now (book .entry)) i at n
-        aoi (now (name .entry)) id (declsFrom (now (types .entry)) (now (book .entry)) (now (tys .entry)) at 0 n)) u
+    requires { ⌜ Addable (now types) (now members) (now names) (now book) (now tys) (now name)
+        (new .used) (new .at) (new .count) ⌝ }
+    ensures { λ r. ⌜ Took (addMembers (viewIn (now (types .entry)) (now (names .entry)) (new .used)) (now (book .entry))
+        (new .number) (new .at) (new .count) (new .aoi) (now (name .entry)) (new .id)
+        (declsFrom (now (types .entry)) (now (book .entry)) (now (tys .entry)) (new .at) 0 (new .count))) (new .used)
         (now (types .entry)) (now (members .entry)) (now (names .entry))
         (now (types .exit)) (now (members .exit)) (now (names .exit)) r ⌝ }
 {
-    let c = check_members(book, at, n, aoi);
+    let c = check_members(book, new.at, new.count, new.aoi);
     match c {
         Checked::Good => {
-            if aoi {
-                return add_aoi(book, tys, at, n, i, name, id, types, members, names, u);
-            }
-            return add_udt(book, tys, at, n, i, name, id, types, members, names, u);
+            return add_laid(book, tys, new, name, types, members, names);
         }
         Checked::NameWrong => {
-            return Turn::Refused(Refusal::NameOutsideRule(i));
+            return Turn::Refused(Refusal::NameOutsideRule(new.number));
         }
         Checked::Twice => {
-            return Turn::Refused(Refusal::MemberTwice(i));
+            return Turn::Refused(Refusal::MemberTwice(new.number));
         }
         Checked::LocalOutside => {
-            return Turn::Refused(Refusal::LocalOutsideAoi(i));
+            return Turn::Refused(Refusal::LocalOutsideAoi(new.number));
         }
     }
 }
@@ -105,70 +108,78 @@ fn add_members(
 fn add_named(
     book: &[u8],
     tys: &[u16],
-    at: usize,
-    e: TypeEntry,
-    i: u32,
-    name: &[u8],
+    w: Waiting,
     id: u16,
+    name: &[u8],
     types: &mut TypeTable,
     members: &mut MemberTable,
     names: &mut NameTable,
-    u: Used,
 ) -> Turn
-    requires { ⌜ Addable (now types) (now members) (now names) (now book) (now tys) (now name) u at (e .count) ⌝ }
-    ensures { λ r. ⌜ Took (addNamed (viewIn (now (types .entry)) (now (names .entry)) u) (now (book .entry)) i at e
-        (now (name .entry)) id
-        (declsFrom (now (types .entry)) (now (book .entry)) (now (tys .entry)) at 0 (e .count))) u
+    requires { ⌜ Addable (now types) (now members) (now names) (now book) (now tys) (now name)
+        (w .used) (w .at) (w .entry .count) ⌝ }
+    ensures { λ r. ⌜ Took (addNamed (viewIn (now (types .entry)) (now (names .entry)) (w .used)) (now (book .entry))
+        (w .number) (w .at) (w .entry) (now (name .entry)) id
+        (declsFrom (now (types .entry)) (now (book .entry)) (now (tys .entry)) (w .at) 0 (w .entry .count))) (w .used)
         (now (types .entry)) (now (members .entry)) (now (names .entry))
         (now (types .exit)) (now (members .exit)) (now (names .exit)) r ⌝ }
 {
+    let e = w.entry;
+    let used = w.used;
     let string = is_string(e);
+    let count = count_of(e.count);
+    let aoi = is_aoi(e);
+    let new = NewType {
+        number: w.number,
+        at: w.at,
+        count,
+        aoi,
+        id,
+        used,
+    };
     if string {
         let ok = string_ok(e);
         if ok {
-            return add_string(i, e.string, name, id, types, members, names, u);
+            return add_string(new, e.string, name, types, members, names);
         }
-        return Turn::Refused(Refusal::StringWrong(i));
+        return Turn::Refused(Refusal::StringWrong(w.number));
     }
-    let n = count_of(e.count);
-    let aoi = is_aoi(e);
-    add_members(book, tys, at, n, aoi, i, name, id, types, members, names, u)
+    add_members(book, tys, new, name, types, members, names)
 }
 
 // A type with a name that is new: it gets an id.
 fn add_fresh(
     book: &[u8],
     tys: &[u16],
-    at: usize,
-    e: TypeEntry,
-    i: u32,
+    w: Waiting,
     name: &[u8],
     types: &mut TypeTable,
     members: &mut MemberTable,
     names: &mut NameTable,
-    u: Used,
 ) -> Turn
-    requires { ⌜ Addable (now types) (now members) (now names) (now book) (now tys) (now name) u at (e .count) ⌝ }
-    ensures { λ r. ⌜ Took (addFresh (viewIn (now (types .entry)) (now (names .entry)) u) (now (book .entry)) i at e
-        (now (name .entry))
-        (declsFrom (now (types .entry)) (now (book .entry)) (now (tys .entry)) at 0 (e .count))) u
+    requires { ⌜ Addable (now types) (now members) (now names) (now book) (now tys) (now name)
+        (w .used) (w .at) (w .entry .count) ⌝ }
+    ensures { λ r. ⌜ Took (addFresh (viewIn (now (types .entry)) (now (names .entry)) (w .used)) (now (book .entry))
+        (w .number) (w .at) (w .entry) (now (name .entry))
+        (declsFrom (now (types .entry)) (now (book .entry)) (now (tys .entry)) (w .at) 0 (w .entry .count))) (w .used)
         (now (types .entry)) (now (members .entry)) (now (names .entry))
         (now (types .exit)) (now (members .exit)) (now (names .exit)) r ⌝ }
 {
+    let e = w.entry;
+    let u = w.used;
     let given = has_id(e);
     let p = pick_id(types, u.types, given, e.id);
     match p {
         Picked::Free(id) => {
-            return add_named(book, tys, at, e, i, name, id, types, members, names, u);
+            return add_named(book, tys, w, id, name, types, members, names);
         }
         Picked::OutsideRange => {
-            return Turn::Refused(Refusal::IdOutsideRange(i));
+            return Turn::Refused(Refusal::IdOutsideRange(w.number));
         }
         Picked::InUse => {
-            return Turn::Refused(Refusal::IdInUse(i));
+            return Turn::Refused(Refusal::IdInUse(w.number));
         }
         Picked::NoneFree => {
-            return Turn::Refused(Refusal::NoIdFree(i));
+            return Turn::Refused(Refusal::NoIdFree(w.number));
         }
     }
 }
@@ -177,33 +188,32 @@ fn add_fresh(
 pub fn add_entry(
     book: &[u8],
     tys: &[u16],
-    at: usize,
-    e: TypeEntry,
-    i: u32,
+    w: Waiting,
     name: &[u8],
     types: &mut TypeTable,
     members: &mut MemberTable,
     names: &mut NameTable,
-    u: Used,
 ) -> Turn
-    requires { ⌜ AddableEntry (now types) (now members) (now names) (now book) (now tys) u at (e .count) ⌝ }
-    ensures { λ r. ⌜ Took (addEntry (viewIn (now (types .entry)) (now (names .entry)) u) (now (book .entry)) i at e
-        (now (name .entry))
-        (declsFrom (now (types .entry)) (now (book .entry)) (now (tys .entry)) at 0 (e .count))) u
+    requires { ⌜ AddableEntry (now types) (now members) (now names) (now book) (now tys)
+        (w .used) (w .at) (w .entry .count) ⌝ }
+    ensures { λ r. ⌜ Took (addEntry (viewIn (now (types .entry)) (now (names .entry)) (w .used)) (now (book .entry))
+        (w .number) (w .at) (w .entry) (now (name .entry))
+        (declsFrom (now (types .entry)) (now (book .entry)) (now (tys .entry)) (w .at) 0 (w .entry .count))) (w .used)
         (now (types .entry)) (now (members .entry)) (now (names .entry))
         (now (types .exit)) (now (members .exit)) (now (names .exit)) r ⌝ }
 {
     let good = good_name(name);
     if good {
+        let u = w.used;
         let found = lookup(types, names, u.types, name);
         match found {
             FoundTy::Is(_) => {
-                return Turn::Refused(Refusal::NameKnown(i));
+                return Turn::Refused(Refusal::NameKnown(w.number));
             }
             FoundTy::Nothing => {
-                return add_fresh(book, tys, at, e, i, name, types, members, names, u);
+                return add_fresh(book, tys, w, name, types, members, names);
             }
         }
     }
-    Turn::Refused(Refusal::NameOutsideRule(i))
+    Turn::Refused(Refusal::NameOutsideRule(w.number))
 }

@@ -1,8 +1,8 @@
 // The fifteen atomic types (document 01, "Atomic types"). Code, size and name of each stand in one
 // table; BYTE, WORD, DWORD and LWORD are bit strings.
 ghost use mathlib.Core.Path.{_≡_};
-ghost use Rattle.types.specs.Atomic.{atomics, atomicAt, rowOf, rowsOf, codeOf, sizeOf, bitString, hasBits};
-ghost use Rattle.types.specs.Atomic.{atomicNamed, atomicCoded, Numbered};
+ghost use Rattle.types.specs.Atomic.{atomics, codeAt, rowOf, rowsOf, codeOf, sizeOf, bitString, hasBits};
+ghost use Rattle.types.specs.Atomic.{codeNamed, codeGiven, saidBy, Numbered};
 use crate::names::same_name;
 
 pub enum Atomic {
@@ -82,7 +82,7 @@ impl Atomic {
 
     // The atomic at a place; BOOL past the last.
     pub fn at(i: usize) -> Atomic
-        ensures { λ r. ⌜ r ≡ atomicAt i ⌝ }
+        ensures { λ r. ⌜ codeOf r ≡ codeAt i ⌝ }
     {
         match i {
             1 => Atomic::SInt,
@@ -150,7 +150,7 @@ impl Atomic {
 
     // The atomic of a name, without ASCII case.
     pub fn from_name(name: &[u8]) -> FoundAtomic
-        ensures { λ r. ⌜ r ≡ atomicNamed (now (name .entry)) ⌝ }
+        ensures { λ r. ⌜ saidBy r ≡ codeNamed (now (name .entry)) ⌝ }
     {
         let rows = table();
         let mut i: usize = 0;
@@ -169,7 +169,7 @@ impl Atomic {
 
     // The atomic of a code.
     pub fn from_code(code: u16) -> FoundAtomic
-        ensures { λ r. ⌜ r ≡ atomicCoded code ⌝ }
+        ensures { λ r. ⌜ saidBy r ≡ codeGiven code ⌝ }
     {
         let rows = table();
         let mut i: usize = 0;
@@ -182,5 +182,50 @@ impl Atomic {
             i += 1;
         }
         FoundAtomic::Nothing
+    }
+}
+
+// An atomic's bytes, and whether it is a bit string, by a match: values ask at every leaf, where the table is dearer.
+pub fn size_of(a: Atomic) -> usize
+    ensures { λ r. ⌜ r ≡ sizeOf a ⌝ }
+{
+    match a {
+        Atomic::Bool => 1,
+        Atomic::SInt => 1,
+        Atomic::Int => 2,
+        Atomic::DInt => 4,
+        Atomic::LInt => 8,
+        Atomic::USInt => 1,
+        Atomic::UInt => 2,
+        Atomic::UDInt => 4,
+        Atomic::ULInt => 8,
+        Atomic::Real => 4,
+        Atomic::LReal => 8,
+        Atomic::Byte => 1,
+        Atomic::Word => 2,
+        Atomic::DWord => 4,
+        Atomic::LWord => 8,
+    }
+}
+
+pub fn is_bits(a: Atomic) -> bool
+    ensures { λ r. ⌜ r ≡ bitString a ⌝ }
+{
+    match a {
+        Atomic::Bool => false,
+        Atomic::SInt => false,
+        Atomic::Int => false,
+        Atomic::DInt => false,
+        Atomic::LInt => false,
+        Atomic::USInt => false,
+        Atomic::UInt => false,
+        Atomic::UDInt => false,
+        Atomic::ULInt => false,
+        Atomic::Real => false,
+        Atomic::LReal => false,
+        Atomic::Byte => true,
+        Atomic::Word => true,
+        Atomic::DWord => true,
+        Atomic::LWord => true,
     }
 }

@@ -9,6 +9,7 @@ ghost use Rattle.types.specs.Predefined.{predefined};
 ghost use Rattle.types.specs.Turns.{roundsFrom};
 use crate::book::book_ok;
 use crate::book::count_of;
+use crate::predefined::PredefinedIds;
 use crate::predefined::ids_ok;
 use crate::predefined::put_predefined;
 use crate::refusal::Refusal;
@@ -58,10 +59,7 @@ fn first_waiting(done: &[u8], t: usize) -> usize
 fn run(
     book: &[u8],
     t: usize,
-    timer: u16,
-    counter: u16,
-    control: u16,
-    string: u16,
+    ids: PredefinedIds,
     types: &mut TypeTable,
     members: &mut MemberTable,
     names: &mut NameTable,
@@ -70,12 +68,12 @@ fn run(
     stuck: &mut [u16],
     tried: &mut [u8],
 ) -> Built
-    requires { ⌜ RunIn (now book) t timer counter control string (now types) (now members) (now names)
+    requires { ⌜ RunIn (now book) t ids (now types) (now members) (now names)
         (now tys) (now done) (now stuck) (now tried) ⌝ }
-    ensures { λ r. ⌜ Ended (roundsFrom (now (book .entry)) (predefined timer counter control string))
+    ensures { λ r. ⌜ Ended (roundsFrom (now (book .entry)) (predefined ids))
         (now (types .exit)) (now (members .exit)) (now (names .exit)) r ⌝ }
 {
-    let mut u = put_predefined(types, members, names, timer, counter, control, string);
+    let mut u = put_predefined(types, members, names, ids);
     let mut left = t;
     while 0 < left {
         let r = turns(
@@ -113,10 +111,7 @@ fn run(
 // The registry of a book, with a scratch that is lent.
 fn build_with(
     book: &[u8],
-    timer: u16,
-    counter: u16,
-    control: u16,
-    string: u16,
+    ids: PredefinedIds,
     types: &mut TypeTable,
     members: &mut MemberTable,
     names: &mut NameTable,
@@ -126,12 +121,12 @@ fn build_with(
     tried: &mut [u8],
 ) -> Built
     requires { ⌜ Scratch (now book) (now tys) (now done) (now stuck) (now tried) ⌝ }
-    ensures { λ r. ⌜ Ended (buildOf timer counter control string (now (book .entry)))
+    ensures { λ r. ⌜ Ended (buildOf ids (now (book .entry)))
         (now (types .exit)) (now (members .exit)) (now (names .exit)) r ⌝ }
 {
     clear(types, members, names);
-    let ids = ids_ok(timer, counter, control, string);
-    if !ids {
+    let allowed = ids_ok(ids);
+    if !allowed {
         return Built::Refused(Refusal::PredefinedIds);
     }
     let ok = book_ok(book);
@@ -139,36 +134,19 @@ fn build_with(
         return Built::Refused(Refusal::BookMalformed);
     }
     let t = count_of(load16(book, 0));
-    run(
-        book,
-        t,
-        timer,
-        counter,
-        control,
-        string,
-        types,
-        members,
-        names,
-        tys,
-        done,
-        stuck,
-        tried,
-    )
+    run(book, t, ids, types, members, names, tys, done, stuck, tried)
 }
 
 // The same with a scratch on the stack for a small book.
 fn build_small(
     book: &[u8],
-    timer: u16,
-    counter: u16,
-    control: u16,
-    string: u16,
+    ids: PredefinedIds,
     types: &mut TypeTable,
     members: &mut MemberTable,
     names: &mut NameTable,
 ) -> Built
     requires { ⌜ AtMost (now book) 256 2048 ⌝ }
-    ensures { λ r. ⌜ Ended (buildOf timer counter control string (now (book .entry)))
+    ensures { λ r. ⌜ Ended (buildOf ids (now (book .entry)))
         (now (types .exit)) (now (members .exit)) (now (names .exit)) r ⌝ }
 {
     let mut tys = [0u16; 2048];
@@ -177,44 +155,7 @@ fn build_small(
     let mut tried = [0u8; 256];
     build_with(
         book,
-        timer,
-        counter,
-        control,
-        string,
-        types,
-        members,
-        names,
-        &mut tys,
-        &mut done,
-        &mut stuck,
-        &mut tried,
-    )
-}
-
-// And for any book.
-fn build_large(
-    book: &[u8],
-    timer: u16,
-    counter: u16,
-    control: u16,
-    string: u16,
-    types: &mut TypeTable,
-    members: &mut MemberTable,
-    names: &mut NameTable,
-) -> Built
-    ensures { λ r. ⌜ Ended (buildOf timer counter control string (now (book .entry)))
-        (now (types .exit)) (now (members .exit)) (now (names .exit)) r ⌝ }
-{
-    let mut tys = [0u16; 65536];
-    let mut done = [0u8; 65536];
-    let mut stuck = [0u16; 65536];
-    let mut tried = [0u8; 65536];
-    build_with(
-        book,
-        timer,
-        counter,
-        control,
-        string,
+        ids,
         types,
         members,
         names,
@@ -240,23 +181,35 @@ fn is_small(book: &[u8]) -> bool
     m <= 2048
 }
 
-// The registry of a book in the lent tables, after the predefined types under the given ids.
+// The registry of a book in the lent tables, after the predefined types under the given ids; with a scratch that is
+// enough for any book, or a small one.
 pub fn build(
     book: &[u8],
-    timer: u16,
-    counter: u16,
-    control: u16,
-    string: u16,
+    ids: PredefinedIds,
     types: &mut TypeTable,
     members: &mut MemberTable,
     names: &mut NameTable,
 ) -> Built
-    ensures { λ r. ⌜ Ended (buildOf timer counter control string (now (book .entry)))
+    ensures { λ r. ⌜ Ended (buildOf ids (now (book .entry)))
         (now (types .exit)) (now (members .exit)) (now (names .exit)) r ⌝ }
 {
     let small = is_small(book);
     if small {
-        return build_small(book, timer, counter, control, string, types, members, names);
+        return build_small(book, ids, types, members, names);
     }
-    build_large(book, timer, counter, control, string, types, members, names)
+    let mut tys = [0u16; 65536];
+    let mut done = [0u8; 65536];
+    let mut stuck = [0u16; 65536];
+    let mut tried = [0u8; 65536];
+    build_with(
+        book,
+        ids,
+        types,
+        members,
+        names,
+        &mut tys,
+        &mut done,
+        &mut stuck,
+        &mut tried,
+    )
 }

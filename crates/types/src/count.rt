@@ -1,6 +1,7 @@
 // How many types stand in the tables, and the type of a name among them all.
 ghost use mathlib.Core.Path.{_≡_};
-ghost use Rattle.types.specs.Lookup.{NamesInside, typeOf};
+ghost use Rattle.types.specs.Kept.{KeptNames};
+ghost use Rattle.types.specs.Lookup.{rowNames, saidBy, wordAmong};
 ghost use Rattle.types.specs.Registry.{typeCount};
 use crate::lookups::FoundTy;
 use crate::lookups::lookup;
@@ -25,9 +26,9 @@ pub fn type_count(types: &TypeTable) -> usize
 
 // The type of a name: an atomic, else the first structure of the tables.
 pub fn find(types: &TypeTable, names: &NameTable, name: &[u8]) -> FoundTy
-    requires { ⌜ NamesInside (now types) (now names) (typeCount (now types)) ⌝ }
-    ensures { λ r. ⌜ r ≡ typeOf (now (types .entry)) (now (names .entry)) (typeCount (now (types .entry)))
-        (now (name .entry)) ⌝ }
+    requires { ⌜ KeptNames (now types) (now names) ⌝ }
+    ensures { λ r. ⌜ saidBy r ≡ wordAmong
+        (rowNames (now (types .entry)) (now (names .entry)) (typeCount (now (types .entry)))) (now (name .entry)) ⌝ }
 {
     let n = type_count(types);
     lookup(types, names, n, name)

@@ -4,10 +4,8 @@ ghost use mathlib.Core.Path.{_≡_};
 ghost use Prim.Native.Nat.{_+_, _*_, _/_, _≤_};
 ghost use lib.ListN.{length};
 ghost use lib.Seq.{sets};
-ghost use Rattle.words.specs.Words.{part};
 ghost use Rattle.types.specs.Structs.{namesOf, rowsOf, dintAt, dataOf, stringParts, stringSize};
-ghost use Rattle.types.specs.Structs.{ctlAt, statusAt, statusParts, controlParts, pairs, BitsFit, ControlFits};
-ghost use Rattle.types.specs.Structs.{timerParts, counterParts, controlTypeParts};
+ghost use Rattle.types.specs.Structs.{ctlAt, statusAt, statusParts, controlOf, pairs, BitsFit, ControlFits};
 use crate::atomic::Atomic;
 use crate::member::Bit;
 use crate::member::Member;
@@ -125,7 +123,7 @@ fn put_bits(members: &mut MemberTable, row: usize, names: &mut NameTable, place:
 }
 
 // A control type's parts: the hidden word, two words whose names are three bytes each, and the status bits.
-fn put_control(
+pub fn put_control(
     members: &mut MemberTable,
     row: usize,
     names: &mut NameTable,
@@ -135,11 +133,9 @@ fn put_control(
 )
     requires { ⌜ ControlFits (now words) (now bits) row place ⌝ }
     ensures rows { λ _. ⌜ now (members .exit) ≡ sets (now (members .entry)) (8 * row)
-        (rowsOf place (controlParts (part (now (words .entry)) 0 3) (part (now (words .entry)) 3 3)
-        (pairs (now (bits .entry)) 0 (length (now (bits .entry)) / 2)))) ⌝ }
+        (rowsOf place (controlOf (now (words .entry)) (now (bits .entry)))) ⌝ }
     ensures names { λ _. ⌜ now (names .exit) ≡ sets (now (names .entry)) place
-        (namesOf (controlParts (part (now (words .entry)) 0 3) (part (now (words .entry)) 3 3)
-        (pairs (now (bits .entry)) 0 (length (now (bits .entry)) / 2)))) ⌝ }
+        (namesOf (controlOf (now (words .entry)) (now (bits .entry)))) ⌝ }
 {
     let ctl = ctl_at();
     let one = dint_at(4);
@@ -148,32 +144,4 @@ fn put_control(
     put_part(members, row + 1, names, place + 3, &words[0..3], one);
     put_part(members, row + 2, names, place + 6, &words[3..6], two);
     put_bits(members, row + 3, names, place + 9, bits);
-}
-
-// TIMER's parts.
-pub fn put_timer(members: &mut MemberTable, row: usize, names: &mut NameTable, place: usize)
-    requires { ⌜ (row + 6 ≤ 2000) × (place + 15 ≤ 32768) ⌝ }
-    ensures rows { λ _. ⌜ now (members .exit) ≡ sets (now (members .entry)) (8 * row) (rowsOf place timerParts) ⌝ }
-    ensures names { λ _. ⌜ now (names .exit) ≡ sets (now (names .entry)) place (namesOf timerParts) ⌝ }
-{
-    put_control(members, row, names, place, b"PREACC", b"ENTTDN");
-}
-
-// COUNTER's parts.
-pub fn put_counter(members: &mut MemberTable, row: usize, names: &mut NameTable, place: usize)
-    requires { ⌜ (row + 8 ≤ 2000) × (place + 19 ≤ 32768) ⌝ }
-    ensures rows { λ _. ⌜ now (members .exit) ≡ sets (now (members .entry)) (8 * row) (rowsOf place counterParts) ⌝ }
-    ensures names { λ _. ⌜ now (names .exit) ≡ sets (now (names .entry)) place (namesOf counterParts) ⌝ }
-{
-    put_control(members, row, names, place, b"PREACC", b"CUCDDNOVUN");
-}
-
-// CONTROL's parts.
-pub fn put_control_type(members: &mut MemberTable, row: usize, names: &mut NameTable, place: usize)
-    requires { ⌜ (row + 11 ≤ 2000) × (place + 25 ≤ 32768) ⌝ }
-    ensures rows { λ _. ⌜ now (members .exit) ≡ sets (now (members .entry)) (8 * row)
-        (rowsOf place controlTypeParts) ⌝ }
-    ensures names { λ _. ⌜ now (names .exit) ≡ sets (now (names .entry)) place (namesOf controlTypeParts) ⌝ }
-{
-    put_control(members, row, names, place, b"LENPOS", b"ENEUDNEMERULINFD");
 }

@@ -1,7 +1,7 @@
 // Layout (document 01, "Layout"): where one declared member goes. A cursor holds how far the layout has
 // come, with the open host of the BOOLs; placing a member answers what lies where, and the next cursor.
 ghost use mathlib.Core.Path.{_≡_};
-ghost use Rattle.types.specs.Layout.{memberEnd, Times, accessOk, isBool, alignUp, Aligned};
+ghost use Rattle.types.specs.Layout.{memberEnd, saidBy, Times, accessOk, isBool, alignUp, Aligned};
 ghost use Rattle.types.specs.Layout.{Able, opened as openedOf, nextBit, placeBool, closed, placeOther, placed};
 use crate::atomic::Atomic;
 use crate::member::Bit;
@@ -66,7 +66,7 @@ pub fn elements(count: u32) -> u64
 
 // The end of a member of `count` elements of `size` bytes each at `offset`, where it is not past 2^26.
 pub fn member_end(offset: u32, size: u32, count: u32) -> End
-    ensures { λ r. ⌜ r ≡ memberEnd offset size count ⌝ }
+    ensures { λ r. ⌜ saidBy r ≡ memberEnd offset size count ⌝ }
 {
     let end = wide64(offset) + wide64(size) * elements(count);
     if end <= MOST {

@@ -2,33 +2,44 @@
 // into a lent buffer, a field after the other.
 ghost use mathlib.Core.Path.{_≡_};
 ghost use Prim.Native.Nat.{_+_, _%_, _<_, _≤_};
+ghost use mathlib.Core.Bool.{true};
 ghost use mathlib.Core.List.{[], _∷_};
 ghost use lib.ListN.{length};
 ghost use Rattle.types.specs.Atomic.{nameOf};
 ghost use Rattle.types.specs.Defs.{nameIn};
 ghost use Rattle.types.specs.Digits.{digits};
+ghost use Rattle.types.specs.Given.{Given};
+ghost use Rattle.types.specs.Kept.{Kept};
 ghost use Rattle.types.specs.Listing.{ended, line, typeNumbers, seen, bitText, memberPlace, refusedLine};
 ghost use Rattle.types.specs.Listing.{typeName, structNames, typeLineIn, memberLineIn, TypeNamed, Listable};
-ghost use Rattle.types.specs.Listing.{Fits, Added, Lined, Spelt};
+ghost use Rattle.types.specs.Listing.{Fits, Added, Lined, Spelt, hasMember};
 ghost use Rattle.types.specs.Tables.{typeAt};
+ghost use Rattle.types.specs.Template.{hasTemplate};
 use crate::atomic::Atomic;
+use crate::given::Wrote;
+use crate::given::give;
 use crate::member::Bit;
 use crate::member::Member;
 use crate::member::Span;
 use crate::member::StructDef;
 use crate::member::Ty;
+use crate::refusal::Refusal;
+use crate::shape::is_there;
 use crate::tables::MemberTable;
 use crate::tables::NameTable;
 use crate::tables::TypeTable;
 use crate::tables::member_row;
 use crate::tables::name_row;
 use crate::tables::type_row;
-use crate::templates::template_len;
-use crate::waste_bits::waste;
+use crate::templates::template_bytes;
+use crate::waste_bits::lost_bits;
 use words::copy;
 use words::wide;
 use words::wide16;
 use words::wide64;
+
+// No line is longer.
+const LINE: usize = 512;
 
 // A number's digits: these bytes from `from` on.
 pub struct Decimal {
@@ -69,7 +80,7 @@ fn put_text(out: &mut [u8], at: usize, s: &[u8]) -> usize
 }
 
 // A number's digits.
-pub fn put_decimal(out: &mut [u8], at: usize, x: u64) -> usize
+fn put_decimal(out: &mut [u8], at: usize, x: u64) -> usize
     requires { ⌜ Fits (digits x) at (now out) ⌝ }
     ensures { λ r. ⌜ Added (digits x) at (now (out .entry)) r (now (out .exit)) ⌝ }
 {
@@ -191,8 +202,8 @@ fn put_numbers(d: StructDef, bytes: u32, bits: u64, out: &mut [u8], at: usize) -
     put_number(out, k4, bits, b'\n')
 }
 
-// The line of the structure in a row, from the buffer's start on; answers its length.
-pub fn put_type_line(
+// The line of the structure in a row, in a buffer that is long enough; answers its length.
+fn type_line(
     types: &TypeTable,
     members: &MemberTable,
     names: &NameTable,
@@ -205,8 +216,8 @@ pub fn put_type_line(
 {
     let d = type_row(types, i);
     let name = d.name;
-    let bytes = template_len(types, members, names, d);
-    let bits = waste(types, members, d);
+    let bytes = template_bytes(types, members, names, d);
+    let bits = lost_bits(types, members, d);
     let k1 = put_field(out, 0, b"type", b' ');
     let k2 = put_name(out, k1, names, name, b' ');
     put_numbers(d, bytes, bits, out, k2)
@@ -229,7 +240,7 @@ fn put_place(m: Member, names: &[u8], name: Span, out: &mut [u8], at: usize) -> 
 }
 
 // The line of the k-th member of the structure in a row.
-pub fn put_member_line(
+fn member_line(
     types: &TypeTable,
     members: &MemberTable,
     names: &NameTable,
@@ -255,7 +266,7 @@ pub fn put_member_line(
 }
 
 // The line of a refusal: its number and place.
-pub fn put_refused_line(out: &mut [u8], number: u8, place: u32) -> usize
+fn refused_line(out: &mut [u8], number: u8, place: u32) -> usize
     requires { ⌜ 512 ≤ length (now out) ⌝ }
     ensures { λ r. ⌜ Lined (refusedLine number place) (now (out .entry)) r (now (out .exit)) ⌝ }
 {
@@ -264,4 +275,70 @@ pub fn put_refused_line(out: &mut [u8], number: u8, place: u32) -> usize
     let k1 = put_field(out, 0, b"refused", b' ');
     let k2 = put_number(out, k1, first, b' ');
     put_number(out, k2, second, b'\n')
+}
+
+// The line of the type with a number, from the buffer's start on: its length; or 15 or 16, and nothing is written.
+pub fn put_type_line(
+    types: &TypeTable,
+    members: &MemberTable,
+    names: &NameTable,
+    i: usize,
+    out: &mut [u8],
+) -> Wrote
+    requires { ⌜ Kept (now types) (now members) (now names) ⌝ }
+    ensures { λ r. ⌜ Given (hasTemplate (now (types .entry)) (Ty.Struct i))
+        (typeLineIn (now (types .entry)) (now (members .entry)) (now (names .entry)) (typeAt (now (types .entry)) i))
+        (now (out .entry)) r (now (out .exit)) ⌝ }
+{
+    let there = is_there(types, Ty::Struct(i));
+    if there {
+        let mut text = [0u8; LINE];
+        let n = type_line(types, members, names, i, &mut text);
+        return give(&text[..n], out);
+    }
+    Wrote::Refused(Refusal::NoSuchType)
+}
+
+// The k-th member of the type with a number is there.
+fn has_member(types: &TypeTable, i: usize, k: usize) -> bool
+    ensures { λ r. ⌜ r ≡ hasMember (now (types .entry)) i k ⌝ }
+{
+    let there = is_there(types, Ty::Struct(i));
+    if there {
+        let d = type_row(types, i);
+        return k < wide(d.count);
+    }
+    false
+}
+
+// The line of the k-th member of the type with a number; or 15 or 16, and nothing is written.
+pub fn put_member_line(
+    types: &TypeTable,
+    members: &MemberTable,
+    names: &NameTable,
+    i: usize,
+    k: usize,
+    out: &mut [u8],
+) -> Wrote
+    requires { ⌜ Kept (now types) (now members) (now names) ⌝ }
+    ensures { λ r. ⌜ Given (hasMember (now (types .entry)) i k)
+        (memberLineIn (now (types .entry)) (now (members .entry)) (now (names .entry))
+        (typeAt (now (types .entry)) i .first + k) k) (now (out .entry)) r (now (out .exit)) ⌝ }
+{
+    let there = has_member(types, i, k);
+    if there {
+        let mut text = [0u8; LINE];
+        let n = member_line(types, members, names, i, k, &mut text);
+        return give(&text[..n], out);
+    }
+    Wrote::Refused(Refusal::NoSuchType)
+}
+
+// The line of a refusal's number and place; or 16, and nothing is written.
+pub fn put_refused_line(number: u8, place: u32, out: &mut [u8]) -> Wrote
+    ensures { λ r. ⌜ Given true (refusedLine number place) (now (out .entry)) r (now (out .exit)) ⌝ }
+{
+    let mut text = [0u8; LINE];
+    let n = refused_line(&mut text, number, place);
+    give(&text[..n], out)
 }

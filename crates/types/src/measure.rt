@@ -4,7 +4,7 @@ ghost use mathlib.Core.Path.{_≡_};
 ghost use Prim.Native.Nat.{_+_};
 ghost use Rattle.types.specs.Digits.{hostName};
 ghost use Rattle.types.specs.Entries.{declsFrom};
-ghost use Rattle.types.specs.Structs.{measureOne, measured, Near, Measurable};
+ghost use Rattle.types.specs.Passes.{measureOne, measured, Near, Measurable};
 use crate::digits::host_long;
 use crate::entries::decl_at;
 use crate::layout::Cursor;

@@ -1,11 +1,15 @@
 // New types of the book, laid out (document 01, "Refusal numbers": layout per member 11, 12; then 13): a UDT, an
 // AOI, a string. Nothing is stored before all is known.
-ghost use Prim.Native.Nat.{_^_, _-_, _≤_};
+ghost use mathlib.Core.Path.{_≡_};
+ghost use Prim.Native.Nat.{_+_, _*_, _^_, _-_, _≤_};
+ghost use lib.ListN.{length};
+ghost use lib.Seq.{sets};
 ghost use Rattle.types.specs.declared.member.StructKind.the-variants.{Str};
-ghost use Rattle.types.specs.Add.{addUdt, addAoi, newDef, fitted, Took, Addable, AddableString};
-ghost use Rattle.types.specs.Entries.{declsFrom};
+ghost use Rattle.types.specs.Add.{addLaid, newDef, fitted, Took, Addable, AddableString};
+ghost use Rattle.types.specs.Entries.{declsFrom, Found};
 ghost use Rattle.types.specs.Registry.{viewIn};
-ghost use Rattle.types.specs.Structs.{stringParts, stringSize};
+ghost use Rattle.types.specs.Structs.{namesOf, rowsOf, namedIn, laidKind, stringParts, stringSize};
+ghost use Rattle.types.specs.Passes.{partsOf, measuredOf, StorableType};
 use crate::aoi::count_bools;
 use crate::aoi::hosts_for;
 use crate::aoi::measure_aoi;
@@ -30,33 +34,98 @@ use crate::used::has_room;
 use crate::used::used_more;
 use words::wide;
 
-// A UDT: measured, and stored where it can be laid out and there is room.
-pub fn add_udt(
+// A type of the book that is added: its number there, where its members' entries begin, how many there are, whether it
+// is an AOI, and its id; so much of the tables is used before it.
+pub struct NewType {
+    pub number: u32,
+    pub at: usize,
+    pub count: usize,
+    pub aoi: bool,
+    pub id: u16,
+    pub used: Used,
+}
+
+// An AOI, or a UDT.
+fn laid_kind(aoi: bool) -> StructKind
+    ensures { λ r. ⌜ r ≡ laidKind aoi ⌝ }
+{
+    if aoi {
+        return StructKind::Aoi;
+    }
+    StructKind::Udt
+}
+
+// How far the declared members come, as an AOI's or as a UDT's.
+fn measure_type(types: &TypeTable, book: &[u8], tys: &[u16], new: NewType, name: &[u8]) -> Measured
+    requires { ⌜ Found (now book) (now tys) (new .at) (new .count) × (new .count ≤ 65536) ⌝ }
+    ensures { λ r. ⌜ r ≡ measuredOf (new .aoi) (now (name .entry))
+        (declsFrom (now (types .entry)) (now (book .entry)) (now (tys .entry)) (new .at) 0 (new .count)) ⌝ }
+{
+    if new.aoi {
+        return measure_aoi(types, book, tys, new.at, new.count, name);
+    }
+    measure_udt(types, book, tys, new.at, new.count, name)
+}
+
+// The rows and the names of its parts, after what is used and its own name.
+fn store_type(
+    types: &TypeTable,
     book: &[u8],
     tys: &[u16],
-    at: usize,
-    n: usize,
-    i: u32,
+    new: NewType,
     name: &[u8],
-    id: u16,
+    members: &mut MemberTable,
+    names: &mut NameTable,
+)
+    requires { ⌜ StorableType (now types) (now book) (now tys) (now name) new ⌝ }
+    ensures rows { λ _. ⌜ now (members .exit) ≡ sets (now (members .entry)) (8 * new .used .members)
+        (rowsOf (new .used .bytes + length (now (name .entry)))
+        (partsOf (new .aoi) (namedIn (now (book .entry))) (now (name .entry))
+        (declsFrom (now (types .entry)) (now (book .entry)) (now (tys .entry)) (new .at) 0 (new .count)))) ⌝ }
+    ensures names { λ _. ⌜ now (names .exit) ≡ sets (now (names .entry)) (new .used .bytes + length (now (name .entry)))
+        (namesOf (partsOf (new .aoi) (namedIn (now (book .entry))) (now (name .entry))
+        (declsFrom (now (types .entry)) (now (book .entry)) (now (tys .entry)) (new .at) 0 (new .count)))) ⌝ }
+{
+    let at = new.at;
+    let n = new.count;
+    let u = new.used;
+    let row = u.members;
+    let place = u.bytes + name.len();
+    if new.aoi {
+        let bools = count_bools(types, book, tys, at, n);
+        let h = hosts_for(bools);
+        store_aoi(types, book, tys, at, n, name, h, members, row, names, place);
+        return;
+    }
+    store_udt(types, book, tys, at, n, name, members, row, names, place);
+}
+
+// A UDT or an AOI: measured, and stored where it can be laid out and there is room.
+pub fn add_laid(
+    book: &[u8],
+    tys: &[u16],
+    new: NewType,
+    name: &[u8],
     types: &mut TypeTable,
     members: &mut MemberTable,
     names: &mut NameTable,
-    u: Used,
 ) -> Turn
-    requires { ⌜ Addable (now types) (now members) (now names) (now book) (now tys) (now name) u at n ⌝ }
-    ensures { λ r. ⌜ Took (addUdt (viewIn (now (types .entry)) (now (names .entry)) u) (now (book .entry)) i
-        (now (name .entry)) id (declsFrom (now (types .entry)) (now (book .entry)) (now (tys .entry)) at 0 n)) u
+    requires { ⌜ Addable (now types) (now members) (now names) (now book) (now tys) (now name)
+        (new .used) (new .at) (new .count) ⌝ }
+    ensures { λ r. ⌜ Took (addLaid (viewIn (now (types .entry)) (now (names .entry)) (new .used)) (now (book .entry))
+        (new .number) (new .aoi) (now (name .entry)) (new .id)
+        (declsFrom (now (types .entry)) (now (book .entry)) (now (tys .entry)) (new .at) 0 (new .count))) (new .used)
         (now (types .entry)) (now (members .entry)) (now (names .entry))
         (now (types .exit)) (now (members .exit)) (now (names .exit)) r ⌝ }
 {
-    let m = measure_udt(types, book, tys, at, n, name);
+    let u = new.used;
+    let m = measure_type(types, book, tys, new, name);
     match m {
         Measured::AccessWrong => {
-            return Turn::Refused(Refusal::AccessWrong(i));
+            return Turn::Refused(Refusal::AccessWrong(new.number));
         }
         Measured::TooFar => {
-            return Turn::Refused(Refusal::MemberTooFar(i));
+            return Turn::Refused(Refusal::MemberTooFar(new.number));
         }
         Measured::Laid(c, long) => {
             let count = c.members;
@@ -64,49 +133,37 @@ pub fn add_udt(
             let room = has_room(u, wide(count), bytes);
             if room {
                 let size = size_at(c);
-                let place = u.bytes + name.len();
+                let kind = laid_kind(new.aoi);
                 put_bytes(names, u.bytes, name);
-                store_udt(
-                    types,
-                    book,
-                    tys,
-                    at,
-                    n,
-                    name,
-                    members,
-                    u.members,
-                    names,
-                    place,
-                );
-                let head = bare_head(u, name.len(), id, size, StructKind::Udt, count);
+                store_type(types, book, tys, new, name, members, names);
+                let head = bare_head(u, name.len(), new.id, size, kind, count);
                 enter(types, members, names, u.types, head);
                 let more = used_more(u, wide(count), bytes);
                 return Turn::Added(more);
             }
-            return Turn::Refused(Refusal::TablesFull(i));
+            return Turn::Refused(Refusal::TablesFull(new.number));
         }
     }
 }
 
 // A string: its two parts have seven bytes of names.
 pub fn add_string(
-    i: u32,
+    new: NewType,
     capacity: u32,
     name: &[u8],
-    id: u16,
     types: &mut TypeTable,
     members: &mut MemberTable,
     names: &mut NameTable,
-    u: Used,
 ) -> Turn
-    requires { ⌜ AddableString (now types) (now members) (now names) (now name) u ⌝ }
+    requires { ⌜ AddableString (now types) (now members) (now names) (now name) (new .used) ⌝ }
     requires { ⌜ capacity ≤ 2 ^ 26 - 4 ⌝ }
-    ensures { λ r. ⌜ Took (fitted (viewIn (now (types .entry)) (now (names .entry)) u) i
-        (newDef (viewIn (now (types .entry)) (now (names .entry)) u) (now (name .entry)) id
-        (stringSize capacity) Str (stringParts capacity))) u
+    ensures { λ r. ⌜ Took (fitted (viewIn (now (types .entry)) (now (names .entry)) (new .used)) (new .number)
+        (newDef (viewIn (now (types .entry)) (now (names .entry)) (new .used)) (now (name .entry)) (new .id)
+        (stringSize capacity) Str (stringParts capacity))) (new .used)
         (now (types .entry)) (now (members .entry)) (now (names .entry))
         (now (types .exit)) (now (members .exit)) (now (names .exit)) r ⌝ }
 {
+    let u = new.used;
     let bytes = name.len() + 7;
     let room = has_room(u, 2, bytes);
     if room {
@@ -114,71 +171,10 @@ pub fn add_string(
         let place = u.bytes + name.len();
         put_bytes(names, u.bytes, name);
         put_string(members, u.members, names, place, capacity);
-        let head = bare_head(u, name.len(), id, size, StructKind::Str, 2);
+        let head = bare_head(u, name.len(), new.id, size, StructKind::Str, 2);
         enter(types, members, names, u.types, head);
         let more = used_more(u, 2, bytes);
         return Turn::Added(more);
     }
-    Turn::Refused(Refusal::TablesFull(i))
-}
-
-// An AOI: measured, and stored where it can be laid out and there is room.
-pub fn add_aoi(
-    book: &[u8],
-    tys: &[u16],
-    at: usize,
-    n: usize,
-    i: u32,
-    name: &[u8],
-    id: u16,
-    types: &mut TypeTable,
-    members: &mut MemberTable,
-    names: &mut NameTable,
-    u: Used,
-) -> Turn
-    requires { ⌜ Addable (now types) (now members) (now names) (now book) (now tys) (now name) u at n ⌝ }
-    ensures { λ r. ⌜ Took (addAoi (viewIn (now (types .entry)) (now (names .entry)) u) (now (book .entry)) i
-        (now (name .entry)) id (declsFrom (now (types .entry)) (now (book .entry)) (now (tys .entry)) at 0 n)) u
-        (now (types .entry)) (now (members .entry)) (now (names .entry))
-        (now (types .exit)) (now (members .exit)) (now (names .exit)) r ⌝ }
-{
-    let m = measure_aoi(types, book, tys, at, n, name);
-    match m {
-        Measured::AccessWrong => {
-            return Turn::Refused(Refusal::AccessWrong(i));
-        }
-        Measured::TooFar => {
-            return Turn::Refused(Refusal::MemberTooFar(i));
-        }
-        Measured::Laid(c, long) => {
-            let count = c.members;
-            let bytes = name.len() + wide(long);
-            let room = has_room(u, wide(count), bytes);
-            if room {
-                let size = size_at(c);
-                let place = u.bytes + name.len();
-                let bools = count_bools(types, book, tys, at, n);
-                let h = hosts_for(bools);
-                put_bytes(names, u.bytes, name);
-                store_aoi(
-                    types,
-                    book,
-                    tys,
-                    at,
-                    n,
-                    name,
-                    h,
-                    members,
-                    u.members,
-                    names,
-                    place,
-                );
-                let head = bare_head(u, name.len(), id, size, StructKind::Aoi, count);
-                enter(types, members, names, u.types, head);
-                let more = used_more(u, wide(count), bytes);
-                return Turn::Added(more);
-            }
-            return Turn::Refused(Refusal::TablesFull(i));
-        }
-    }
+    Turn::Refused(Refusal::TablesFull(new.number))
 }

@@ -5,15 +5,13 @@ ghost use mathlib.Core.Bool.{true};
 ghost use Rattle.types.specs.declared.member.StructKind.the-variants.{Predefined, Str};
 ghost use Rattle.types.specs.declared.used.Turn.the-variants.{Added};
 ghost use Rattle.types.specs.Add.{Took, yes, newDef};
-ghost use Rattle.types.specs.Predefined.{predefinedId, distinct, predefinedIds, predefined, Ready};
-ghost use Rattle.types.specs.Predefined.{timerName, counterName, controlName, stringName};
+ghost use Rattle.types.specs.Predefined.{predefinedId, distinct, predefinedIds, predefined, Ready, ControlReady};
+ghost use Rattle.types.specs.Predefined.{stringName};
 ghost use Rattle.types.specs.Registry.{viewIn, noTypes, noMembers, noNames, Stands};
-ghost use Rattle.types.specs.Structs.{timerParts, counterParts, controlTypeParts, stringParts, stringSize};
+ghost use Rattle.types.specs.Structs.{controlOf, stringParts, stringSize};
 use crate::digits::put_bytes;
-use crate::fixed::put_control_type;
-use crate::fixed::put_counter;
+use crate::fixed::put_control;
 use crate::fixed::put_string;
-use crate::fixed::put_timer;
 use crate::member::StructKind;
 use crate::new_row::bare_head;
 use crate::new_row::enter;
@@ -22,6 +20,14 @@ use crate::tables::NameTable;
 use crate::tables::TypeTable;
 use crate::used::Used;
 use crate::used::used_more;
+
+// The ids that the caller gives for the four predefined types.
+pub struct PredefinedIds {
+    pub timer: u16,
+    pub counter: u16,
+    pub control: u16,
+    pub string: u16,
+}
 
 // An id of a predefined type: no type of a book can take it.
 fn id_ok(id: u16) -> bool
@@ -43,111 +49,74 @@ fn id_ok(id: u16) -> bool
 }
 
 // No two of the four are the same.
-fn all_differ(a: u16, b: u16, c: u16, d: u16) -> bool
-    ensures { λ r. ⌜ r ≡ distinct a b c d ⌝ }
+fn all_differ(ids: PredefinedIds) -> bool
+    ensures { λ r. ⌜ r ≡ distinct ids ⌝ }
 {
-    if a == b {
+    if ids.timer == ids.counter {
         return false;
     }
-    if a == c {
+    if ids.timer == ids.control {
         return false;
     }
-    if a == d {
+    if ids.timer == ids.string {
         return false;
     }
-    if b == c {
+    if ids.counter == ids.control {
         return false;
     }
-    if b == d {
+    if ids.counter == ids.string {
         return false;
     }
-    c != d
+    ids.control != ids.string
 }
 
 // The ids that a caller gives will do.
-pub fn ids_ok(timer: u16, counter: u16, control: u16, string: u16) -> bool
-    ensures { λ r. ⌜ r ≡ predefinedIds timer counter control string ⌝ }
+pub fn ids_ok(ids: PredefinedIds) -> bool
+    ensures { λ r. ⌜ r ≡ predefinedIds ids ⌝ }
 {
-    let one = id_ok(timer);
+    let one = id_ok(ids.timer);
     if !one {
         return false;
     }
-    let two = id_ok(counter);
+    let two = id_ok(ids.counter);
     if !two {
         return false;
     }
-    let three = id_ok(control);
+    let three = id_ok(ids.control);
     if !three {
         return false;
     }
-    let four = id_ok(string);
+    let four = id_ok(ids.string);
     if !four {
         return false;
     }
-    all_differ(timer, counter, control, string)
+    all_differ(ids)
 }
 
-// TIMER, after what is used.
-fn put_timer_def(
-    types: &mut TypeTable,
-    members: &mut MemberTable,
-    names: &mut NameTable,
-    u: Used,
-    id: u16,
-) -> Used
-    requires { ⌜ Ready (now types) (now members) (now names) u 6 20 ⌝ }
-    ensures { λ r. ⌜ Took (yes (newDef (viewIn (now (types .entry)) (now (names .entry)) u)
-        timerName id 12 Predefined timerParts)) u
-        (now (types .entry)) (now (members .entry)) (now (names .entry))
-        (now (types .exit)) (now (members .exit)) (now (names .exit)) (Added r) ⌝ }
-{
-    put_bytes(names, u.bytes, b"TIMER");
-    put_timer(members, u.members, names, u.bytes + 5);
-    let head = bare_head(u, 5, id, 12, StructKind::Predefined, 6);
-    enter(types, members, names, u.types, head);
-    used_more(u, 6, 20)
-}
-
-// COUNTER, after what is used.
-fn put_counter_def(
-    types: &mut TypeTable,
-    members: &mut MemberTable,
-    names: &mut NameTable,
-    u: Used,
-    id: u16,
-) -> Used
-    requires { ⌜ Ready (now types) (now members) (now names) u 8 26 ⌝ }
-    ensures { λ r. ⌜ Took (yes (newDef (viewIn (now (types .entry)) (now (names .entry)) u)
-        counterName id 12 Predefined counterParts)) u
-        (now (types .entry)) (now (members .entry)) (now (names .entry))
-        (now (types .exit)) (now (members .exit)) (now (names .exit)) (Added r) ⌝ }
-{
-    put_bytes(names, u.bytes, b"COUNTER");
-    put_counter(members, u.members, names, u.bytes + 7);
-    let head = bare_head(u, 7, id, 12, StructKind::Predefined, 8);
-    enter(types, members, names, u.types, head);
-    used_more(u, 8, 26)
-}
-
-// CONTROL, after what is used.
+// TIMER, COUNTER or CONTROL, after what is used: its name, those of its two words, and those of its status bits.
 fn put_control_def(
     types: &mut TypeTable,
     members: &mut MemberTable,
     names: &mut NameTable,
     u: Used,
     id: u16,
+    name: &[u8],
+    words: &[u8],
+    bits: &[u8],
 ) -> Used
-    requires { ⌜ Ready (now types) (now members) (now names) u 11 32 ⌝ }
+    requires { ⌜ ControlReady (now types) (now members) (now names) u (now name) (now words) (now bits) ⌝ }
     ensures { λ r. ⌜ Took (yes (newDef (viewIn (now (types .entry)) (now (names .entry)) u)
-        controlName id 12 Predefined controlTypeParts)) u
+        (now (name .entry)) id 12 Predefined (controlOf (now (words .entry)) (now (bits .entry))))) u
         (now (types .entry)) (now (members .entry)) (now (names .entry))
         (now (types .exit)) (now (members .exit)) (now (names .exit)) (Added r) ⌝ }
 {
-    put_bytes(names, u.bytes, b"CONTROL");
-    put_control_type(members, u.members, names, u.bytes + 7);
-    let head = bare_head(u, 7, id, 12, StructKind::Predefined, 11);
+    let long = name.len();
+    let count = 3 + bits.len() / 2;
+    put_bytes(names, u.bytes, name);
+    put_control(members, u.members, names, u.bytes + long, words, bits);
+    let head = bare_head(u, long, id, 12, StructKind::Predefined, count as u32);
     enter(types, members, names, u.types, head);
-    used_more(u, 11, 32)
+    used_more(u, count, long + 9 + bits.len())
 }
 
 // STRING, after what is used.
@@ -176,14 +145,11 @@ pub fn put_predefined(
     types: &mut TypeTable,
     members: &mut MemberTable,
     names: &mut NameTable,
-    timer: u16,
-    counter: u16,
-    control: u16,
-    string: u16,
+    ids: PredefinedIds,
 ) -> Used
     requires { ⌜ (now types ≡ noTypes) × ((now members ≡ noMembers) × (now names ≡ noNames)) ⌝ }
-    requires { ⌜ predefinedIds timer counter control string ≡ true ⌝ }
-    ensures { λ r. ⌜ Stands (predefined timer counter control string)
+    requires { ⌜ predefinedIds ids ≡ true ⌝ }
+    ensures { λ r. ⌜ Stands (predefined ids)
         (now (types .exit)) (now (members .exit)) (now (names .exit)) r ⌝ }
 {
     let none = Used {
@@ -191,8 +157,35 @@ pub fn put_predefined(
         members: 0,
         bytes: 0,
     };
-    let one = put_timer_def(types, members, names, none, timer);
-    let two = put_counter_def(types, members, names, one, counter);
-    let three = put_control_def(types, members, names, two, control);
-    put_string_def(types, members, names, three, string)
+    let one = put_control_def(
+        types,
+        members,
+        names,
+        none,
+        ids.timer,
+        b"TIMER",
+        b"PREACC",
+        b"ENTTDN",
+    );
+    let two = put_control_def(
+        types,
+        members,
+        names,
+        one,
+        ids.counter,
+        b"COUNTER",
+        b"PREACC",
+        b"CUCDDNOVUN",
+    );
+    let three = put_control_def(
+        types,
+        members,
+        names,
+        two,
+        ids.control,
+        b"CONTROL",
+        b"LENPOS",
+        b"ENEUDNEMERULINFD",
+    );
+    put_string_def(types, members, names, three, ids.string)
 }

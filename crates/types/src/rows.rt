@@ -2,7 +2,7 @@
 ghost use mathlib.Core.Path.{_≡_};
 ghost use Prim.Native.Nat.{_*_, _≤_};
 ghost use lib.ListN.{length};
-ghost use Rattle.types.specs.Tables.{memberAt, nameAt, typeAt};
+ghost use Rattle.types.specs.Tables.{memberAt, memberSaid, memberSays, nameAt, typeAt, typeRow, typeSaid};
 use crate::atomic::Atomic;
 use crate::member::Bit;
 use crate::member::Member;
@@ -59,7 +59,7 @@ fn name_past(members: &[u32], row: usize) -> Span
 
 // The structure that a row holds.
 pub fn type_at(types: &TypeTable, i: usize) -> StructDef
-    ensures { λ r. ⌜ r ≡ typeAt (now (types .entry)) i ⌝ }
+    ensures { λ r. ⌜ typeRow r ≡ typeSaid (now (types .entry)) i ⌝ }
 {
     if i < TYPES {
         return type_row(types, i);
@@ -69,7 +69,7 @@ pub fn type_at(types: &TypeTable, i: usize) -> StructDef
 
 // The member that a row holds.
 pub fn member_at(members: &MemberTable, row: usize) -> Member
-    ensures { λ r. ⌜ r ≡ memberAt (now (members .entry)) row ⌝ }
+    ensures { λ r. ⌜ memberSays r ≡ memberSaid (now (members .entry)) row ⌝ }
 {
     if row < MEMBERS {
         return member_row(members, row);

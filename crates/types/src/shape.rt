@@ -5,12 +5,12 @@ ghost use Prim.Native.Nat.{_*_};
 ghost use mathlib.Core.Bool.{true};
 ghost use lib.Dec.{leb};
 ghost use lib.ListN.{getD};
+ghost use Rattle.types.specs.Kept.{KeptTypes};
 ghost use Rattle.types.specs.Refusal.{numberOf, placeOf};
 ghost use Rattle.types.specs.Shape.{isThere, mostLengths, noneZero, lengthsOk, boolTag, three, productOf, within};
-ghost use Rattle.types.specs.Shape.{refused as refusedFor, boolShape, plainShape, shapeOf, symbolOf};
-ghost use Rattle.types.specs.Shape.{Plain, Symbolic, saidBy};
+ghost use Rattle.types.specs.Shape.{refused as refusedFor, boolShape, plainShape, shapeOf, symbolFor};
+ghost use Rattle.types.specs.Shape.{Plain, symbolSays, saidBy};
 ghost use Rattle.types.specs.Tables.{TyFits};
-ghost use Rattle.types.specs.Template.{idsIn};
 ghost use Rattle.types.specs.Waste.{sizesIn};
 use crate::atomic::Atomic;
 use crate::layout::is_bool;
@@ -28,6 +28,9 @@ const MOST: u64 = 67108864;
 
 // The most elements.
 const MOST_ELEMENTS: u64 = 18446744073709551615;
+
+// The most lengths of a tag.
+const MOST_LENGTHS: usize = 3;
 
 // The stored type, the lengths in use and zeros after them, how many of them are in use, the stored elements
 // and their bytes. A BOOL array has its BOOLs as the length, and DWORDs as elements.
@@ -50,6 +53,12 @@ pub enum Fit {
 pub struct Shaped {
     pub fit: Fit,
     pub shape: Shape,
+}
+
+// A symbol type, or why there is none.
+pub enum Symbol {
+    Type(u16),
+    Refused(Refusal),
 }
 
 // A product, where 64 bits hold it.
@@ -102,7 +111,7 @@ fn most_lengths(ty: Ty) -> usize
     if bool {
         return 1;
     }
-    3
+    MOST_LENGTHS
 }
 
 fn none_zero(lengths: &[u32]) -> bool
@@ -260,14 +269,22 @@ pub fn tag_shape(types: &TypeTable, ty: Ty, lengths: &[u32]) -> Shaped
     refused(Refusal::NoSuchType)
 }
 
-// The symbol type of a tag: the word of its type, and how many lengths it has.
-pub fn symbol_type(types: &TypeTable, s: Shape) -> u16
-    requires { ⌜ Symbolic (now types) s ⌝ }
-    ensures { λ r. ⌜ r ≡ symbolOf (idsIn (now (types .entry))) (s .ty) (s .used) ⌝ }
+// The symbol type of a shape: the word of its type, and how many lengths it has. A shape as `tag_shape` gives it has
+// one; any other may be of a type that is not there (15), or have more than three lengths (23).
+pub fn symbol_type(types: &TypeTable, s: Shape) -> Symbol
+    requires { ⌜ KeptTypes (now types) ⌝ }
+    ensures { λ r. ⌜ symbolSays r ≡ symbolFor (now (types .entry)) (s .ty) (s .used) ⌝ }
 {
     let ty = s.ty;
     let used = s.used;
-    let base = type_in(types, ty);
-    let sum = base + 8192 * (used as u32);
-    sum as u16
+    let there = is_there(types, ty);
+    if there {
+        if MOST_LENGTHS < used {
+            return Symbol::Refused(Refusal::LengthsWrong);
+        }
+        let base = type_in(types, ty);
+        let sum = base + 8192 * (used as u32);
+        return Symbol::Type(sum as u16);
+    }
+    Symbol::Refused(Refusal::NoSuchType)
 }

@@ -5,10 +5,13 @@ ghost use Prim.Native.Nat.{_≤_, _<_};
 ghost use lib.ListN.{length};
 ghost use lib.Seq.{sets};
 ghost use Rattle.types.specs.Defs.{Readable, AllReadable};
+ghost use Rattle.types.specs.Given.{Given, saidBy};
 ghost use Rattle.types.specs.Handle.{handleOf};
+ghost use Rattle.types.specs.Kept.{Kept};
 ghost use Rattle.types.specs.Pieces.{Walkable, Walked, frontIn};
 ghost use Rattle.types.specs.Sink.{Emitted};
-ghost use Rattle.types.specs.Template.{objectSize, templateIn, Answered};
+ghost use Rattle.types.specs.Template.{hasTemplate, objectSize, templateFor, templateIn, templateLength};
+use crate::given::Wrote;
 use crate::handle::START;
 use crate::handle::finish_handle;
 use crate::member::StructDef;
@@ -20,6 +23,7 @@ use crate::pieces::emit_padding;
 use crate::pieces::emit_shown;
 use crate::pieces::user_id;
 use crate::refusal::Refusal;
+use crate::shape::is_there;
 use crate::sink::Sink;
 use crate::sink::emit;
 use crate::tables::MemberTable;
@@ -28,12 +32,6 @@ use crate::tables::TYPES;
 use crate::tables::TypeTable;
 use crate::tables::type_row;
 use words::wide;
-
-// A template's length, or why there is none.
-pub enum Wrote {
-    Length(u32),
-    Refused(Refusal),
-}
 
 // What every template has.
 fn emit_front(
@@ -92,8 +90,8 @@ fn measure(types: &TypeTable, members: &MemberTable, names: &NameTable, d: Struc
     walk(types, members, names, d, start, &mut none)
 }
 
-// The length of a structure's template.
-pub fn template_len(
+// How many bytes a structure's template has.
+pub fn template_bytes(
     types: &TypeTable,
     members: &MemberTable,
     names: &NameTable,
@@ -141,6 +139,20 @@ pub fn write_template(
     walk(types, members, names, d, start, out);
 }
 
+// The length of the template of the structure with a number; or 15.
+pub fn template_len(types: &TypeTable, members: &MemberTable, names: &NameTable, n: usize) -> Wrote
+    requires { ⌜ Kept (now types) (now members) (now names) ⌝ }
+    ensures { λ r. ⌜ saidBy r ≡ templateLength (now (types .entry)) (now (members .entry)) (now (names .entry)) n ⌝ }
+{
+    let there = is_there(types, Ty::Struct(n));
+    if there {
+        let d = type_row(types, n);
+        let long = template_bytes(types, members, names, d);
+        return Wrote::Length(long);
+    }
+    Wrote::Refused(Refusal::NoSuchType)
+}
+
 // The object definition size of a template of n bytes.
 pub fn object_definition_size(n: u32) -> u32
     ensures { λ r. ⌜ r ≡ objectSize n ⌝ }
@@ -157,8 +169,9 @@ fn struct_template(
     out: &mut [u8],
 ) -> Wrote
     requires { ⌜ AllReadable (now types) (now members) ⌝ }
-    ensures { λ r. ⌜ Answered (now (types .entry)) (now (members .entry)) (now (names .entry))
-        (Ty.Struct n) (now (out .entry)) r (now (out .exit)) ⌝ }
+    ensures { λ r. ⌜ Given (hasTemplate (now (types .entry)) (Ty.Struct n))
+        (templateFor (now (types .entry)) (now (members .entry)) (now (names .entry)) (Ty.Struct n))
+        (now (out .entry)) r (now (out .exit)) ⌝ }
 {
     if TYPES <= n {
         return Wrote::Refused(Refusal::NoSuchType);
@@ -168,7 +181,7 @@ fn struct_template(
     if id == 0 {
         return Wrote::Refused(Refusal::NoSuchType);
     }
-    let long = template_len(types, members, names, d);
+    let long = template_bytes(types, members, names, d);
     if out.len() < long as usize {
         return Wrote::Refused(Refusal::NoRoom);
     }
@@ -184,9 +197,10 @@ pub fn template(
     ty: Ty,
     out: &mut [u8],
 ) -> Wrote
-    requires { ⌜ AllReadable (now types) (now members) ⌝ }
-    ensures { λ r. ⌜ Answered (now (types .entry)) (now (members .entry)) (now (names .entry))
-        ty (now (out .entry)) r (now (out .exit)) ⌝ }
+    requires { ⌜ Kept (now types) (now members) (now names) ⌝ }
+    ensures { λ r. ⌜ Given (hasTemplate (now (types .entry)) ty)
+        (templateFor (now (types .entry)) (now (members .entry)) (now (names .entry)) ty)
+        (now (out .entry)) r (now (out .exit)) ⌝ }
 {
     match ty {
         Ty::Atomic(_) => {

@@ -5,8 +5,10 @@ ghost use Rattle.types.specs.Add.{addTo};
 ghost use Rattle.types.specs.Checks.{entriesFrom};
 ghost use Rattle.types.specs.Lookup.{rowNames};
 ghost use Rattle.types.specs.Registry.{viewIn};
-ghost use Rattle.types.specs.Resolve.{typeNames, allKnown};
+ghost use Rattle.types.specs.Order.{allKnown};
+ghost use Rattle.types.specs.Resolve.{typeNames, hasName};
 ghost use Rattle.types.specs.Turns.{countOf, declsOf, TurnIn, Turned, Tries};
+use crate::add::Waiting;
 use crate::add::add_entry;
 use crate::book::count_of;
 use crate::book::type_entry;
@@ -35,7 +37,7 @@ pub fn take_turn(
     tried: &mut [u8],
 ) -> Turn
     requires { ⌜ TurnIn (now types) (now members) (now names) (now book) (now tys) (now stuck) (now tried) i at u ⌝ }
-    ensures { λ r. ⌜ (Turned (allKnown (rowNames (now (types .entry)) (now (names .entry)) (u .types))
+    ensures { λ r. ⌜ (Turned (allKnown hasName (rowNames (now (types .entry)) (now (names .entry)) (u .types))
         (typeNames (now (book .entry)) at 0 (countOf (now (book .entry)) i)))
         (addTo (viewIn (now (types .entry)) (now (names .entry)) u) (now (book .entry)) i at
         (declsOf (viewIn (now (types .entry)) (now (names .entry)) u) (now (book .entry))
@@ -64,16 +66,11 @@ pub fn take_turn(
     let span = e.name;
     let start = wide(span.at);
     let end = start + wide(span.long);
-    add_entry(
-        book,
-        tys,
+    let w = Waiting {
+        number: i as u32,
+        entry: e,
         at,
-        e,
-        i as u32,
-        &book[start..end],
-        types,
-        members,
-        names,
-        u,
-    )
+        used: u,
+    };
+    add_entry(book, tys, w, &book[start..end], types, members, names)
 }

@@ -3,19 +3,28 @@
 ghost use mathlib.Core.Path.{_≡_};
 ghost use Prim.Native.Nat.{ℕ};
 ghost use mathlib.Core.List.{List};
+ghost use Rattle.types.specs.Kept.{KeptRows};
 ghost use Rattle.types.specs.Tables.{TyFits};
-ghost use Rattle.types.specs.Waste.{sizeIn, sizesIn, Fitting, SeenBits, Countable, wasteIn};
+ghost use Rattle.types.specs.Waste.{sizeIn, sizesIn, Fitting, SeenBits, Countable, wasteIn, saidBy, wasteAt};
 use crate::layout::elements;
 use crate::member::Bit;
 use crate::member::Member;
 use crate::member::StructDef;
 use crate::member::Ty;
+use crate::refusal::Refusal;
+use crate::shape::is_there;
 use crate::tables::MemberTable;
 use crate::tables::TypeTable;
 use crate::tables::member_row;
 use crate::tables::type_row;
 use words::wide;
 use words::wide64;
+
+// So many bits are waste, or why there is no saying.
+pub enum Wasted {
+    Bits(u64),
+    Refused(Refusal),
+}
 
 // The bytes of a type.
 pub fn size_in(types: &TypeTable, ty: Ty) -> u64
@@ -54,8 +63,8 @@ fn seen_bits(types: &TypeTable, m: Member) -> u64
     }
 }
 
-// The waste of a structure, in bits; no name matters to it.
-pub fn waste(types: &TypeTable, members: &MemberTable, d: StructDef) -> u64
+// How many bits of a structure are waste; no name matters to it.
+pub fn lost_bits(types: &TypeTable, members: &MemberTable, d: StructDef) -> u64
     requires { ⌜ Countable (now types) (now members) d ⌝ }
     ensures { λ r. ⌜ ((names : List ℕ) → r ≡ wasteIn (now (types .entry)) (now (members .entry)) names d) ⌝ }
 {
@@ -73,4 +82,18 @@ pub fn waste(types: &TypeTable, members: &MemberTable, d: StructDef) -> u64
         return 0;
     }
     total - bits
+}
+
+// The waste of the structure with a number; or 15.
+pub fn waste(types: &TypeTable, members: &MemberTable, n: usize) -> Wasted
+    requires { ⌜ KeptRows (now types) (now members) ⌝ }
+    ensures { λ r. ⌜ ((names : List ℕ) → saidBy r ≡ wasteAt (now (types .entry)) (now (members .entry)) names n) ⌝ }
+{
+    let there = is_there(types, Ty::Struct(n));
+    if there {
+        let d = type_row(types, n);
+        let bits = lost_bits(types, members, d);
+        return Wasted::Bits(bits);
+    }
+    Wasted::Refused(Refusal::NoSuchType)
 }

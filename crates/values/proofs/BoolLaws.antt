@@ -96,7 +96,7 @@ pub laid-all : {s : List ℕ} {k p : ℕ} {image : List ℕ} {m : ℕ} {new : Li
 laid-all n a e = rw e at (a .bits)
 
 -- and some more
-pub laid-more : {s : List ℕ} {k p : ℕ} {image : List ℕ} {m : ℕ} {new : List ℕ} (q n : ℕ) (b : Bits) (newer : List ℕ)
+laid-more : {s : List ℕ} {k p : ℕ} {image : List ℕ} {m : ℕ} {new : List ℕ} (q n : ℕ) (b : Bits) (newer : List ℕ)
     (sum : ℕ) → Laid s k p image m new → q ≡ p + m → sum ≡ m + n → length newer ≡ length new
     → flat newer ≡ stamp q n b (flat new) → ((i : ℕ) → i < n → b i ≡ truths s k (m + i)) → Laid s k p image sum newer
 laid-more {s} {k} {p} {image} {m} {new} q n b newer sum a e f long h g =

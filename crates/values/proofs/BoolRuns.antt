@@ -35,11 +35,11 @@ module _ {s : List ℕ} {k : ℕ} (t : There s k) (one : kindOf (t .token) ≡ 1
   bool-byte : getD s (8 + 12 * k) 0 ≡ payloadAt s k
   bool-byte = low-byte 7 s (8 + 12 * k) (t .truth one)
 
-  pub bool-small : getD s (8 + 12 * k) 0 < 2
+  bool-small : getD s (8 + 12 * k) 0 < 2
   bool-small = omega (arith, bool-byte, t .truth one)
 
   -- and the payload's first bit its truth
-  pub bool-bit : payloadBits (t .token) 0 ≡ truths s k 0
+  bool-bit : payloadBits (t .token) 0 ≡ truths s k 0
   unfolding bitOf truths
   bool-bit =
       let same : getD s (8 + 12 * (k + 0)) 0 ≡ getD s (8 + 12 * k) 0 = ap (λ j. getD s j 0) (omega arith) in

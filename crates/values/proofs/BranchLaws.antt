@@ -66,7 +66,7 @@ within-same types members w (suc f) (suc g) i a b c =
 
 module _ (types members : List ℕ) (w : Walkable types members) (i : ℕ) (low : i < 200) where
   -- a structure's tree is what its rows say
-  pub tree-is : treeIn types members i ≡ structTree (treeIn types members) (knownIn types members i)
+  tree-is : treeIn types members i ≡ structTree (treeIn types members) (knownIn types members i)
   unfolding treeOf treeWithin
   tree-is =
       struct-same types members (treeWithin (knownIn types members) 199) (treeIn types members) i

@@ -39,7 +39,7 @@ pub data Visible (members : List ℕ) (first count j row : ℕ) : Type 0 where
   shows : j < count → memberAt members (first + j) .hidden ≡ false → row ≡ first + j
       → Visible members first count j row
 
-pub visible : (members : List ℕ) (first count j : ℕ) → Visible members first count j (visibleRow members first count j)
+visible : (members : List ℕ) (first count j : ℕ) → Visible members first count j (visibleRow members first count j)
 unfolding visibleRow
 visible members first count j = go (decLt j count)
   where
@@ -72,7 +72,7 @@ module _ (members : List ℕ) (first count j : ℕ) where
 
 -- ---- the members: up to entry p they are checked
 
-abbrev pub membersTree : List ℕ → List ℕ → ℕ → Tree
+abbrev membersTree : List ℕ → List ℕ → ℕ → Tree
 membersTree types members i = struct (8 * sizesIn types i) (branchesIn types members i)
 
 -- `most` is at least the number of the entries that are left

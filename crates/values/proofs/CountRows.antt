@@ -17,7 +17,7 @@ use Rattle.values.specs.Stream.{Token, bodies}
 use Rattle.values.specs.Walk.{isNested, upTo, wrap, leafOut, structsBy, memberBy, rowBy, membersBy, structOut}
 use Rattle.values.specs.Walkable.{Walkable, RowOf, NestedRow}
 use Rattle.values.proofs.CountLaws.{counted-same, member-counted, plain-counted, plain-same}
-use Rattle.values.proofs.EntryLaws.{bodies-append}
+use Rattle.values.proofs.HeadLaws.{bodies-append}
 use Rattle.values.proofs.UpLaws.{up-grows, wrap-length, wrap-bodies}
 use Rattle.values.proofs.MemberLaws.{member-leaf, member-nested, row-of}
 

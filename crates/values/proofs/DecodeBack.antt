@@ -19,8 +19,9 @@ use Rattle.values.specs.Stream.{mostBytes}
 use Rattle.values.specs.declared.entries.Entry.{Entry}
 use Rattle.values.specs.declared.entries.Loaded.{Loaded}
 use Rattle.values.specs.declared.entries.Loaded.the-variants.{Is}
-use Rattle.values.proofs.EntryLaws.{bodies-append, bodies-one, entry-back, heads-append, length-entry}
-use Rattle.values.proofs.EntryLaws.{length-heads}
+use Rattle.values.proofs.EntryLaws.{entry-back, length-entry}
+use Rattle.values.proofs.HeadLaws.{bodies-append, bodies-one, heads-append}
+use Rattle.values.proofs.HeadLaws.{length-heads}
 use Rattle.values.proofs.StreamLaws.{stream-long}
 
 -- the entry that says a token, where the next text begins at a place

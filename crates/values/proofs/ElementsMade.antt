@@ -8,24 +8,25 @@ use mathlib.Core.List.{List}
 use lib.ListN.{length}
 use Rattle.words.specs.Bits.{Bits, flat}
 use Rattle.types.specs.Waste.{sizesIn}
-use Rattle.values.specs.InPlace.{Standing, eachMade, made}
+use Rattle.values.specs.InPlace.{eachMade, made}
+use Rattle.values.specs.Placed.{Sweepable}
 use Rattle.values.specs.Rows.{AllHere, Here, treeIn}
 use Rattle.values.specs.Tree.{Tree, array, span}
 use Rattle.values.proofs.ArrayMade.{array-made}
 use Rattle.values.proofs.MadeLaws.{made-beside}
 use Rattle.values.proofs.OnlyHeld.{not-inside}
 use Rattle.values.proofs.SpanLaws.{tree-span}
-use Rattle.values.proofs.StandingLaws.{standing-placed, standing-walkable}
+use Rattle.values.proofs.SweepableLaws.{sweepable-walkable}
 
 -- n elements of a tree from a bit on
 abbrev elementsMade : ℕ → Tree → ℕ → Bits → Bits
 elementsMade n tree p x = eachMade n (made tree) (span tree) p x
 
 -- elements of no bytes have no bit
-pub elements-none : {types members : List ℕ} {i size : ℕ} (count : ℕ) → Standing types members → i < 200
+pub elements-none : {types members : List ℕ} {i size : ℕ} (count : ℕ) → Sweepable types members → i < 200
     → size ≡ sizesIn types i → size ≡ 0 → (p : ℕ) (x : Bits) → x ≡ made (array count (treeIn types members i)) p x
 unfolding span
-elements-none {types} {members} {i} count standing low z n p x =
+elements-none {types} {members} {i} count s low z n p x =
     fun-ext (λ k. sym (made-beside (array count tree) p x k
     (not-inside p (count * span tree) k (λ a b. omega (arith, all)))))
   where
@@ -33,7 +34,7 @@ elements-none {types} {members} {i} count standing low z n p x =
     tree = treeIn types members i
 
     one : span tree ≡ 0
-    one = omega (arith, tree-span types members (standing-walkable standing) i low, z, n)
+    one = omega (arith, tree-span types members (sweepable-walkable s) i low, z, n)
 
     all : count * span tree ≡ 0
     all = ap (count *_) one ∙ mul-zero count
@@ -61,7 +62,7 @@ elements-start {types} {members} {i} {count} {image} {base} {size} z =
     }
 
 module _ {types members : List ℕ} {i count : ℕ} {image : List ℕ} {base size e : ℕ} {now : List ℕ}
-    (standing : Standing types members) (here : AllHere types i count base image)
+    (sweepable : Sweepable types members) (here : AllHere types i count base image)
     (v : Elements types members i count image base size e now) where
   abbrev tree : Tree
   tree = treeIn types members i
@@ -77,7 +78,7 @@ module _ {types members : List ℕ} {i count : ℕ} {image : List ℕ} {base siz
       go : (left : ℕ) → e + left ≡ count
           → elementsMade left tree place (flat now) ≡ elementsMade count tree (8 * base) (flat image)
           → flat now ≡ made (array count tree) (8 * base) (flat image)
-      go zero a b = b ∙ array-made count tree (8 * base) (flat image) (standing-placed standing i (here .low))
+      go zero a b = b ∙ array-made count tree (8 * base) (flat image) (sweepable .disjoint .placed i (here .low))
       go (suc left) a b = absurd (let x : ⊥ = omega arith in x)
 
   module _ (l : e < count) where
@@ -94,7 +95,7 @@ module _ {types members : List ℕ} {i count : ℕ} {image : List ℕ} {base siz
     next-place : place + span tree ≡ 8 * (base + size * (e + 1))
     next-place =
         let a : size * (e + 1) ≡ size * e + size = mul-add size e 1 ∙ ap (size * e +_) (mul-one size) in
-        omega (arith, tree-span types members (standing-walkable standing) i (here .low), v .long)
+        omega (arith, tree-span types members (sweepable-walkable sweepable) i (here .low), v .long)
 
     -- and the element made normal is one less to do
     pub element-made : (new : List ℕ) → flat new ≡ made tree place (flat now) → length new ≡ length now

@@ -1,35 +1,36 @@
--- Laws of entries (document 01, "Value stream"): the twelve bytes of one, as they are stored; the bytes of entries one
--- after the other, and their texts; entries by value: what was stored is loaded again, and only its bytes say an entry.
+-- Laws of one entry (document 01, "Value stream"): its twelve bytes, as they are stored; what was stored is loaded
+-- again, only its bytes say an entry, and what is said of bytes tells the entry.
 use Prim.Native.Nat.{ℕ, zero, suc, _+_, _-_, _*_, _/_, _%_, _^_, _≤_, _<_}
-use native.Mathlib.Nat.{add-zero, zero-add, add-assoc, mod-eq-of-lt}
-use native.Mathlib.Decide.{ℕ-discrete, decLt}
+use native.Mathlib.Nat.{add-zero, zero-add, mod-eq-of-lt}
+use native.Mathlib.Decide.{ℕ-discrete}
 use native.Mathlib.Omega.{arith}
 use mathlib.Core.Path.{_≡_, refl, sym, ap, ap₂, _∙_, subst}
 use mathlib.Core.Bool.{Bool, true, false, cond, _&&_}
-use mathlib.Core.List.{List, [], _∷_, _++_, append-assoc, append-nil}
+use mathlib.Core.List.{List, [], _∷_, _++_}
 use lib.Arith.{lt-of-le-ne}
 use lib.Dec.{eqb, leb, ltb}
-use lib.ListN.{length, getD, length-append, List·getD-eq-default}
+use lib.ListN.{length, getD, List·getD-eq-default}
 use lib.Seq.{sets, length-sets}
 use Rattle.words.specs.Words.{bytesOf, part, wordAt, Bytes}
 use Rattle.words.proofs.Lists.{sets-append, getD-sets, part-cons}
 use Rattle.words.proofs.WordLaws.{length-bytes, word-back, bytes-back}
 use borrow.Author.Tests.{eq-eqb, ne-eqb, eqb-true, lt-ltb, le-ltb, le-leb, lt-leb, leb-true, leb-false}
 use Rattle.types.proofs.TestLaws.{and-left, and-right}
-use Rattle.values.specs.Stream.{Token, bool, number, member, mark, kindOf, payloadOf, bodyOf, entryBytes}
-use Rattle.values.specs.Stream.{heads, bodies}
-use Rattle.values.specs.Entry.{entryKind, entryPayload, EntryFits, bytesOfEntry, bareIn, truthIn, lowIn, textIn}
-use Rattle.values.specs.Entry.{payloadsIn, loadedOf, threeZeros, entryIn, entrySet, EntryStored}
+use Rattle.types.specs.Said.{Said, done}
+use Rattle.values.specs.Stream.{entryBytes}
+use Rattle.values.specs.Entry.{EntryFits, EntryStored, LoadedFits, bareIn, bytesOfEntry, entryAt, entryIn}
+use Rattle.values.specs.Entry.{entryKind, entryOr17, entryPayload, entrySet, isEntry, kindAt, loadedOf, lowIn}
+use Rattle.values.specs.Entry.{payloadAt, payloadRight, payloadsIn, payloadsRight, saidBy, textIn, threeZeros}
+use Rattle.values.specs.Entry.{truthIn}
 use Rattle.values.specs.declared.entries.Entry.{Entry}
 use Rattle.values.specs.declared.entries.Entry.the-variants as entry
 use Rattle.values.specs.declared.entries.Loaded.{Loaded}
 use Rattle.values.specs.declared.entries.Loaded.the-variants.{Is, Malformed}
-use Rattle.values.specs.Walk.{upTo}
 
 -- ---- one entry
 
 -- a kind and three zeros are a word of four bytes
-pub entry-words : (kind payload : ℕ) → kind < 256 → entryBytes kind payload ≡ bytesOf 4 kind ++ bytesOf 8 payload
+entry-words : (kind payload : ℕ) → kind < 256 → entryBytes kind payload ≡ bytesOf 4 kind ++ bytesOf 8 payload
 unfolding entryBytes bytesOf
 entry-words kind payload h =
     let a : kind % 256 ≡ kind = omega arith in
@@ -46,96 +47,6 @@ pub entry-stored : (out : List ℕ) (at kind payload : ℕ) → kind < 256
 entry-stored out at kind payload h =
     sym (ap (sets out at) (entry-words kind payload h)
     ∙ sets-append out at (bytesOf 4 kind) (bytesOf 8 payload) ∙ rw (length-bytes 4 kind))
-
--- ---- entries one after the other
-
-pub bodies-append : (ts us : List Token) → bodies (ts ++ us) ≡ bodies ts ++ bodies us
-unfolding bodies
-bodies-append [] us = refl
-bodies-append (t ∷ ts) us =
-    ap (λ (l : List ℕ). bodyOf t ++ l) (bodies-append ts us) ∙ sym (append-assoc (bodyOf t) (bodies ts) (bodies us))
-
-pub texts-append : (ts us : List Token) → length (bodies (ts ++ us)) ≡ length (bodies ts) + length (bodies us)
-texts-append ts us = rw (bodies-append, length-append)
-
--- entries without a text, and others without one
-pub plain-append : (ts us : List Token) → bodies ts ≡ [] → bodies us ≡ [] → bodies (ts ++ us) ≡ []
-plain-append ts us a b = bodies-append ts us ∙ ap₂ _++_ a b
-
--- the texts of the later ones stand after those of the earlier ones
-pub heads-append : (place : ℕ) (ts us : List Token)
-    → heads place (ts ++ us) ≡ heads place ts ++ heads (place + length (bodies ts)) us
-unfolding heads bodies
-heads-append place [] us = rw add-zero
-heads-append place (t ∷ ts) us =
-    let next : ℕ = place + length (bodyOf t) in
-    let e : next + length (bodies ts) ≡ place + length (bodyOf t ++ bodies ts) =
-    rw length-append (add-assoc place (length (bodyOf t)) (length (bodies ts))) in
-    rw (heads-append next ts us, e)
-    (sym (append-assoc (entryBytes (kindOf t) (payloadOf place t)) (heads next ts) (heads _ us)))
-
--- twelve bytes each
-pub length-heads : (place : ℕ) (ts : List Token) → length (heads place ts) ≡ 12 * length ts
-unfolding heads
-length-heads place [] = refl
-length-heads place (t ∷ ts) =
-    let e = length-entry (kindOf t) (payloadOf place t) in
-    rw length-append (omega (arith, length-heads (place + length (bodyOf t)) ts))
-
-pub heads-one : (place : ℕ) (t : Token) → heads place (t ∷ []) ≡ entryBytes (kindOf t) (payloadOf place t)
-unfolding heads
-heads-one place t = append-nil (entryBytes (kindOf t) (payloadOf place t))
-
-pub bodies-one : (t : Token) → bodies (t ∷ []) ≡ bodyOf t
-unfolding bodies
-bodies-one t = append-nil (bodyOf t)
-
--- ---- entries without a text
-
--- they have no bodies, and the same bytes wherever the next text goes: an empty text has no body either, but its place
-pub record Textless (ts : List Token) : Type 0 where
-  pub none : bodies ts ≡ []
-  pub anywhere : (place : ℕ) → heads place ts ≡ heads 0 ts
-
-pub textless-none : Textless []
-textless-none = record { none = unfold bodies in refl; anywhere = λ place. unfold heads in refl }
-
--- one entry
-pub textless-one : (t : Token) → bodyOf t ≡ [] → ((place : ℕ) → payloadOf place t ≡ payloadOf 0 t) → Textless (t ∷ [])
-textless-one t a b =
-    record {
-      none = bodies-one t ∙ a;
-      anywhere = λ place. heads-one place t ∙ ap (entryBytes (kindOf t)) (b place) ∙ sym (heads-one 0 t);
-    }
-
-pub textless-bool : (b : Bool) → Textless (bool b ∷ [])
-textless-bool b = textless-one (bool b) refl (λ place. refl)
-
-pub textless-number : (kind x : ℕ) → Textless (number kind x ∷ [])
-textless-number kind x = textless-one (number kind x) refl (λ place. refl)
-
-pub textless-member : (j : ℕ) → Textless (member j ∷ [])
-textless-member j = textless-one (member j) refl (λ place. refl)
-
-pub textless-mark : (kind : ℕ) → Textless (mark kind ∷ [])
-textless-mark kind = textless-one (mark kind) refl (λ place. refl)
-
--- some, and others after them
-pub textless-append : {ts us : List Token} → Textless ts → Textless us → Textless (ts ++ us)
-textless-append {ts} {us} a b =
-    record {
-      none = plain-append ts us (a .none) (b .none);
-      anywhere = λ place.
-          heads-append place ts us
-          ∙ ap₂ _++_ (a .anywhere place) (b .anywhere (place + length (bodies ts))
-          ∙ sym (b .anywhere (0 + length (bodies ts))))
-          ∙ sym (heads-append 0 ts us);
-    }
-
-pub textless-up : (g : ℕ → List Token) (n : ℕ) → ((k : ℕ) → Textless (g k)) → Textless (upTo g n)
-unfolding upTo
-textless-up g zero h = textless-none
-textless-up g (suc n) h = textless-append (textless-up g n h) (h n)
 
 -- ---- an entry by value
 
@@ -254,73 +165,105 @@ entry-back s at e f h =
 
 -- ---- bytes that say an entry are its bytes
 
-abbrev Says : ℕ → ℕ → Loaded → Type 0
-Says kind x (Is e) = (entryKind e ≡ kind) × (entryPayload e ≡ x)
-Says kind x Malformed = Unit {0}
-
-is-says : (e : Entry) (x : ℕ) → entryPayload e ≡ x → Says (entryKind e) x (Is e)
-is-says e x p = (refl, p)
-
-bare-says : (e : Entry) (x : ℕ) → entryPayload e ≡ 0 → Says (entryKind e) x (bareIn e x)
+bare-said : (e : Entry) (x : ℕ) → entryPayload e ≡ 0 → saidBy (bareIn e x) ≡ entryOr17 (eqb x 0) (entryKind e) x
 unfolding bareIn
-bare-says e x p = go (ℕ-discrete x 0)
+bare-said e x p = go (ℕ-discrete x 0)
   where
-    go : Dec (x ≡ 0) → Says (entryKind e) x (cond (eqb x 0) (Is e) Malformed)
-    go (yes h) = rw (eq-eqb x 0 h) (refl, p ∙ sym h)
-    go (no h) = rw (ne-eqb x 0 h) tt
+    go : Dec (x ≡ 0) → saidBy (cond (eqb x 0) (Is e) Malformed) ≡ entryOr17 (eqb x 0) (entryKind e) x
+    go (yes h) = rw (eq-eqb x 0 h) (ap (λ (y : ℕ). done (entryKind e, y)) (p ∙ sym h))
+    go (no h) = rw (ne-eqb x 0 h) refl
 
-truth-says : (x : ℕ) → Says 1 x (truthIn x)
+truth-said : (x : ℕ) → saidBy (truthIn x) ≡ entryOr17 (ltb x 2) 1 x
 unfolding truthIn
-truth-says x = go (ℕ-discrete x 0) (ℕ-discrete x 1)
+truth-said x = go (ℕ-discrete x 0) (ℕ-discrete x 1)
   where
     go : Dec (x ≡ 0) → Dec (x ≡ 1)
-        → Says 1 x (cond (eqb x 0) (Is (entry.Bool false)) (cond (eqb x 1) (Is (entry.Bool true)) Malformed))
-    go (yes h) l = rw (eq-eqb x 0 h) (refl, sym h)
-    go (no h) (yes l) = rw (ne-eqb x 0 h, eq-eqb x 1 l) (refl, sym l)
-    go (no h) (no l) = rw (ne-eqb x 0 h, ne-eqb x 1 l) tt
+        → saidBy (cond (eqb x 0) (Is (entry.Bool false)) (cond (eqb x 1) (Is (entry.Bool true)) Malformed))
+        ≡ entryOr17 (ltb x 2) 1 x
+    go (yes h) l = rw h refl
+    go (no h) (yes l) = rw l refl
+    go (no h) (no l) = rw (ne-eqb x 0 h, ne-eqb x 1 l, le-ltb x 2 (omega (arith, h, l))) refl
 
-low-says : (f : ℕ → Entry) (kind x : ℕ) → entryKind (f x) ≡ kind → entryPayload (f x) ≡ x → Says kind x (lowIn f x)
+low-said : (f : ℕ → Entry) (kind x : ℕ) → entryKind (f x) ≡ kind → entryPayload (f x) ≡ x
+    → saidBy (lowIn f x) ≡ entryOr17 (ltb x (2 ^ 32)) kind x
 unfolding lowIn
-low-says f kind x a b = go (decLt x (2 ^ 32))
+low-said f kind x a b = go (ltb x (2 ^ 32))
   where
-    go : Dec (x < 2 ^ 32) → Says kind x (cond (ltb x (2 ^ 32)) (Is (f x)) Malformed)
-    go (yes h) = rw (lt-ltb x (2 ^ 32) h) (a, b)
-    go (no h) = let l : 2 ^ 32 ≤ x = omega (arith, h) in rw (le-ltb x (2 ^ 32) l) tt
+    go : (t : Bool) → saidBy (cond t (Is (f x)) Malformed) ≡ entryOr17 t kind x
+    go true = ap₂ (λ (k y : ℕ). done (k, y)) a b
+    go false = refl
 
--- each of some answers, the first of them to a kind
+text-said : (x : ℕ) → saidBy (textIn x) ≡ entryOr17 true 6 x
+text-said x =
+    let e : x % 2 ^ 32 + 2 ^ 32 * (x / 2 ^ 32) ≡ x = omega arith in
+    ap (λ (y : ℕ). done (6, y)) e
+
+-- each of some answers, the first of them to a kind, with whether the payload is right
 infixr 30 _then_
-data EachSays (x : ℕ) : ℕ → List Loaded → Type 0 where
-  none : {kind : ℕ} → EachSays x kind []
-  _then_ : {kind : ℕ} {r : Loaded} {rs : List Loaded} → Says kind x r → EachSays x (suc kind) rs
-      → EachSays x kind (r ∷ rs)
+data EachSaid (x : ℕ) : ℕ → List Loaded → List Bool → Type 0 where
+  none : {kind : ℕ} → EachSaid x kind [] []
+  _then_ : {kind : ℕ} {r : Loaded} {rs : List Loaded} {b : Bool} {bs : List Bool} → saidBy r ≡ entryOr17 b kind x
+      → EachSaid x (suc kind) rs bs → EachSaid x kind (r ∷ rs) (b ∷ bs)
 
-each-at : {kind x : ℕ} {rs : List Loaded} → EachSays x kind rs → (j : ℕ) → Says (kind + j) x (getD rs j Malformed)
-each-at none j = tt
-each-at (a then b) zero = rw add-zero a
-each-at {kind} (a then b) (suc j) =
+said-at : {kind x : ℕ} {rs : List Loaded} {bs : List Bool} → EachSaid x kind rs bs → (j : ℕ)
+    → saidBy (getD rs j Malformed) ≡ entryOr17 (getD bs j false) (kind + j) x
+said-at none j = refl
+said-at (a then b) zero = rw add-zero a
+said-at {kind} (a then b) (suc j) =
     let e : kind + suc j ≡ suc kind + j = omega arith in
-    rw e (each-at b j)
+    rw e (said-at b j)
 
-each-says : (x : ℕ) → EachSays x 0 (payloadsIn x)
-each-says x =
-    bare-says entry.Null x refl
-    then truth-says x
-    then is-says (entry.Signed x) x refl
-    then is-says (entry.Unsigned x) x refl
-    then low-says entry.Real 4 x refl refl
-    then is-says (entry.LReal x) x refl
-    then is-says (entry.Text (x % 2 ^ 32) (x / 2 ^ 32)) x (omega arith)
-    then low-says entry.Member 7 x refl refl
-    then bare-says entry.Open x refl
-    then bare-says entry.Close x refl
-    then bare-says entry.ArrayOpen x refl
-    then bare-says entry.ArrayClose x refl
+each-said : (x : ℕ) → EachSaid x 0 (payloadsIn x) (payloadsRight x)
+each-said x =
+    bare-said entry.Null x refl
+    then truth-said x
+    then refl
+    then refl
+    then low-said entry.Real 4 x refl refl
+    then refl
+    then text-said x
+    then low-said entry.Member 7 x refl refl
+    then bare-said entry.Open x refl
+    then bare-said entry.Close x refl
+    then bare-said entry.ArrayOpen x refl
+    then bare-said entry.ArrayClose x refl
     then none
 
-loaded-says : (kind x : ℕ) → Says kind x (loadedOf kind x)
-unfolding loadedOf
-loaded-says kind x =
-    subst (λ (k : ℕ). Says k x (getD (payloadsIn x) kind Malformed)) (zero-add kind) (each-at (each-says x) kind)
+-- a kind and a payload are said where the payload is right
+loaded-said : (kind x : ℕ) → saidBy (loadedOf kind x) ≡ entryOr17 (payloadRight kind x) kind x
+unfolding loadedOf payloadRight
+loaded-said kind x =
+    subst (λ (k : ℕ). saidBy (getD (payloadsIn x) kind Malformed) ≡ entryOr17 (getD (payloadsRight x) kind false) k x)
+    (zero-add kind) (said-at (each-said x) kind)
+
+-- what is loaded of bytes that are there is what they say
+pub entry-said : (s : List ℕ) (at : ℕ) → leb (at + 12) (length s) ≡ true → saidBy (entryIn s at) ≡ entryAt s at
+unfolding entryIn entryAt isEntry
+entry-said s at l = rw l (go (threeZeros s at))
+  where
+    go : (b : Bool) → saidBy (cond b (loadedOf (kindAt s at) (payloadAt s at)) Malformed)
+        ≡ entryOr17 (b && payloadRight (kindAt s at) (payloadAt s at)) (kindAt s at) (payloadAt s at)
+    go true = loaded-said (kindAt s at) (payloadAt s at)
+    go false = refl
+
+-- bytes that are not there are malformed
+pub nothing-said : (s : List ℕ) (at : ℕ) → leb (at + 12) (length s) ≡ false → saidBy Malformed ≡ entryAt s at
+unfolding entryAt isEntry
+nothing-said s at l = rw l refl
+
+both-said : {k x l y : ℕ} → _≡_ {A = Said (ℕ × ℕ)} (done (k, x)) (done (l, y)) → (k ≡ l) × (x ≡ y)
+both-said {k} {x} {l} {y} e =
+    let same : _≡_ {A = ℕ × ℕ} (k, x) (l, y) = cc in
+    (ap (λ (p : ℕ × ℕ). p .0) same, ap (λ (p : ℕ × ℕ). p .1) same)
+
+-- what is said tells what was loaded: its kind and its payload tell an entry
+pub loaded-same : (r s : Loaded) → LoadedFits r → LoadedFits s → saidBy r ≡ saidBy s → r ≡ s
+loaded-same (Is e) (Is f) g h q =
+    let same = both-said q in
+    sym (loaded-back e g) ∙ ap₂ loadedOf (same .0) (same .1) ∙ loaded-back f h
+loaded-same (Is e) Malformed g h q = cc
+loaded-same Malformed (Is f) g h q = cc
+loaded-same Malformed Malformed g h q = refl
 
 -- the twelve bytes, one after the other
 twelve : (s : List ℕ) (at : ℕ) → Bytes s → at + 12 ≤ length s
@@ -339,7 +282,11 @@ twelve s at b h =
 
 -- a kind and a payload that say an entry are its kind and its payload
 loaded-is : (kind x : ℕ) (e : Entry) → loadedOf kind x ≡ Is e → (entryKind e ≡ kind) × (entryPayload e ≡ x)
-loaded-is kind x e h = subst (Says kind x) h (loaded-says kind x)
+loaded-is kind x e h = go (payloadRight kind x) (sym (ap saidBy h) ∙ loaded-said kind x)
+  where
+    go : (b : Bool) → saidBy (Is e) ≡ entryOr17 b kind x → (entryKind e ≡ kind) × (entryPayload e ≡ x)
+    go true q = both-said q
+    go false q = absurd (let z : _≡_ {A = ℕ} 0 1 = cc in let y : ⊥ = omega arith in y)
 
 passed : (b : Bool) (r : Loaded) (e : Entry) → cond b r Malformed ≡ Is e → b ≡ true
 passed true r e h = refl

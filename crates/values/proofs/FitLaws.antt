@@ -288,7 +288,7 @@ module _ (capacity : ℕ) (t : Token) where
       rw (not-null (asText capacity) t (λ h. let z : ⊥ = omega arith in z))
       (refused (omega arith) (rw (eq-eqb (kindOf t) 6 k, lt-leb (length (bodyOf t)) capacity l) refl))
 
-  pub text-other : (kindOf t ≡ 0 → ⊥) → (kindOf t ≡ 6 → ⊥) → Judged (orNull (asText capacity) t) 18
+  text-other : (kindOf t ≡ 0 → ⊥) → (kindOf t ≡ 6 → ⊥) → Judged (orNull (asText capacity) t) 18
   unfolding asText
   text-other n k = rw (not-null (asText capacity) t n) (refused (omega arith) (rw (ne-eqb (kindOf t) 6 k) refl))
 

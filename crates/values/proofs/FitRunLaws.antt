@@ -31,7 +31,7 @@ module _ {s : List ℕ} {n : ℕ} (told : Told s n) where
   pub few : n < 2 ^ 28
   few = omega (arith, few-entries s (told .form), told .count)
 
-  pub entry-of : {q : ℕ} → q < n → There s q
+  entry-of : {q : ℕ} → q < n → There s q
   entry-of {q} l = there s q (told .form) (omega (arith, told .count))
 
   pub asked : {q : ℕ} → q < n → (streamOk s ≡ true) × (q < countIn s)
@@ -100,13 +100,13 @@ pub record Next (s : List ℕ) (takes : Token → Effect) (n count k last q kind
 
 module _ {s : List ℕ} {takes : Token → Effect} {n count k last q kind : ℕ}
     (e : Next s takes n count k last q kind) where
-  pub next-there : There s q
+  next-there : There s q
   next-there = entry-of (e .told) (omega (arith, e .ends, e .before))
 
   pub next-low : q < 2 ^ 28
   next-low = omega (arith, few (e .told), e .ends, e .before)
 
-  pub next-kind : kindOf (next-there .token) ≡ kind
+  next-kind : kindOf (next-there .token) ≡ kind
   next-kind = sym (kind-there next-there) ∙ sym (e .shows)
 
   pub next-closes : kind ≡ 11 → Answers s takes count k (q + 1)
@@ -117,7 +117,7 @@ module _ {s : List ℕ} {takes : Token → Effect} {n count k last q kind : ℕ}
   one-less : k + count - q ≡ suc (k + count - (q + 1))
   one-less = omega (arith, e .ends, e .before)
 
-  pub next-refused : {r : ℕ} (number : ℕ) → (kind ≡ 11 → ⊥) → Judged (takes (next-there .token)) number
+  next-refused : {r : ℕ} (number : ℕ) → (kind ≡ 11 → ⊥) → Judged (takes (next-there .token)) number
       → (number ≡ 0 → ⊥) → r ≡ 2 ^ 32 * number + q → Answers s takes count k r
   next-refused {r} number a j o is w p =
       let place : ℕ = p + w * (q - k) in
@@ -127,7 +127,7 @@ module _ {s : List ℕ} {takes : Token → Effect} {n count k last q kind : ℕ}
       (elements-go (e .told .form) (writeOne takes w) w (k + count - (q + 1)) place next-there (λ g. a (e .shows ∙ g)))
       (omega (arith, o, is)) (one-refused (e .told .form) takes w place next-there j o is)))
 
-  pub next-on : (kind ≡ 11 → ⊥) → Judged (takes (next-there .token)) 0 → Walked s takes count k (q + 1)
+  next-on : (kind ≡ 11 → ⊥) → Judged (takes (next-there .token)) 0 → Walked s takes count k (q + 1)
   next-on a j =
       let inside : q + 1 ≤ countIn s = omega (arith, e .told .count, e .ends, e .before) in
       let low : q + 1 < 2 ^ 32 = omega (arith, few (e .told), e .ends, e .before) in

@@ -151,7 +151,7 @@ module _ (kind x place : ℕ) where
     unfolding mostOf
     member-fits e h = plain-fits l (omega arith) (λ q. let z : ⊥ = omega arith in z) (rw e (omega arith))
 
-    pub member-broken : kind ≡ 7 → 2 ^ 32 ≤ x → loadedStep (loadedOf kind x) place ≡ Broken
+    member-broken : kind ≡ 7 → 2 ^ 32 ≤ x → loadedStep (loadedOf kind x) place ≡ Broken
     unfolding mostOf
     member-broken e h = plain-broken l (omega arith) (λ q. let z : ⊥ = omega arith in z) (rw e (omega arith))
 
@@ -212,7 +212,7 @@ module _ (s : List ℕ) (at : ℕ) where
   unfolding loadedOf
   no-zeros l = sym (List·getD-eq-default (payloadsIn (wordAt 8 s (at + 4))) Malformed l)
 
-  pub head-read : entryIn s at ≡ loadedOf (wordAt 4 s at) (wordAt 8 s (at + 4))
+  head-read : entryIn s at ≡ loadedOf (wordAt 4 s at) (wordAt 8 s (at + 4))
   unfolding entryIn threeZeros
   head-read =
       go (ℕ-discrete (getD s (at + 1) 0) 0) (ℕ-discrete (getD s (at + 2) 0) 0) (ℕ-discrete (getD s (at + 3) 0) 0)

@@ -9,9 +9,10 @@ use Rattle.words.specs.Bits.{Bits, from, inside}
 use Rattle.words.proofs.BitLaws.{Lies, among, beside, lies}
 use Rattle.values.specs.Leaf.{Leaf, width, emit}
 use Rattle.values.specs.Normal.{norm, held, normal}
+use Rattle.values.specs.Placed.{Good}
 use Rattle.values.specs.Stream.{Token}
 use Rattle.values.specs.Tree.{Item, say, at, read}
-use Rattle.values.proofs.NormalLaws.{Good, emit-norm, emit-tells}
+use Rattle.values.proofs.NormalLaws.{emit-norm, emit-tells}
 
 -- no bit of n bits from p on is held
 abbrev pub Free : ℕ → ℕ → List Item → Type 0
@@ -51,7 +52,7 @@ rest-normal p l is x y a h k t = go (lies p (width l) k)
     go (among u v e) = absurd (true≢false (sym t ∙ a k u v))
     go (beside f e) = h k (rw e t) ∙ rw e refl
 
-pub read-normal : (is : List Item) (x y : Bits) → Apart is → ((k : ℕ) → held is k ≡ true → y k ≡ normal is x k)
+read-normal : (is : List Item) (x y : Bits) → Apart is → ((k : ℕ) → held is k ≡ true → y k ≡ normal is x k)
     → read is y ≡ read is x
 unfolding read held normal
 read-normal [] x y a h = refl
@@ -79,7 +80,7 @@ head-same e = cc
 tail-same : {t u : Token} {ts us : List Token} → t ∷ ts ≡ u ∷ us → ts ≡ us
 tail-same e = cc
 
-pub read-tells : (is : List Item) → AllGood is → (x y : Bits) → read is x ≡ read is y
+read-tells : (is : List Item) → AllGood is → (x y : Bits) → read is x ≡ read is y
     → (k : ℕ) → normal is x k ≡ normal is y k
 unfolding read normal
 read-tells [] g x y e k = refl
@@ -95,7 +96,7 @@ read-tells (at p l ∷ is) (g, more) x y e k =
     go (beside f q) ih = rw (q) ih
 
 module _ (is : List Item) (apart : Apart is) (good : AllGood is) where
-  pub read-of-normal : (x : Bits) → read is (normal is x) ≡ read is x
+  read-of-normal : (x : Bits) → read is (normal is x) ≡ read is x
   read-of-normal x = read-normal is x (normal is x) apart (λ k h. refl)
 
   -- two readings are the same exactly when the normal bits are

@@ -6,58 +6,22 @@ use mathlib.Core.Path.{_≡_, refl}
 use mathlib.Core.Bool.{Bool, true, false, cond}
 use mathlib.Core.List.{List, [], _∷_}
 use mathlib.Core.Logic.{_⊎_, inl, inr, ⊎-elim}
-use lib.Dec.{eqb}
-use Rattle.types.specs.Atomic.{bitString, sizeOf}
 use Rattle.types.specs.Defs.{partAt, partsAt}
 use Rattle.types.specs.Kept.{Kept}
 use Rattle.types.specs.Laid.{Earlier, firstBit, Laid}
 use Rattle.types.specs.Laid.{Clear as ClearOf}
-use Rattle.types.specs.Tables.{TyFits, memberAt, typeAt}
+use Rattle.types.specs.Tables.{memberAt, typeAt}
 use Rattle.types.specs.Waste.{bitsOf, sizesIn}
-use Rattle.types.specs.declared.atomic.Atomic.{Atomic}
-use Rattle.types.specs.declared.atomic.Atomic.the-variants as atomic
-use Rattle.types.specs.declared.member.Bit.{Bit}
-use Rattle.types.specs.declared.member.Bit.the-variants.{None, At}
 use Rattle.types.specs.declared.member.Member.{Member}
-use Rattle.types.specs.declared.member.Ty.{Ty}
-use Rattle.types.specs.declared.member.Ty.the-variants as ty
 use Rattle.types.proofs.KeptLaws.{RowIs, holds, empty, kept-row}
-use Rattle.values.specs.Leaf.{leafOf, str}
-use Rattle.values.specs.Tree.{Tree, leaf, bits, array, struct, span}
-use Rattle.values.specs.Trees.{isString, membersAt, knownIn, secondCount, atomicsTree, structsTree, valueTree}
-use Rattle.values.specs.Trees.{bitTree, seen, branchesFrom, structTree, treeWithin, treeOf, treeOfValue}
+use Rattle.values.specs.Leaf.{str}
+use Rattle.values.specs.Placed.{AllPlaced, Clear, Disjoint, Numbered, Placed}
+use Rattle.values.specs.Tree.{Tree, leaf, struct, span}
+use Rattle.values.specs.Trees.{bitTree, branchesFrom, isString, knownIn, membersAt, secondCount, seen, structTree}
+use Rattle.values.specs.Trees.{treeOf, treeWithin, valueTree}
+use Rattle.values.proofs.DisjointLaws.{member-placed}
 use Rattle.values.proofs.KeptWalkable.{kept-walkable}
-use Rattle.values.proofs.NormalLaws.{Good}
-use Rattle.values.proofs.PlacedLaws.{Clear, Numbered, Placed, AllPlaced}
 use Rattle.values.proofs.SpanLaws.{Sized, sound-below, sound-within, bit-span}
-
--- ---- atomics
-
-leaf-good : (a : Atomic) → Good (leafOf a)
-leaf-good atomic.Bool = tt
-leaf-good atomic.SInt = (omega arith, omega arith)
-leaf-good atomic.Int = (omega arith, omega arith)
-leaf-good atomic.DInt = (omega arith, omega arith)
-leaf-good atomic.LInt = (omega arith, omega arith)
-leaf-good atomic.USInt = (omega arith, omega arith)
-leaf-good atomic.UInt = (omega arith, omega arith)
-leaf-good atomic.UDInt = (omega arith, omega arith)
-leaf-good atomic.ULInt = (omega arith, omega arith)
-leaf-good atomic.Real = (omega arith, omega arith)
-leaf-good atomic.LReal = (omega arith, omega arith)
-leaf-good atomic.Byte = (omega arith, omega arith)
-leaf-good atomic.Word = (omega arith, omega arith)
-leaf-good atomic.DWord = (omega arith, omega arith)
-leaf-good atomic.LWord = (omega arith, omega arith)
-
-atomics-placed : (a : Atomic) (n : ℕ) → Placed (atomicsTree a n)
-unfolding atomicsTree Placed
-atomics-placed a n = go (bitString a) (eqb n 0)
-  where
-    go : (b c : Bool) → Placed (cond b (bits (8 * sizeOf a) n) (cond c (leaf (leafOf a)) (array n (leaf (leafOf a)))))
-    go true c = tt
-    go false true = leaf-good a
-    go false false = leaf-good a
 
 -- ---- a structure whose earlier ones are placed
 
@@ -65,22 +29,6 @@ module _ (types members names : List ℕ) (trees : ℕ → Tree) (i : ℕ) (soun
     (placed : (s : ℕ) → s < i → Placed (trees s)) where
   abbrev tree : Member → Tree
   tree m = bitTree (m .bit) (valueTree trees (m .ty) (m .count))
-
-  structs-placed : (s n : ℕ) → s < i → Placed (structsTree trees s n)
-  unfolding structsTree Placed
-  structs-placed s n l = go (eqb n 0)
-    where
-      go : (b : Bool) → Placed (cond b (trees s) (array n (trees s)))
-      go true = placed s l
-      go false = placed s l
-
-  value-placed : (t : Ty) (n : ℕ) → Earlier i t → Placed (valueTree trees t n)
-  value-placed (ty.Atomic a) n l = atomics-placed a n
-  value-placed (ty.Struct s) n l = structs-placed s n l
-
-  member-placed : (b : Bit) (t : Ty) (n : ℕ) → Earlier i t → Placed (bitTree b (valueTree trees t n))
-  member-placed None t n l = value-placed t n l
-  member-placed (At k) t n l = unfold Placed in tt
 
   -- a visible member shares no bit with the visible ones after it
   rows-clear : (m : Member) → m .hidden ≡ false → Earlier i (m .ty) → (size j row n : ℕ)
@@ -125,8 +73,8 @@ module _ (types members names : List ℕ) (trees : ℕ → Tree) (i : ℕ) (soun
           (branchesFrom trees (suc j) (membersAt members (row + 1) n)))
       go true h rest = rest
       go false h rest = (
-        member-placed (memberAt members row .bit) (memberAt members row .ty) (memberAt members row .count)
-            (d .earlier),
+        member-placed trees i placed (memberAt members row .bit) (memberAt members row .ty)
+            (memberAt members row .count) (d .earlier),
         (
           omega (
             arith,
@@ -187,11 +135,7 @@ module _ {types members names : List ℕ} (k : Kept types members names) where
       (sound-below i (omega arith) (sound-within types members (kept-walkable k) f (omega arith)))
       (λ s q. within-placed f s (omega arith) (omega arith)) (laid-all i)
 
-  -- a value's tree
-  pub kept-placed : (t : Ty) (n : ℕ) → TyFits t → Placed (treeOfValue (knownIn types members) t n)
-  unfolding treeOfValue treeOf
-  kept-placed (ty.Atomic a) n h = atomics-placed a n
-  kept-placed (ty.Struct s) n h =
-      structs-placed types members names (treeWithin (knownIn types members) 200) 200
-      (sound-within types members (kept-walkable k) 200 (omega arith))
-      (λ j q. within-placed 200 j (omega arith) q) s n h
+  -- tables as our own calls left them have members that share no bit
+  pub kept-disjoint : Disjoint types members
+  unfolding treeOf
+  kept-disjoint = record { walkable = kept-walkable k; placed = λ i l. within-placed 200 i (omega arith) l }

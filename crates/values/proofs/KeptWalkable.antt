@@ -1,6 +1,6 @@
 -- Tables as our own calls left them are walkable (document 01, "What promises shut out" and "Layout"): a type's rows
 -- are as it was laid out, and a row after the types has no members.
-use Prim.Native.Nat.{ℕ, _+_, _*_, _/_, _<_, _≤_}
+use Prim.Native.Nat.{ℕ, _+_, _*_, _/_, _<_}
 use native.Mathlib.Omega.{arith}
 use mathlib.Core.Path.{_≡_, refl, sym, ap, _∙_}
 use mathlib.Core.Bool.{true, true≢false}

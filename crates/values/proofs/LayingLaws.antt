@@ -11,8 +11,8 @@ use Rattle.values.specs.Laying.{Room, Wrote, laid}
 use Rattle.values.specs.Stream.{Token, member, mark, entryBytes, heads, bodies, mostBytes}
 use Rattle.values.specs.Walk.{upTo, wrap}
 use Rattle.values.specs.declared.place.Place.{Place}
-use Rattle.values.proofs.EntryLaws.{heads-append, bodies-append, texts-append, length-heads}
-use Rattle.values.proofs.EntryLaws.{textless-member, textless-mark}
+use Rattle.values.proofs.HeadLaws.{heads-append, bodies-append, texts-append, length-heads}
+use Rattle.values.proofs.HeadLaws.{textless-member, textless-mark}
 use Rattle.values.proofs.PutLaws.{put-one, put-wrote}
 use Rattle.values.proofs.UpLaws.{up-more, up-split}
 
@@ -46,14 +46,14 @@ module _ (out : List ℕ) (base at text : ℕ) (ts us : List Token) where
         after,
       ))
 
-pub wrote-length : {out new : List ℕ} {base at text : ℕ} {ts : List Token} {p : Place}
+wrote-length : {out new : List ℕ} {base at text : ℕ} {ts : List Token} {p : Place}
     → Wrote out base at text ts new p → length new ≡ length out
 unfolding laid
 wrote-length {out} {base = base} {at} {text} {ts} w =
     ap length (w .bytes) ∙ length-sets (sets out at (heads text ts)) (base + text) (bodies ts)
     ∙ length-sets out at (heads text ts)
 
-pub wrote-none : (out : List ℕ) (base at text : ℕ) → Wrote out base at text [] out (record { at = at; text = text })
+wrote-none : (out : List ℕ) (base at text : ℕ) → Wrote out base at text [] out (record { at = at; text = text })
 wrote-none out base at text =
     record {
       entries = omega arith;
@@ -61,7 +61,7 @@ wrote-none out base at text =
       bytes = unfold laid heads bodies in refl;
     }
 
-pub wrote-then : {out mid new : List ℕ} {long base at text p t : ℕ} {ts us : List Token} {r : Place}
+wrote-then : {out mid new : List ℕ} {long base at text p t : ℕ} {ts us : List Token} {r : Place}
     → Room long base at text (ts ++ us) → Wrote out base at text ts mid (record { at = p; text = t })
     → Wrote mid base p t us new r → Wrote out base at text (ts ++ us) new r
 wrote-then {out} {base = base} {at} {text} {p} {t} {ts} {us} room a b =
@@ -90,7 +90,7 @@ room-long : {long other base at text : ℕ} {ts : List Token} → other ≡ long
     → Room other base at text ts
 room-long e r = record { entries = r .entries; texts = rw e (r .texts); most = r .most }
 
-pub room-front : {long base at text : ℕ} (ts us : List Token) → Room long base at text (ts ++ us)
+room-front : {long base at text : ℕ} (ts us : List Token) → Room long base at text (ts ++ us)
     → Room long base at text ts
 room-front ts us r =
     let n = length-append ts us in

@@ -27,8 +27,8 @@ use Rattle.values.specs.Stream.{Token, bool, member, entryBytes}
 use Rattle.values.specs.Walk.{wrap, bitToken, bitsOut, elementOut, numbersOut, atomicsOut}
 use Rattle.values.specs.Walk.{bitOut, leafValue, leafOut}
 use Rattle.values.specs.Walkable.{RowOf, ImageOf}
-use Rattle.values.proofs.EntryLaws.{Textless, textless-none, textless-bool, textless-number, textless-member}
-use Rattle.values.proofs.EntryLaws.{textless-mark, textless-append, textless-up}
+use Rattle.values.proofs.HeadLaws.{Textless, textless-none, textless-bool, textless-number, textless-member}
+use Rattle.values.proofs.HeadLaws.{textless-mark, textless-append, textless-up}
 use Rattle.values.proofs.PartLaws.{lent, lent-part, lent-long}
 use Rattle.values.proofs.PutLaws.{put-none, put-one, put-first}
 

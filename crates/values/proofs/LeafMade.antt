@@ -22,11 +22,11 @@ use Rattle.values.specs.InPlace.{cleared, eachMade, made}
 use Rattle.values.specs.Leaf.{Leaf, flag, byte, str, width, isTrue, clipped, leafOf}
 use Rattle.values.specs.Normal.{norm, normal}
 use Rattle.values.specs.Numbers.{formOf}
+use Rattle.values.specs.Placed.{Placed}
 use Rattle.values.specs.Tree.{Tree, leaf, bits, array, at, allBits, each, items, oneFlag, room, span}
 use Rattle.values.specs.Trees.{atomicsTree}
 use Rattle.values.proofs.ArrayMade.{array-made}
 use Rattle.values.proofs.MadeLaws.{normal-around}
-use Rattle.values.proofs.PlacedLaws.{Placed}
 use Rattle.values.proofs.SpanLaws.{Many, one, some, many}
 use Rattle.values.proofs.StampLaws.{flat-word, zeros-cleared}
 
@@ -149,7 +149,7 @@ atomics-kept a other n p x = go (bitString a) (eqb n 0)
 -- ---- BOOLs outside structures
 
 -- one byte
-pub byte-made : (image : List ℕ) (i : ℕ) {x y : ℕ} → i < length image → x ≡ getD image i 0 → x < 256
+byte-made : (image : List ℕ) (i : ℕ) {x y : ℕ} → i < length image → x ≡ getD image i 0 → x < 256
     → y ≡ digit (isTrue x) → flat (set image i y) ≡ made (leaf byte) (8 * i) (flat image)
 unfolding stamp made items span normal
 byte-made image i {x} {y} l e small d =

@@ -14,6 +14,7 @@ pub mod CountLeaves
 pub mod CountRows
 pub mod DecodeBack
 pub mod DecodeLaws
+pub mod DisjointLaws
 pub mod ElementsMade
 pub mod EntryLaws
 pub mod FitLaws
@@ -22,8 +23,10 @@ pub mod FitRunLaws
 pub mod FlagLaws
 pub mod FlagRows
 pub mod FormLaws
+pub mod HeadLaws
 pub mod ItemLaws
 pub mod KeptPlaced
+pub mod KeptSweepable
 pub mod KeptWalkable
 pub mod LayingLaws
 pub mod LeafLaws
@@ -50,6 +53,7 @@ pub mod ReadingLaws
 pub mod SaidLaws
 pub mod RunInLaws
 pub mod RunLaws
+pub mod SameAnswers
 pub mod SameStream
 pub mod SayLaws
 pub mod SetLaws
@@ -60,16 +64,17 @@ pub mod SettingLaws
 pub mod SettingMembers
 pub mod SpanLaws
 pub mod StampLaws
-pub mod StandingLaws
 pub mod StepLaws
 pub mod StoredLaws
 pub mod StreamLaws
 pub mod StructMade
 pub mod StructSteps
 pub mod SweepRows
+pub mod SweepableLaws
 pub mod SweptLaws
 pub mod TextCountLaws
 pub mod TextLaws
+pub mod TextStreamed
 pub mod TreeLaws
 pub mod UpLaws
 pub mod WalkLaws

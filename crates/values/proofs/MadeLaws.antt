@@ -18,7 +18,7 @@ use Rattle.values.proofs.PlacedLaws.{yes-inside}
 
 -- ---- locality
 
-pub norm-local : (l : Leaf) (b c : Bits) → ((k : ℕ) → k < width l → b k ≡ c k) → (k : ℕ) → k < width l
+norm-local : (l : Leaf) (b c : Bits) → ((k : ℕ) → k < width l → b k ≡ c k) → (k : ℕ) → k < width l
     → norm l b k ≡ norm l c k
 norm-local flag b c h k l = h k l
 norm-local byte b c h k l = ap (λ (v : ℕ). bitOf (digit (isTrue v)) k) (val-ext 8 b c h)

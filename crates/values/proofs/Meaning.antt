@@ -1,6 +1,6 @@
 -- The law `meaning` (document 01, "Reading"): the walk over the tables gives what reading the type's tree gives. Each
 -- member is read from its own part of the image; a string's text is a part of the image's bytes.
-use Prim.Native.Nat.{ℕ, zero, suc, _+_, _*_, _≤_, _<_, min}
+use Prim.Native.Nat.{ℕ, zero, suc, _+_, _*_, _≤_, _<_}
 use native.Mathlib.Nat.{add-zero, zero-add, mul-assoc, mul-one, mul-suc, mul-le-mul-left}
 use native.Mathlib.Omega.{arith}
 use mathlib.Core.Path.{_≡_, refl, sym, ap, ap₂, _∙_, fun-ext}
@@ -9,9 +9,8 @@ use mathlib.Core.List.{List, [], _∷_, _++_}
 use lib.Dec.{eqb}
 use lib.ListN.{length, take, drop}
 use lib.Seq.{getD-drop}
-use Rattle.words.specs.Bits.{Bits, flat, val}
-use Rattle.words.specs.Words.{Bytes, part, wordAt}
-use Rattle.words.proofs.BitLaws.{word-val}
+use Rattle.words.specs.Bits.{Bits, flat}
+use Rattle.words.specs.Words.{Bytes, part}
 use Rattle.words.proofs.Lists.{length-part}
 use Rattle.types.specs.Atomic.{bitString, sizeOf}
 use Rattle.types.specs.Laid.{Earlier, firstIn, firstBit}
@@ -47,7 +46,7 @@ take-bytes (suc n) [] b k = omega arith
 take-bytes (suc n) (x ∷ s) b zero = b 0
 take-bytes (suc n) (x ∷ s) b (suc k) = take-bytes n s (λ j. b (suc j)) k
 
-pub part-bytes : (s : List ℕ) (a n : ℕ) → Bytes s → Bytes (part s a n)
+part-bytes : (s : List ℕ) (a n : ℕ) → Bytes s → Bytes (part s a n)
 unfolding part
 part-bytes s a n b = take-bytes n (drop a s) (λ k. rw getD-drop (b (a + k)))
 
@@ -113,12 +112,8 @@ atomics-read a n image = go (bitString a) (eqb n 0)
 text-read : (capacity : ℕ) (image : List ℕ) → Bytes image → 4 + capacity ≤ length image
     → textOut capacity image ≡ read (items (leaf (str capacity)) 0) (flat image)
 text-read capacity image b h =
-    let len : wordAt 4 image 0 ≡ val 32 (flat image) =
-    word-val 4 image 0 b ∙ ap (val 32) (fun-ext (λ k. ap (flat image) (zero-add k))) in
     sym (leaf-read (str capacity) (flat image)
-    ∙ ap (λ (s : List ℕ). text s ∷ [])
-    (chars-part (clipped capacity (flat image)) image 4 b (omega arith)
-    ∙ ap (λ (v : ℕ). part image 4 (min v capacity)) (sym len)))
+    ∙ ap (λ (s : List ℕ). text s ∷ []) (chars-part (clipped capacity (flat image)) image 4 b (omega arith)))
 
 -- ---- structures whose earlier ones are read
 
@@ -273,7 +268,7 @@ module _ (types members : List ℕ) (w : Walkable types members) where
       (λ s part k d c. within-read f s part (omega arith) (omega arith) d c) (w .each i (omega arith)) image e b
 
   -- a structure
-  pub struct-meaning : (i : ℕ) (image : List ℕ) → i < 200 → length image ≡ sizesIn types i → Bytes image
+  struct-meaning : (i : ℕ) (image : List ℕ) → i < 200 → length image ≡ sizesIn types i → Bytes image
       → structOut types members i image ≡ read (items (treeOf (knownIn types members) i) 0) (flat image)
   unfolding structOut treeOf
   struct-meaning i image l e b = within-read 200 i image (omega arith) l e b

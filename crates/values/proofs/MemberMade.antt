@@ -19,20 +19,21 @@ use Rattle.types.specs.declared.member.Bit.the-variants.{None}
 use Rattle.types.specs.declared.member.Member.{Member}
 use Rattle.types.specs.declared.member.Ty.the-variants as ty
 use Rattle.types.proofs.LayoutLaws.{times-one, times-same}
-use Rattle.values.specs.InPlace.{OnwardTo, PlainRow, Standing, cleared, made, onward}
+use Rattle.values.specs.InPlace.{OnwardTo, PlainRow, cleared, made, onward}
+use Rattle.values.specs.Placed.{Sweepable}
 use Rattle.values.specs.Rows.{AllHere, Here, memberTree, treeIn}
 use Rattle.values.specs.Tree.{Tree, array, span}
 use Rattle.values.specs.Trees.{atomicsTree, structsTree}
 use Rattle.values.proofs.SpanLaws.{atomics-span, sound-all, value-span}
 use Rattle.values.proofs.StampLaws.{zeros-cleared}
-use Rattle.values.proofs.StandingLaws.{plain-is, standing-walkable}
+use Rattle.values.proofs.SweepableLaws.{plain-is, sweepable-walkable}
 
 -- ---- a plain member was read
 
 -- with its place and its count; its structure begins at `base`, and is swept up to byte c
 pub record PlainHere (types members : List ℕ) (i row base c : ℕ) (image : List ℕ) (m : Member) (start n : ℕ)
     : Type 0 where
-  pub standing : Standing types members
+  pub sweepable : Sweepable types members
   pub row-of : PlainRow types members i row c
   pub here : Here types i base image
   pub is : m ≡ memberAt members row
@@ -139,7 +140,7 @@ module _ {types members : List ℕ} {i row base c : ℕ} {image : List ℕ} {m :
 
     structs-bits : span (structsTree trees t n) ≡ 8 * (sizesIn types t * times n)
     structs-bits =
-        value-span types members trees 200 (sound-all types members (standing-walkable (w .standing))) (ty.Struct t) n
+        value-span types members trees 200 (sound-all types members (sweepable-walkable (w .sweepable))) (ty.Struct t) n
         struct-low
 
     module _ (none : n ≡ 0) where

@@ -14,6 +14,7 @@ use Rattle.words.specs.Bits.{Bits, from, bitOf, digit, val}
 use Rattle.words.proofs.BitLaws.{bit-val, val-below, val-bit, val-ext}
 use Rattle.values.specs.Leaf.{Leaf, flag, byte, int, word, str, width, isTrue, chars, clipped, emit, signed}
 use Rattle.values.specs.Normal.{norm}
+use Rattle.values.specs.Placed.{Good}
 use Rattle.values.specs.Stream.{bool, number, text}
 use Rattle.values.proofs.CharLaws.{chars-ext, chars-tell, length-chars}
 
@@ -57,14 +58,6 @@ emit-norm (str c) b d h =
     (λ k l. h (32 + k) (omega arith) ∙ norm-text c b k l))
 
 -- ---- and what it reads tells its normal bits
-
--- the leaves that types have
-abbrev pub Good : Leaf → Type 0
-Good flag = Unit {0}
-Good byte = Unit {0}
-Good (int n) = (1 ≤ n) × (n ≤ 64)
-Good (word kind n) = (3 ≤ kind) × (kind ≤ 5)
-Good (str c) = Unit {0}
 
 signed-tells : (n x y : ℕ) → 1 ≤ n → n ≤ 64 → x < 2 ^ n → y < 2 ^ n → signed n x ≡ signed n y → x ≡ y
 unfolding signed

@@ -14,10 +14,11 @@ use Rattle.types.specs.declared.atomic.Atomic.{Atomic}
 use Rattle.types.specs.declared.member.Ty.{Ty}
 use Rattle.types.specs.declared.member.Ty.the-variants as ty
 use Rattle.types.specs.declared.refusal.Refusal.the-variants.{ImageLength, NoSuchType}
-use Rattle.values.specs.InPlace.{Standing, made}
+use Rattle.values.specs.InPlace.{made}
 use Rattle.values.specs.Leaf.{chars}
 use Rattle.values.specs.Normal.{normal, normalImage}
 use Rattle.values.specs.Normalised.{MadeNormal, normalResult, valueNormal}
+use Rattle.values.specs.Placed.{Sweepable}
 use Rattle.values.specs.Reading.{imageFits}
 use Rattle.values.specs.Rows.{treeIn}
 use Rattle.values.specs.Tree.{Tree, array, items, span}
@@ -28,12 +29,12 @@ use Rattle.values.proofs.CharLaws.{chars-ext}
 use Rattle.values.proofs.MadeLaws.{made-inside}
 use Rattle.values.proofs.PlacedLaws.{yes-inside}
 use Rattle.values.proofs.SpanLaws.{tree-value-span}
-use Rattle.values.proofs.StandingLaws.{standing-walkable}
+use Rattle.values.proofs.SweepableLaws.{sweepable-walkable}
 use Rattle.values.proofs.WrittenLaws.{bytes-bits}
 
 -- ---- a value's image
 
-module _ {types members : List ℕ} (s : Standing types members) {t : Ty} {n : ℕ} {image : List ℕ}
+module _ {types members : List ℕ} (s : Sweepable types members) {t : Ty} {n : ℕ} {image : List ℕ}
     (v : ValueImage types t n image) where
   abbrev tree : Tree
   tree = treeOfValue (knownIn types members) t n
@@ -42,7 +43,7 @@ module _ {types members : List ℕ} (s : Standing types members) {t : Ty} {n : �
   all-inside : (k : ℕ) → k < 8 * length image → inside 0 (span tree) k ≡ true
   all-inside k l =
       yes-inside 0 (span tree) k (omega arith)
-      (omega (arith, l, v .long, tree-value-span types members (standing-walkable s) t n (v .fits)))
+      (omega (arith, l, v .long, tree-value-span types members (sweepable-walkable s) t n (v .fits)))
 
   made-value : {new : List ℕ} → length new ≡ length image → Bytes new → flat new ≡ made tree 0 (flat image)
       → new ≡ valueNormal types members t n image

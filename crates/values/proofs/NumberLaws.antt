@@ -33,7 +33,7 @@ flat-part s at n k h =
     rw (e, f, getD-take, getD-drop)
 
 -- a word is the number of the bits of its part
-pub part-val : (n : ℕ) (s : List ℕ) (at : ℕ) → Bytes s → wordAt n s at ≡ val (8 * n) (flat (part s at n))
+part-val : (n : ℕ) (s : List ℕ) (at : ℕ) → Bytes s → wordAt n s at ≡ val (8 * n) (flat (part s at n))
 part-val n s at b =
     word-val n s at b
     ∙ val-ext (8 * n) (from (8 * at) (flat s)) (flat (part s at n)) (λ k l. sym (flat-part s at n k l))
@@ -100,7 +100,7 @@ truth-form s at b = rw (← part-val 1 s at b, word-one)
 
 -- ---- what stands above a number fits beside it
 
-pub fill-room : (a : Atomic) → 256 ^ sizeOf a + formOf a .fill ≤ 2 ^ 64
+fill-room : (a : Atomic) → 256 ^ sizeOf a + formOf a .fill ≤ 2 ^ 64
 unfolding sizeOf
 fill-room atomic.Bool = omega arith
 fill-room atomic.SInt = omega arith

@@ -43,7 +43,7 @@ over-bit (at p l ∷ is) x z (free, more) k =
 
 -- ---- a run of bits is one piece, and hides what stood there
 
-pub over-flags : (n p : ℕ) (x z : Bits) → over (each n oneFlag 1 p) x z ≡ stamp p n (from p x) z
+over-flags : (n p : ℕ) (x z : Bits) → over (each n oneFlag 1 p) x z ≡ stamp p n (from p x) z
 unfolding over each
 over-flags zero p x z = sym (stamp-none p (from p x) z)
 over-flags (suc n) p x z =

@@ -32,7 +32,7 @@ lent-long s at n h = simp (length-take, length-drop) (omega arith)
 
 module _ {types image : List ℕ} {i n size : ℕ} (w : ImagesOf types i n image) (e : size ≡ sizesIn types i) where
   -- the code's product is the whole
-  pub all-long : size * n ≡ length image
+  all-long : size * n ≡ length image
   all-long = ap (_* n) e ∙ sym (w .long)
 
   pub element-fits : (k : ℕ) → k < n → size * k + size ≤ length image

@@ -11,34 +11,12 @@ use Rattle.words.specs.Bits.{inside}
 use Rattle.words.proofs.BitLaws.{Lies, among, beside, lies}
 use Rattle.values.specs.Leaf.{Leaf, flag, width}
 use Rattle.values.specs.Normal.{held}
+use Rattle.values.specs.Placed.{AllPlaced, Clear, Placed}
 use Rattle.values.specs.Stream.{mark}
 use Rattle.values.specs.Tree.{Tree, leaf, bits, array, struct, Branches, none, branch, room, allBits, span}
 use Rattle.values.specs.Tree.{Item, say, at, each, between, oneFlag, items, branchItems}
 use Rattle.values.proofs.ItemLaws.{Apart, AllGood}
-use Rattle.values.proofs.NormalLaws.{Good}
 use Rattle.values.proofs.TreeLaws.{width-room}
-
--- no branch has a bit among n bits from o on
-abbrev pub Clear : ℕ → ℕ → Branches → Type 0
-Clear o n none = Unit {0}
-Clear o n (branch j q t bs) = ((o + n ≤ q) ⊎ (q + span t ≤ o)) × Clear o n bs
-
--- each branch's number is larger than that of the one before
-abbrev pub Numbered : ℕ → Branches → Type 0
-Numbered low none = Unit {0}
-Numbered low (branch j o t bs) = (low ≤ j) × Numbered (suc j) bs
-
-unfoldable mutual
-  pub Placed : Tree → Type 0
-  Placed (leaf l) = Good l
-  Placed (bits w n) = Unit {0}
-  Placed (array n t) = Placed t
-  Placed (struct size bs) = AllPlaced size bs × Numbered 0 bs
-
-  -- the branches lie inside the size and share no bit
-  pub AllPlaced : ℕ → Branches → Type 0
-  AllPlaced size none = Unit {0}
-  AllPlaced size (branch j o t bs) = Placed t × ((o + span t ≤ size) × (Clear o (span t) bs × AllPlaced size bs))
 
 -- ---- held bits of lists
 

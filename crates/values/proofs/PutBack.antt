@@ -18,9 +18,9 @@ use Rattle.words.proofs.WordLaws.{length-bytes}
 use Rattle.values.specs.Effects.{put, ofKind, inRange, whole, textBits, asText, taken}
 use Rattle.values.specs.Leaf.{Leaf, flag, byte, int, word, str, width, chars, clipped, emit, signed}
 use Rattle.values.specs.Normal.{norm}
+use Rattle.values.specs.Placed.{Good}
 use Rattle.values.specs.Stream.{number, text, kindOf}
 use Rattle.values.proofs.CharLaws.{chars-ext, flat-chars, length-chars}
-use Rattle.values.proofs.NormalLaws.{Good}
 use Rattle.values.proofs.StampLaws.{flat-bytes}
 
 pub record PutBack (l : Leaf) (b : Bits) : Type 0 where

@@ -11,7 +11,7 @@ use Rattle.words.proofs.Lists.{sets-append}
 use Rattle.values.specs.Laying.{Put, Wrote, laid}
 use Rattle.values.specs.Stream.{Token, mark, kindOf, payloadOf, entryBytes, heads, bodies}
 use Rattle.values.specs.Walk.{wrap}
-use Rattle.values.proofs.EntryLaws.{heads-append, heads-one, length-heads, Textless}
+use Rattle.values.proofs.HeadLaws.{heads-append, heads-one, length-heads, Textless}
 
 pub put-length : {out new : List ℕ} {at r : ℕ} {ts : List Token} → Put out at ts new r → length new ≡ length out
 put-length {out} {at = at} {ts = ts} w = ap length (w .bytes) ∙ length-sets out at (heads 0 ts)

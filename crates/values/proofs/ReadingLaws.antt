@@ -2,24 +2,26 @@
 use Prim.Native.Nat.{ℕ, _+_, _*_, _/_, _%_, _<_, _≤_, min}
 use native.Mathlib.Nat.{add-zero, div-add-mod, mul-comm, mul-one, zero-mul}
 use native.Mathlib.Omega.{arith}
-use mathlib.Core.Path.{_≡_, refl, sym, ap, _∙_}
+use mathlib.Core.Path.{_≡_, refl, sym, ap, ap₂, _∙_}
 use mathlib.Core.Bool.{Bool, true, false, cond}
 use mathlib.Core.List.{List, []}
 use lib.Dec.{eqb}
-use lib.ListN.{length}
+use lib.ListN.{length, take}
 use lib.Seq.{sets}
 use lib.Arith.{digits-div, digits-mod}
 use borrow.Author.Tests.{eq-eqb, ne-eqb, eqb-true, eqb-false, le-leb, lt-leb, leb-true}
 use Rattle.words.specs.Bits.{flat}
-use Rattle.words.specs.Words.{Bytes, bytesOf}
+use Rattle.words.specs.Words.{Bytes, bytesOf, part}
+use Rattle.words.proofs.Lists.{part-run}
 use Rattle.types.specs.Layout.{times}
 use Rattle.types.specs.Shape.{isThere}
-use Rattle.types.specs.Waste.{sizesIn}
+use Rattle.types.specs.Waste.{sizeIn, sizesIn}
 use Rattle.types.specs.declared.atomic.Atomic.{Atomic}
 use Rattle.types.specs.declared.member.Ty.{Ty}
 use Rattle.types.specs.declared.member.Ty.the-variants as ty
 use Rattle.types.specs.declared.refusal.Refusal.the-variants.{ImageLength, NoSuchType, NoRoom}
 use Rattle.types.proofs.LayoutLaws.{times-one, times-same}
+use Rattle.types.proofs.ShapeLaws.{there-fits}
 use Rattle.values.specs.declared.place.Place.{Place}
 use Rattle.values.specs.declared.reading.Streamed.{Streamed}
 use Rattle.values.specs.declared.reading.Streamed.the-variants.{Length, Refused}
@@ -58,7 +60,7 @@ module _ (types members : List ℕ) (t : Ty) (n : ℕ) (image out : List ℕ) wh
   unfolding streamAnswer
   no-room e = record { answer = rw e refl; leaves = rw e refl }
 
-  pub all-room : {k : ℕ} {new : List ℕ} → hasRoom (valueStream types members t n image) (length out) ≡ true
+  all-room : {k : ℕ} {new : List ℕ} → hasRoom (valueStream types members t n image) (length out) ≡ true
       → k ≡ length (valueStream types members t n image) → new ≡ sets out 0 (valueStream types members t n image)
       → Written types members t n image out (Length k) new
   unfolding streamAnswer
@@ -160,7 +162,7 @@ module _ (types members : List ℕ) (t : Ty) (n : ℕ) (image out : List ℕ) (r
   over-room l =
       lt-leb (length (valueStream types members t n image)) (min (length out) mostBytes) (omega (arith, long, space))
 
-  pub in-room : 12 * length ts + length (bodies ts) ≤ room
+  in-room : 12 * length ts + length (bodies ts) ≤ room
       → hasRoom (valueStream types members t n image) (length out) ≡ true
   in-room l =
       le-leb (length (valueStream types members t n image)) (min (length out) mostBytes) (omega (arith, long, space))
@@ -185,21 +187,56 @@ no-start types members t n image out l =
     lt-leb (length (valueStream types members t n image)) (min (length out) mostBytes)
     (omega (arith, l, stream-long ts))
 
--- ---- what a caller may count on: no stream is longer than its buffer, or than 2^31 bytes
+-- ---- what a caller may count on
+
+-- of tests p, q, r that were passed in turn
+record Given (p q r : Bool) (k m : ℕ) : Type 0 where
+  pub there : p ≡ true
+  pub fits : q ≡ true
+  pub room : r ≡ true
+  pub long : k ≡ m
 
 given : (p q r : Bool) (k m : ℕ)
     → done k ≡ cond p (cond q (cond r (done m) (refused 16 0)) (refused 14 0)) (refused 15 0)
-    → (k ≡ m) × (r ≡ true)
-given true true true k m e = (cc, refl)
-given true true false k m e = (cc, cc)
-given true false r k m e = (cc, cc)
-given false q r k m e = (cc, cc)
+    → Given p q r k m
+given true true true k m e = record { there = refl; fits = refl; room = refl; long = cc }
+given true true false k m e = record { there = refl; fits = refl; room = cc; long = cc }
+given true false r k m e = record { there = refl; fits = cc; room = cc; long = cc }
+given false q r k m e = record { there = cc; fits = cc; room = cc; long = cc }
 
-pub read-short : {types members : List ℕ} {t : Ty} {n k : ℕ} {image out new : List ℕ}
-    → Answered types members t n image out (Length k) new → k ≤ min (length out) mostBytes
-unfolding readAnswer streamAnswer
-read-short {types} {members} {t} {n} {k} {image} {out} w =
-    let stream = valueStream types members t n image in
-    let g = given (isThere types t) (imageFits types t n image) (hasRoom stream (length out)) k (length stream)
-    (w .answer) in
-    omega (arith, g .0, leb-true (length stream) (min (length out) mostBytes) (g .1))
+-- where a length was answered: the image is one of the value, and so much of the buffer is the value's stream
+pub record LengthTold (types members : List ℕ) (t : Ty) (n : ℕ) (image out : List ℕ) (k : ℕ) (new : List ℕ)
+    : Type 0 where
+  pub there : isThere types t ≡ true
+  pub value : ValueImage types t n image
+  pub room : length (valueStream types members t n image) ≤ min (length out) mostBytes
+  pub long : k ≡ length (valueStream types members t n image)
+  pub stream : take k new ≡ valueStream types members t n image
+
+module _ {types members : List ℕ} {t : Ty} {n k : ℕ} {image out new : List ℕ}
+    (w : Answered types members t n image out (Length k) new) where
+  abbrev stream : List ℕ
+  stream = valueStream types members t n image
+
+  -- a length tells all this
+  pub length-told : LengthTold types members t n image out k new
+  unfolding readAnswer streamAnswer part
+  length-told =
+      let g = given (isThere types t) (imageFits types t n image) (hasRoom stream (length out)) k (length stream)
+      (w .answer) in
+      let room = leb-true (length stream) (min (length out) mostBytes) (g .room) in
+      let left : new ≡ sets out 0 stream = w .leaves ∙ rw (g .there, g .fits, g .room) refl in
+      record {
+        there = g .there;
+        value = record {
+          fits = there-fits types t (g .there);
+          long = eqb-true (length image) (sizeIn (sizesIn types) t * times n) (g .fits);
+        };
+        room = room;
+        long = g .long;
+        stream = ap₂ take (g .long) left ∙ part-run out 0 stream (omega (arith, room));
+      }
+
+  -- no stream is longer than its buffer, or than 2^31 bytes
+  pub read-short : k ≤ min (length out) mostBytes
+  read-short = let told = length-told in omega (arith, told .room, told .long)

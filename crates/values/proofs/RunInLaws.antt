@@ -24,7 +24,7 @@ use Rattle.values.proofs.SpanLaws.{leaf-room}
 
 -- ---- what an atomic takes, and its tree
 
-pub leaf-width : (a : Atomic) → width (leafOf a) ≡ 8 * sizeOf a
+leaf-width : (a : Atomic) → width (leafOf a) ≡ 8 * sizeOf a
 unfolding sizeOf
 leaf-width atomic.Bool = refl
 leaf-width atomic.SInt = refl
@@ -42,10 +42,10 @@ leaf-width atomic.Word = refl
 leaf-width atomic.DWord = refl
 leaf-width atomic.LWord = refl
 
-pub bits-takes : (a : Atomic) → bitString a ≡ true → bitsWhole (8 * sizeOf a) ≡ atomicTakes a
+bits-takes : (a : Atomic) → bitString a ≡ true → bitsWhole (8 * sizeOf a) ≡ atomicTakes a
 bits-takes a e = fun-ext (λ t. unfold atomicTakes in rw e refl)
 
-pub leaf-takes : (a : Atomic) → bitString a ≡ false → taken (leafOf a) ≡ atomicTakes a
+leaf-takes : (a : Atomic) → bitString a ≡ false → taken (leafOf a) ≡ atomicTakes a
 leaf-takes a e = fun-ext (λ t. unfold atomicTakes in rw e refl)
 
 bits-tree : (a : Atomic) (n : ℕ) → bitString a ≡ true → atomicsTree a n ≡ bits (8 * sizeOf a) n
@@ -63,11 +63,11 @@ array-tree a n e l = rw (e, ne-eqb n 0 (λ h. let z : ⊥ = omega arith in z)) r
 -- ---- the first entry
 
 -- the first entry is of a kind, or is not
-pub first-is : (kind : ℕ) (ts : List Token) → kind < 12 → firstKind ts ≡ kind → firstIs kind ts ≡ true
+first-is : (kind : ℕ) (ts : List Token) → kind < 12 → firstKind ts ≡ kind → firstIs kind ts ≡ true
 first-is kind [] l e = absurd (let z : ⊥ = omega arith in z)
 first-is kind (t ∷ ts) l e = eq-eqb (kindOf t) kind e
 
-pub first-not : (kind : ℕ) (ts : List Token) → (firstKind ts ≡ kind → ⊥) → firstIs kind ts ≡ false
+first-not : (kind : ℕ) (ts : List Token) → (firstKind ts ≡ kind → ⊥) → firstIs kind ts ≡ false
 first-not kind [] e = refl
 first-not kind (t ∷ ts) e = ne-eqb (kindOf t) kind e
 

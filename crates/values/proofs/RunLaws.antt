@@ -19,16 +19,16 @@ use Rattle.values.specs.Numbers.{extended, formOf, Run}
 use Rattle.values.specs.Stream.{Token, bool, number, kindOf, payloadOf, bodyOf, entryBytes, bodies}
 use Rattle.values.specs.Walk.{elementOut, upTo}
 use Rattle.values.specs.declared.numbers.Form.{Form}
-use Rattle.values.proofs.EntryLaws.{bodies-one, plain-append}
+use Rattle.values.proofs.HeadLaws.{bodies-one, plain-append}
 use Rattle.values.proofs.NumberLaws.{number-form, truth-form, fill-fits}
 use Rattle.values.proofs.PutLaws.{put-length, put-none, put-next}
 use Rattle.values.proofs.UpLaws.{up-ext}
 
 -- one entry for each of the first i elements
-abbrev pub ones : (ℕ → Token) → ℕ → List Token
+abbrev ones : (ℕ → Token) → ℕ → List Token
 ones g i = upTo (λ k. g k ∷ []) i
 
-pub length-ones : (g : ℕ → Token) (i : ℕ) → length (ones g i) ≡ i
+length-ones : (g : ℕ → Token) (i : ℕ) → length (ones g i) ≡ i
 unfolding upTo
 length-ones g zero = refl
 length-ones g (suc i) = length-append (ones g i) (g i ∷ []) ∙ rw (length-ones g i) (add-one i)
@@ -71,7 +71,7 @@ module _ {g : ℕ → Token} {n at p i : ℕ} {first out : List ℕ} (w : Runnin
       }
 
   -- all are put
-  pub run-done : (h : ℕ → List Token) → n ≤ i → ((k : ℕ) → k < n → h k ≡ g k ∷ []) → Put first at (upTo h n) out p
+  run-done : (h : ℕ → List Token) → n ≤ i → ((k : ℕ) → k < n → h k ≡ g k ∷ []) → Put first at (upTo h n) out p
   run-done h l e =
       let m : i ≡ n = let a = w .inside in omega arith in
       rw (up-ext h (λ k. g k ∷ []) n e, ← m) (w .put)

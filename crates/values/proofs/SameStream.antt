@@ -1,7 +1,7 @@
--- The first half of demand 3 (document 01, "Normal image"), over byte images and byte streams, for tables as our own
--- calls left them: two images of a value whose streams have room give the same stream exactly when their normal images
--- are equal, and normalising again changes nothing.
-use Prim.Native.Nat.{ℕ, _*_, _^_, _<_, _≤_}
+-- The first half of demand 3 (document 01, "Normal image"), over byte images and byte streams, for tables whose members
+-- share no bit: two images of a value whose streams have room give the same stream exactly when their normal images are
+-- equal, and normalising again changes nothing.
+use Prim.Native.Nat.{ℕ, _*_, _≤_}
 use native.Mathlib.Omega.{arith}
 use mathlib.Core.Path.{_≡_, refl, sym, ap, ap₂, _∙_}
 use mathlib.Core.Bool.{Bool, true, false}
@@ -10,16 +10,15 @@ use mathlib.Core.Logic.{_↔_}
 use lib.ListN.{length}
 use Rattle.words.specs.Bits.{Bits, flat}
 use Rattle.words.specs.Words.{Bytes}
-use Rattle.types.specs.Kept.{Kept}
 use Rattle.types.specs.Layout.{times}
-use Rattle.types.specs.Tables.{TyFits, typeAt}
+use Rattle.types.specs.Tables.{TyFits}
 use Rattle.types.specs.Waste.{sizeIn, sizesIn}
 use Rattle.types.specs.declared.member.Ty.{Ty}
-use Rattle.types.proofs.KeptLaws.{RowIs, holds, empty, kept-row}
 use Rattle.values.specs.Decode.{tokensIn}
 use Rattle.values.specs.Form.{streamOk}
 use Rattle.values.specs.Leaf.{chars}
 use Rattle.values.specs.Normal.{held, normal, normalImage}
+use Rattle.values.specs.Placed.{Disjoint, Placed}
 use Rattle.values.specs.Reading.{streamOf, valueStream}
 use Rattle.values.specs.Stream.{streamBytes, mostBytes}
 use Rattle.values.specs.Tree.{Item, Tree, items, read}
@@ -28,18 +27,15 @@ use Rattle.values.specs.Walk.{valueOut}
 use Rattle.values.specs.Walkable.{ValueImage, Walkable}
 use Rattle.values.proofs.CharLaws.{flat-chars, length-chars}
 use Rattle.values.proofs.DecodeBack.{Back}
+use Rattle.values.proofs.DisjointLaws.{disjoint-value}
 use Rattle.values.proofs.ItemLaws.{Apart, AllGood, normal-unheld, same-normal, same-read, normal-twice}
-use Rattle.values.proofs.KeptPlaced.{kept-placed}
-use Rattle.values.proofs.KeptWalkable.{kept-walkable}
 use Rattle.values.proofs.Meaning.{meaning}
-use Rattle.values.proofs.PlacedLaws.{Placed, tree-apart, tree-between, tree-good}
+use Rattle.values.proofs.PlacedLaws.{tree-apart, tree-between, tree-good}
 use Rattle.values.proofs.ReadingLaws.{stream-is}
 use Rattle.values.proofs.SayLaws.{reading-back}
 use Rattle.values.proofs.SpanLaws.{tree-value-span}
 
--- ---- a value of kept tables
-
-module _ {types members names : List ℕ} (k : Kept types members names) (t : Ty) (n : ℕ) (fits : TyFits t) where
+module _ {types members : List ℕ} (d : Disjoint types members) (t : Ty) (n : ℕ) (fits : TyFits t) where
   abbrev tree : Tree
   tree = treeOfValue (knownIn types members) t n
 
@@ -50,10 +46,10 @@ module _ {types members names : List ℕ} (k : Kept types members names) (t : Ty
   size = sizeIn (sizesIn types) t * times n
 
   walkable : Walkable types members
-  walkable = kept-walkable k
+  walkable = d .walkable
 
   placed : Placed tree
-  placed = kept-placed k t n fits
+  placed = disjoint-value d t n fits
 
   apart : Apart is
   apart = tree-apart tree 0 placed
@@ -83,13 +79,6 @@ module _ {types members names : List ℕ} (k : Kept types members names) (t : Ty
           ) in z)
       go false e = refl
 
-  few : (i : ℕ) → typeAt types i .count ≤ 2 ^ 32
-  few i = go (kept-row k i)
-    where
-      go : RowIs types members names i → typeAt types i .count ≤ 2 ^ 32
-      go (holds r) = omega (arith, walkable .each i (r .few) .rows)
-      go (empty e) = rw e (omega arith)
-
   module _ (x : List ℕ) (v : ValueImage types t n x) (b : Bytes x) where
     entries-are : valueOut types members t n x ≡ read is (flat x)
     entries-are = meaning types members walkable t n x (v .fits) (v .long) b
@@ -97,7 +86,9 @@ module _ {types members names : List ℕ} (k : Kept types members names) (t : Ty
     -- the stream's form is good, and it says the entries
     module _ (room : length (valueStream types members t n x) ≤ mostBytes) where
       said : Back (valueOut types members t n x)
-      said = reading-back types members few t n x (rw (stream-is types members walkable t n x v b) at room)
+      said =
+          reading-back types members walkable t n x (v .fits)
+          (rw (stream-is types members walkable t n x v b) at room)
 
       pub stream-ok : streamOk (valueStream types members t n x) ≡ true
       stream-ok = ap streamOk (stream-is types members walkable t n x v b) ∙ said .ok

@@ -14,9 +14,9 @@ use Rattle.words.specs.Bits.{Bits, flat, val}
 use Rattle.words.specs.Words.{part}
 use Rattle.words.proofs.BitLaws.{val-below}
 use Rattle.types.specs.Atomic.{bitString, sizeOf}
-use Rattle.types.specs.Laid.{Every}
+use Rattle.types.specs.Laid.{Earlier, Every}
 use Rattle.types.specs.Layout.{times}
-use Rattle.types.specs.Tables.{memberAt, typeAt}
+use Rattle.types.specs.Tables.{TyFits, memberAt, typeAt}
 use Rattle.types.specs.Waste.{sizesIn}
 use Rattle.types.specs.declared.atomic.Atomic.{Atomic}
 use Rattle.types.specs.declared.atomic.Atomic.the-variants as atomic
@@ -36,6 +36,7 @@ use Rattle.values.specs.Walk.{upTo, wrap, bitToken, bitsOut, elementOut,
 use Rattle.values.specs.Walk.{bitOut}
 use Rattle.values.specs.Walk.{elementBy, elementsBy, structsBy, valueBy, memberBy, rowBy, membersBy, structBy}
 use Rattle.values.specs.Walk.{structWithin, structOut, valueOut, bytesBy}
+use Rattle.values.specs.Walkable.{Walkable, WalkableType}
 use Rattle.values.specs.declared.entries.Entry.{Entry}
 use Rattle.values.specs.declared.entries.Entry.the-variants as entry
 use Rattle.values.proofs.DecodeBack.{Says, Saying, Back, decode-back}
@@ -174,18 +175,19 @@ atomics-sound a n image =
     either (bitString a) _ _ (bits-sound image (8 * (sizeOf a * times n)))
     (either (eqb n 0) (numberOut a image) _ (emit-sound a (flat image), tt) (numbers-sound a n image))
 
-module _ (types members : List ℕ) (rec : ℕ → List ℕ → List Token)
-    (sound : (i : ℕ) (image : List ℕ) → Every Sound (rec i image)) where
-  structs-sound : (i n : ℕ) (image : List ℕ) → Every Sound (structsBy types members rec i n image)
+-- where structure i holds only structures whose entries can be said
+module _ (types members : List ℕ) (rec : ℕ → List ℕ → List Token) (i : ℕ)
+    (sound : (s : ℕ) → s < i → (image : List ℕ) → Every Sound (rec s image)) where
+  structs-sound : (s n : ℕ) (image : List ℕ) → s < i → Every Sound (structsBy types members rec s n image)
   unfolding structsBy elementsBy
-  structs-sound i n image =
-      either (eqb n 0) _ _ (sound i image)
-      (in-array _ (every-up (elementBy types members rec i image) n
-      (λ k l. sound i (part image (sizesIn types i * k) (sizesIn types i)))))
+  structs-sound s n image l =
+      either (eqb n 0) _ _ (sound s l image)
+      (in-array _ (every-up (elementBy types members rec s image) n
+      (λ k h. sound s l (part image (sizesIn types s * k) (sizesIn types s)))))
 
-  value-sound : (t : Ty) (n : ℕ) (image : List ℕ) → Every Sound (valueBy types members rec t n image)
-  value-sound (ty.Atomic a) n image = atomics-sound a n image
-  value-sound (ty.Struct i) n image = structs-sound i n image
+  value-sound : (t : Ty) (n : ℕ) (image : List ℕ) → Earlier i t → Every Sound (valueBy types members rec t n image)
+  value-sound (ty.Atomic a) n image l = atomics-sound a n image
+  value-sound (ty.Struct s) n image l = structs-sound s n image l
 
   bit-sound : (b : Bit) (f : ℕ → Bool) (ts : List Token) → Every Sound ts
       → Every Sound (bitOut b (λ k. bool (f k) ∷ []) ts)
@@ -193,41 +195,47 @@ module _ (types members : List ℕ) (rec : ℕ → List ℕ → List Token)
   bit-sound None f ts w = w
   bit-sound (BitAt k) f ts w = (tt, tt)
 
-  member-sound : (j : ℕ) (m : Member) (image : List ℕ) → j < 2 ^ 32
+  member-sound : (j : ℕ) (m : Member) (image : List ℕ) → j < 2 ^ 32 → Earlier i (m .ty)
       → Every Sound (memberBy types members rec j m image)
   unfolding memberBy Every
-  member-sound j m image l =
+  member-sound j m image l e =
       either (m .hidden) [] _ tt (
         l,
         bit-sound (m .bit) (λ k. flat image (8 * m .offset + k)) _
-            (value-sound (m .ty) (m .count) (part image (m .offset) (bytesBy types members rec m))),
+            (value-sound (m .ty) (m .count) (part image (m .offset) (bytesBy types members rec m)) e),
       )
 
-  struct-sound : (i : ℕ) (image : List ℕ) → typeAt types i .count ≤ 2 ^ 32
-      → Every Sound (structBy types members rec i image)
+  struct-sound : (image : List ℕ) → WalkableType types members i → Every Sound (structBy types members rec i image)
   unfolding structBy membersBy Every
-  struct-sound i image l =
+  struct-sound image w =
       let row : ℕ → List Token = rowBy types members rec (typeAt types i .first) image in
       either (isString (typeAt types i .kind)) _ _ (tt, tt)
       (every-wrap 8 9 (upTo row (typeAt types i .count)) (inl refl) (inr (inl refl))
       (every-up row (typeAt types i .count)
-      (λ k h. member-sound k (memberAt members (typeAt types i .first + k)) image (omega arith))))
+      (λ k h. member-sound k (memberAt members (typeAt types i .first + k)) image (omega (arith, w .rows, h))
+      (w .each k h .earlier))))
 
-module _ (types members : List ℕ) (few : (i : ℕ) → typeAt types i .count ≤ 2 ^ 32) where
-  within-sound : (f i : ℕ) (image : List ℕ) → Every Sound (structWithin types members f i image)
+module _ (types members : List ℕ) (walk : Walkable types members) where
+  within-sound : (f i : ℕ) → f ≤ 200 → i < f → (image : List ℕ) → Every Sound (structWithin types members f i image)
   unfolding structWithin Every
-  within-sound zero i image = tt
-  within-sound (suc f) i image =
-      struct-sound types members (structWithin types members f) (λ s im. within-sound f s im) i image (few i)
+  within-sound zero i h l image = tt
+  within-sound (suc f) i h l image =
+      struct-sound types members (structWithin types members f) i
+      (λ s q im. within-sound f s (omega arith) (omega arith) im) image (walk .each i (omega arith))
 
-  pub reading-sound : (t : Ty) (n : ℕ) (image : List ℕ) → Every Sound (valueOut types members t n image)
+  reading-sound : (t : Ty) (n : ℕ) (image : List ℕ) → TyFits t → Every Sound (valueOut types members t n image)
   unfolding valueOut structOut
-  reading-sound t n image =
-      value-sound types members (structWithin types members 200) (λ i im. within-sound 200 i im) t n image
+  reading-sound t n image fits = go t fits
+    where
+      go : (t : Ty) → TyFits t → Every Sound (valueBy types members (structWithin types members 200) t n image)
+      go (ty.Atomic a) l = atomics-sound a n image
+      go (ty.Struct s) l =
+          structs-sound types members (structWithin types members 200) 200
+          (λ s q im. within-sound 200 s (omega arith) q im) s n image l
 
   -- what a reading writes is a stream that says its entries
-  pub reading-back : (t : Ty) (n : ℕ) (image : List ℕ)
+  pub reading-back : (t : Ty) (n : ℕ) (image : List ℕ) → TyFits t
       → length (streamBytes (valueOut types members t n image)) ≤ mostBytes → Back (valueOut types members t n image)
-  reading-back t n image l =
+  reading-back t n image fits l =
       let ts : List Token = valueOut types members t n image in
-      decode-back ts (all-say 0 ts (reading-sound t n image) (omega (arith, l, stream-long ts))) l
+      decode-back ts (all-say 0 ts (reading-sound t n image fits) (omega (arith, l, stream-long ts))) l

@@ -123,7 +123,7 @@ module _ {s : List ℕ} {k : ℕ} (t : There s k) (takes : Token → Effect) (w 
       applied-keeps (t .inside) (one-does (flat image) (null-keeps takes (t .token) (sym (kind-there t) ∙ e)))
 
   -- an entry that puts some bits
-  pub one-set : {image new : List ℕ} (b : Bits) → orNull takes (t .token) ≡ put b → length new ≡ length image
+  one-set : {image new : List ℕ} (b : Bits) → orNull takes (t .token) ≡ put b → length new ≡ length image
       → flat new ≡ stamp p w b (flat image)
       → Applied s k (k + 1) image new (writeOne (orNull takes) w p (leftAt s k))
   one-set {image} b e long v = applied-one (t .inside) long (one-does (flat image) e) v

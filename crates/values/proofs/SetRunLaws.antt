@@ -73,7 +73,7 @@ numbers-start n s k image base size =
     }
 
 -- one element more
-pub element-room : (size i n base long : ℕ) → i < n → base + size * n ≤ long → base + size * i + size ≤ long
+element-room : (size i n base long : ℕ) → i < n → base + size * n ≤ long → base + size * i + size ≤ long
 element-room size i n base long l h =
     omega (arith, mul-suc size i, mul-le-mul-left {m = suc i} {n = n} size (omega arith))
 

@@ -163,7 +163,7 @@ module _ (types members : List ℕ) (trees : ℕ → Tree) (i : ℕ) (sound : Si
       next : (k : ℕ) → row + 1 + k ≡ row + suc k
       next k = omega arith
 
-  pub struct-inside : WalkableType types members i → Inside (structTree trees (knownIn types members i))
+  struct-inside : WalkableType types members i → Inside (structTree trees (knownIn types members i))
   unfolding structTree knownIn Inside
   struct-inside w = go (isString (typeAt types i .kind))
     where
@@ -184,7 +184,7 @@ unfolding membersAt
 capacity-is members first n e = rw e
 
 -- the tree of a structure has its size, whatever the trees inside
-pub struct-span : (types members : List ℕ) (trees : ℕ → Tree) (i : ℕ) → WalkableType types members i
+struct-span : (types members : List ℕ) (trees : ℕ → Tree) (i : ℕ) → WalkableType types members i
     → span (structTree trees (knownIn types members i)) ≡ 8 * sizesIn types i
 unfolding structTree knownIn span
 struct-span types members trees i w = go (isString (typeAt types i .kind)) refl

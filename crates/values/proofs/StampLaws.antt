@@ -114,14 +114,14 @@ low-bit (suc n) r q (suc k) l =
     ∙ low-bit n (r / 2 ^ 1) q k (omega arith) ∙ sym (high-bit 1 r k) ∙ ap (bitOf r) (sym g)
 
 -- the bits of a list's first byte, and of those after it
-pub flat-first : (b : ℕ) (bs : List ℕ) (k : ℕ) → k < 8 → flat (b ∷ bs) k ≡ bitOf b k
+flat-first : (b : ℕ) (bs : List ℕ) (k : ℕ) → k < 8 → flat (b ∷ bs) k ≡ bitOf b k
 unfolding flat
 flat-first b bs k l =
     let e : k / 8 ≡ 0 = omega arith in
     let f : k % 8 ≡ k = omega arith in
     rw (e, f) refl
 
-pub flat-after : (b : ℕ) (bs : List ℕ) (k : ℕ) → flat (b ∷ bs) (8 + k) ≡ flat bs k
+flat-after : (b : ℕ) (bs : List ℕ) (k : ℕ) → flat (b ∷ bs) (8 + k) ≡ flat bs k
 unfolding flat
 flat-after b bs k =
     let e : (8 + k) / 8 ≡ suc (k / 8) = omega arith in

@@ -20,7 +20,7 @@ use Rattle.values.proofs.OutcomeLaws.{members-none, members-close, memb
 -- ---- answers
 
 -- on to entry r
-pub goes-on : {s : List ℕ} {k : ℕ} (r : ℕ) {f : Bits → Outcome} → streamOk s ≡ true → k < r → r ≤ countIn s
+goes-on : {s : List ℕ} {k : ℕ} (r : ℕ) {f : Bits → Outcome} → streamOk s ≡ true → k < r → r ≤ countIn s
     → ((z : Bits) → (new : Bits) × (f z ≡ ok (leftAt s r) new)) → Checked s k r f
 goes-on {s} {k} r {f} h a b g =
     record {

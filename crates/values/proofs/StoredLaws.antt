@@ -20,7 +20,7 @@ use Rattle.types.proofs.ShapeLaws.{there-fits}
 use Rattle.values.specs.Trees.{isString}
 use Rattle.values.specs.Walk.{capacityAt, textLength}
 use Rattle.values.specs.Walkable.{IsString, Walkable}
-use Rattle.values.specs.Texts.{stringNumber, textNumber, capacityOf, textPart, Stored, Held}
+use Rattle.values.specs.Texts.{Address, Held, Stored, capacityOf, stringNumber, textNumber, textPart}
 
 -- ---- the numbers
 
@@ -63,7 +63,7 @@ there-low types t h e = rw e at (there-fits types t h)
 -- ---- an image that is not refused
 
 -- what no refusal says of a structure and an image
-record Accepted (types : List ℕ) (i : ℕ) (image : List ℕ) : Type 0 where
+pub record Accepted (types : List ℕ) (i : ℕ) (image : List ℕ) : Type 0 where
   pub low : i < 200
   pub string : isString (typeAt types i .kind) ≡ true
   pub long : length image ≡ sizesIn types i
@@ -79,7 +79,8 @@ passed true true false e = absurd (let z : ⊥ = omega arith in z)
 passed true false c e = absurd (let z : ⊥ = omega arith in z)
 passed false b c e = absurd (let z : ⊥ = omega arith in z)
 
-accepted : (types : List ℕ) (i : ℕ) (image : List ℕ) → textNumber types (ty.Struct i) image ≡ 0 → Accepted types i image
+pub accepted : (types : List ℕ) (i : ℕ) (image : List ℕ) → textNumber types (ty.Struct i) image ≡ 0
+    → Accepted types i image
 unfolding textNumber stringNumber
 accepted types i image e =
     let long : Bool = eqb (length image) (sizesIn types i) in
@@ -112,21 +113,37 @@ pub held-struct : {types members : List ℕ} {t : Ty} {i : ℕ} {image : List �
     → Held types members t image n
 held-struct {types} {members} {t} {i} {image} e r h = record { long = rw e h; inside = omega (arith, r .inside) }
 
+-- no atomic has a text
+pub no-atomic : {A : Type 0} (types image : List ℕ) (a : Atomic) → textNumber types (ty.Atomic a) image ≡ 0 → A
+unfolding textNumber
+no-atomic types image a n = let z : _≡_ {A = ℕ} 15 0 = n in absurd (let y : ⊥ = omega arith in y)
+
 pub held-atomic : {types members : List ℕ} {t : Ty} {a : Atomic} {image : List ℕ} {n : ℕ} → t ≡ ty.Atomic a
     → textNumber types t image ≡ 0 → Held types members t image n
-unfolding textNumber
-held-atomic e n = let z : _≡_ {A = ℕ} 15 0 = rw e at n in absurd (let y : ⊥ = omega arith in y)
+held-atomic {types} {a = a} {image = image} e n = no-atomic types image a (rw e at n)
 
 -- ---- what is handed back
 
-module _ {types members : List ℕ} {t : Ty} {image : List ℕ} {number : ℕ} (e : number ≡ textNumber types t image) where
-  pub stored-text : {n : ℕ} → number ≡ 0 → Held types members t image n
-      → Stored types members t image number (take (4 + n - 4) (drop 4 image))
+module _ {types members : List ℕ} {t : Ty} {image : List ℕ} {whole place : Address} {number : ℕ}
+    (e : number ≡ textNumber types t image) (block : place .0 ≡ whole .0) where
+  pub stored-text : {n : ℕ} → number ≡ 0 → Held types members t image n → place .1 ≡ 4 + whole .1
+      → Stored types members t image whole number (take (4 + n - 4) (drop 4 image)) place
   unfolding textPart part
-  stored-text {n} z h =
+  stored-text {n} z h s =
       let f : 4 + n - 4 ≡ textLength (capacityOf types members t) image = omega (arith, h .long) in
-      record { why = e; text = rw (← e, eq-eqb number 0 z, f) }
+      record {
+        why = e;
+        text = rw (← e, eq-eqb number 0 z, f);
+        block = block;
+        start = rw (eq-eqb number 0 z) (omega (arith, s));
+      }
 
-  pub stored-none : (number ≡ 0 → ⊥) → Stored types members t image number []
+  pub stored-none : (number ≡ 0 → ⊥) → place .1 ≡ 0 + whole .1 → Stored types members t image whole number [] place
   unfolding textPart
-  stored-none z = record { why = e; text = rw (← e, ne-eqb number 0 z) }
+  stored-none z s =
+      record {
+        why = e;
+        text = rw (← e, ne-eqb number 0 z);
+        block = block;
+        start = rw (ne-eqb number 0 z) (omega (arith, s));
+      }

@@ -11,7 +11,7 @@ use Rattle.words.proofs.Lists.{sets-append}
 use Rattle.words.proofs.WordLaws.{length-bytes}
 use Rattle.values.specs.Laying.{laid}
 use Rattle.values.specs.Stream.{Token, heads, bodies, streamBytes}
-use Rattle.values.proofs.EntryLaws.{length-heads}
+use Rattle.values.proofs.HeadLaws.{length-heads}
 
 pub stream-long : (ts : List Token) → length (streamBytes ts) ≡ 4 + 12 * length ts + length (bodies ts)
 unfolding streamBytes

@@ -14,14 +14,15 @@ use Rattle.types.specs.declared.member.Member.{Member}
 use Rattle.values.specs.InPlace.{flagged, isFlag, isPlain, made, swept}
 use Rattle.values.specs.Leaf.{flag}
 use Rattle.values.specs.Normal.{held, normal}
+use Rattle.values.specs.Placed.{AllPlaced, Clear, Placed, Stairs}
 use Rattle.values.specs.Tree.{Branches, Item, Tree, at, between, branchItems, items, span, struct}
 use Rattle.values.specs.Trees.{bitTree, branchesFrom, seen, valueTree}
 use Rattle.values.proofs.FlagLaws.{Same, flagItems, flagged-is}
 use Rattle.values.proofs.MadeLaws.{normal-around, normal-first, normal-second}
 use Rattle.values.proofs.OnlyHeld.{held-first, held-second, or-first, or-none, or-second}
-use Rattle.values.proofs.PlacedLaws.{AllPlaced, Clear, Placed, branches-clear, held-append, not-true}
+use Rattle.values.proofs.PlacedLaws.{branches-clear, held-append, not-true}
 use Rattle.values.proofs.PlacedLaws.{tree-between}
-use Rattle.values.proofs.SweptLaws.{Stairs, plainItems, swept-is}
+use Rattle.values.proofs.SweptLaws.{plainItems, swept-is}
 
 -- ---- bits that no visible member holds
 

@@ -12,8 +12,9 @@ use Rattle.types.specs.Tables.{memberAt, typeAt}
 use Rattle.types.specs.Waste.{sizesIn}
 use Rattle.types.specs.declared.member.Member.{Member}
 use Rattle.types.specs.declared.member.StructDef.{StructDef}
-use Rattle.values.specs.InPlace.{RowsHere, Standing, flagged, isFlag, made, swept}
+use Rattle.values.specs.InPlace.{RowsHere, flagged, isFlag, made, swept}
 use Rattle.values.specs.Leaf.{str}
+use Rattle.values.specs.Placed.{Sweepable}
 use Rattle.values.specs.Rows.{Here, treeIn}
 use Rattle.values.specs.Tree.{Tree, leaf}
 use Rattle.values.specs.Trees.{isString, membersAt}
@@ -21,18 +22,18 @@ use Rattle.values.specs.Walk.{capacityAt}
 use Rattle.values.specs.Walkable.{IsString, Walkable}
 use Rattle.values.proofs.BranchLaws.{string-tree, members-tree}
 use Rattle.values.proofs.FlagLaws.{same-rows}
-use Rattle.values.proofs.StandingLaws.{standing-branches, standing-rows, standing-stairs, standing-walkable}
 use Rattle.values.proofs.StructMade.{struct-made}
+use Rattle.values.proofs.SweepableLaws.{sweepable-branches, sweepable-rows, sweepable-walkable}
 
 -- an image as long as another has the structure in the same place
 pub here-after : {types : List ℕ} {i base : ℕ} {image : List ℕ} (new : List ℕ) → Here types i base image
     → length new ≡ length image → Here types i base new
 here-after new here e = record { low = here .low; inside = omega (arith, here .inside) }
 
-module _ {types members : List ℕ} (s : Standing types members) {i base : ℕ} {image : List ℕ}
+module _ {types members : List ℕ} (s : Sweepable types members) {i base : ℕ} {image : List ℕ}
     (here : Here types i base image) {d : StructDef} (is : d ≡ typeAt types i) where
   walkable : Walkable types members
-  walkable = standing-walkable s
+  walkable = sweepable-walkable s
 
   module _ {first : ℕ} (f : first ≡ d .first) where
     first-is : first ≡ typeAt types i .first
@@ -74,7 +75,7 @@ module _ {types members : List ℕ} (s : Standing types members) {i base : ℕ} 
 
       -- its rows lie in the image
       pub rows-here : RowsHere members first count base image
-      rows-here = rw (first-is, count-is) (standing-rows s i (here .low) base image here)
+      rows-here = rw (first-is, count-is) (sweepable-rows s i (here .low) base image here)
 
       -- a bit for each is enough
       pub rows-few : count ≤ 2000
@@ -93,8 +94,8 @@ module _ {types members : List ℕ} (s : Standing types members) {i base : ℕ} 
           = ap (λ (x : StructDef). isString (x .kind)) (sym is) ∙ sym test ∙ e in
           let ms : List Member = membersAt members (typeAt types i .first) (typeAt types i .count) in
           puts ∙ ap₂ (flagged kept (8 * base) 0) members-are sweeps
-          ∙ struct-made (treeIn types members) (8 * base) (8 * sizesIn types i) ms (standing-stairs s i (here .low))
-          (standing-branches s i (here .low) kind) kept (flat image)
+          ∙ struct-made (treeIn types members) (8 * base) (8 * sizesIn types i) ms (s .stairs i (here .low))
+          (sweepable-branches s i (here .low) kind) kept (flat image)
           (rw members-are at (same-rows kept (flat image) (8 * base) members first count keeps))
           ∙ ap (λ (t : Tree). made t (8 * base) (flat image))
           (sym (members-tree types members walkable i (here .low) kind))

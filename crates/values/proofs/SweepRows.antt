@@ -13,15 +13,14 @@ use Rattle.types.specs.Tables.{memberAt, typeAt}
 use Rattle.types.specs.Waste.{sizesIn}
 use Rattle.types.specs.declared.member.Member.{Member}
 use Rattle.types.specs.declared.member.StructDef.{StructDef}
-use Rattle.values.specs.InPlace.{OnwardTo, PlainRow, Standing, cleared, isPlain, onward, pastTree, swept}
+use Rattle.values.specs.InPlace.{OnwardTo, PlainRow, cleared, isPlain, onward, pastTree, swept}
+use Rattle.values.specs.Placed.{Placed, Stairs, Sweepable}
 use Rattle.values.specs.Rows.{Here, memberTree, treeIn}
 use Rattle.values.specs.Tree.{Tree}
 use Rattle.values.specs.Trees.{membersAt}
 use Rattle.values.specs.Walkable.{WalkableType, Within}
-use Rattle.values.proofs.PlacedLaws.{Placed}
 use Rattle.values.proofs.StampLaws.{zeros-cleared}
-use Rattle.values.proofs.StandingLaws.{standing-stairs, standing-walkable}
-use Rattle.values.proofs.SweptLaws.{Stairs}
+use Rattle.values.proofs.SweepableLaws.{sweepable-walkable}
 
 -- ---- one member before others
 
@@ -55,7 +54,7 @@ size-of-type types i is e = e ∙ ap (λ (x : StructDef). x .size) is
 -- what is left of the rows of structure i before row k, from byte c of it on: `left` rows, over the image as it stands
 pub record Sweeping (types members : List ℕ) (i : ℕ) (image : List ℕ) (base first count : ℕ) (now : List ℕ) (c k : ℕ)
     : Type 0 where
-  pub standing : Standing types members
+  pub sweepable : Sweepable types members
   pub here : Here types i base image
   pub first-is : first ≡ typeAt types i .first
   pub count-is : count ≡ typeAt types i .count
@@ -69,28 +68,28 @@ pub record Sweeping (types members : List ℕ) (i : ℕ) (image : List ℕ) (bas
       (membersAt members (typeAt types i .first) (typeAt types i .count)) 0 (flat image)
 
 pub sweep-start : {types members : List ℕ} {i : ℕ} {image : List ℕ} {base first count : ℕ} {d : StructDef}
-    → Standing types members → Here types i base image → d ≡ typeAt types i → first ≡ d .first → count ≡ d .count
+    → Sweepable types members → Here types i base image → d ≡ typeAt types i → first ≡ d .first → count ≡ d .count
     → Sweeping types members i image base first count image 0 0
 sweep-start {types} {members} {i} {image} {base} {first} {count} s h is f n =
     let a : first ≡ typeAt types i .first = f ∙ ap (λ (x : StructDef). x .first) is in
     let b : count ≡ typeAt types i .count = n ∙ ap (λ (x : StructDef). x .count) is in
     let e : first + 0 ≡ typeAt types i .first = omega arith in
     record {
-      standing = s;
+      sweepable = s;
       here = h;
       first-is = a;
       count-is = b;
       left = count;
       all = omega arith;
       long = refl;
-      stairs = rw (e, b) (standing-stairs s i (h .low));
+      stairs = rw (e, b) (s .stairs i (h .low));
       same = rw (e, b) refl;
     }
 
 module _ {types members : List ℕ} {i : ℕ} {image : List ℕ} {base first count : ℕ} {now : List ℕ} {c k : ℕ}
     (v : Sweeping types members i image base first count now c k) where
   type-is : WalkableType types members i
-  type-is = standing-walkable (v .standing) .each i (v .here .low)
+  type-is = sweepable-walkable (v .sweepable) .each i (v .here .low)
 
   pub sweep-here : Here types i base now
   sweep-here = record { low = v .here .low; inside = omega (arith, v .here .inside, v .long) }
@@ -134,7 +133,7 @@ module _ {types members : List ℕ} {i : ℕ} {image : List ℕ} {base first cou
     sweep-past e =
         let ms : List Member = membersAt members (first + (k + 1)) more in
         record {
-          standing = v .standing;
+          sweepable = v .sweepable;
           here = v .here;
           first-is = v .first-is;
           count-is = v .count-is;
@@ -179,7 +178,7 @@ module _ {types members : List ℕ} {i : ℕ} {image : List ℕ} {base first cou
       sweep-on {new} {r} o g =
           let ms : List Member = membersAt members (first + (k + 1)) more in
           record {
-            standing = v .standing;
+            sweepable = v .sweepable;
             here = v .here;
             first-is = v .first-is;
             count-is = v .count-is;

@@ -12,24 +12,13 @@ use Rattle.types.specs.Laid.{firstBit}
 use Rattle.types.specs.declared.member.Member.{Member}
 use Rattle.values.specs.InPlace.{cleared, isPlain, onward, pastTree, swept}
 use Rattle.values.specs.Normal.{held, normal}
+use Rattle.values.specs.Placed.{If, Placed, Stairs}
 use Rattle.values.specs.Rows.{memberTree}
 use Rattle.values.specs.Tree.{Item, Tree, items, span}
 use Rattle.values.proofs.ItemLaws.{normal-unheld}
 use Rattle.values.proofs.MadeLaws.{made-beside, made-inside, normal-first, normal-local, normal-second}
 use Rattle.values.proofs.OnlyHeld.{not-inside}
-use Rattle.values.proofs.PlacedLaws.{Placed, Or, left, right, held-or, not-true, tree-between, yes-inside}
-
--- one of two claims
-abbrev pub If : Bool → Type 0 → Type 0 → Type 0
-If true A B = A
-If false A B = B
-
--- the plain members from bit c on stand one after another, up to the size
-module _ (trees : ℕ → Tree) (size : ℕ) where
-  unfoldable pub Stairs : List Member → ℕ → Type 0
-  Stairs [] c = c ≤ size
-  Stairs (m ∷ ms) c =
-      If (isPlain m) ((c ≤ firstBit m) × (Placed (memberTree trees m) × Stairs ms (pastTree trees m))) (Stairs ms c)
+use Rattle.values.proofs.PlacedLaws.{Or, left, right, held-or, not-true, tree-between, yes-inside}
 
 -- their items, where the structure begins at bit p
 module _ (trees : ℕ → Tree) (p : ℕ) where

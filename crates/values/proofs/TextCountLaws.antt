@@ -18,7 +18,7 @@ use Rattle.values.specs.Walk.{upTo, wrap}
 use Rattle.values.specs.Walk.{textLength, textOut, capacityAt, isNested}
 use Rattle.values.specs.Walk.{memberBy, rowBy, membersBy, structBy, structOut}
 use Rattle.values.specs.Walkable.{IsString, Walkable, ImageOf}
-use Rattle.values.proofs.EntryLaws.{bodies-append}
+use Rattle.values.proofs.HeadLaws.{bodies-append}
 use Rattle.values.proofs.LeafLaws.{textless-leaf}
 use Rattle.values.proofs.MemberLaws.{member-leaf}
 use Rattle.values.proofs.UpLaws.{wrap-bodies}
@@ -39,19 +39,19 @@ texts-same e w =
       small = w .small;
     }
 
-pub texts-wrap : {room r : ℕ} {ts : List Token} (start stop : ℕ) → Texts room ts r → Texts room (wrap start stop ts) r
+texts-wrap : {room r : ℕ} {ts : List Token} (start stop : ℕ) → Texts room ts r → Texts room (wrap start stop ts) r
 texts-wrap {ts = ts} start stop w = texts-same (sym (wrap-bodies start stop ts)) w
 
 pub texts-member : {room r : ℕ} {ts : List Token} (j : ℕ) → Texts room ts r → Texts room (member j ∷ ts) r
 unfolding bodies
 texts-member {ts = ts} j w = texts-same {x = ts} {y = member j ∷ ts} refl w
 
-pub texts-none : (room : ℕ) → Texts room [] 0
+texts-none : (room : ℕ) → Texts room [] 0
 unfolding bodies
 texts-none room = record { exact = λ h. refl; over = λ h. absurd (let z : ⊥ = omega arith in z); small = omega arith }
 
 -- one part more, in the room that is left
-pub texts-then : {room t r : ℕ} {x y : List Token} → t ≤ room → Texts room x t → Texts (room - t) y r
+texts-then : {room t r : ℕ} {x y : List Token} → t ≤ room → Texts room x t → Texts (room - t) y r
     → Texts room (x ++ y) (t + r)
 texts-then {room} {t} {r} {x} {y} l v w =
     let s = ap length (bodies-append x y) ∙ length-append (bodies x) (bodies y) in
@@ -78,7 +78,7 @@ texts-past {x = x} y l w =
     }
 
 -- one string, whose capacity is a u32
-pub texts-string : (capacity : ℕ) (image : List ℕ) (room : ℕ) → 4 + capacity ≤ length image → capacity < 2 ^ 32
+texts-string : (capacity : ℕ) (image : List ℕ) (room : ℕ) → 4 + capacity ≤ length image → capacity < 2 ^ 32
     → Texts room (textOut capacity image) (textLength capacity image)
 unfolding bodies
 texts-string capacity image room h l =
@@ -105,7 +105,7 @@ module _ {room n k t : ℕ} {g : ℕ → List Token} (w : Summed room g n k t) (
   pub sum-on : {r : ℕ} → t ≤ room → Texts (room - t) (g k) r → Summed room g n (k + 1) (t + r)
   sum-on h v = record { texts = texts-as (up-more g k) (texts-then h (w .texts) v); most = omega arith }
 
-  pub sum-plain : bodies (g k) ≡ [] → Summed room g n (k + 1) t
+  sum-plain : bodies (g k) ≡ [] → Summed room g n (k + 1) t
   sum-plain e = record { texts = texts-as (up-more g k) (texts-plain (g k) e (w .texts)); most = omega arith }
 
 past-up : {room t : ℕ} (g : ℕ → List Token) (k d : ℕ) → room < t → Texts room (upTo g k) t

@@ -1,16 +1,23 @@
 -- Texts (document 01, "Value stream": place and length in the entry, the bytes among the bodies; "Reading": min(LEN,
 -- capacity) bytes of DATA).
 use Prim.Native.Nat.{ℕ, _+_, _-_, _*_, _^_, _≤_}
+use native.Mathlib.Nat.{zero-add}
 use native.Mathlib.Omega.{arith}
-use mathlib.Core.Path.{_≡_, sym, ap, ap₂, _∙_}
+use mathlib.Core.Path.{_≡_, sym, ap, ap₂, _∙_, fun-ext}
 use mathlib.Core.List.{List, [], _++_, append-nil}
 use lib.ListN.{length, take, drop}
 use lib.Seq.{sets}
-use Rattle.words.specs.Words.{part}
+use Rattle.words.specs.Bits.{flat, val}
+use Rattle.words.specs.Words.{Bytes, part, wordAt}
+use Rattle.words.proofs.BitLaws.{word-val}
 use Rattle.words.proofs.Lists.{length-part}
 use Rattle.values.specs.Stream.{entryBytes, heads, bodies}
 use Rattle.values.specs.Laying.{laid, Room, Wrote}
 use Rattle.values.specs.Walk.{textLength, textIn, textOut}
+
+-- LEN as u32 is the number of the first 32 bits
+pub len-is : (image : List ℕ) → Bytes image → {n : ℕ} → n ≡ wordAt 4 image 0 → n ≡ val 32 (flat image)
+len-is image b e = e ∙ word-val 4 image 0 b ∙ ap (val 32) (fun-ext (λ k. ap (flat image) (zero-add k)))
 
 module _ (capacity : ℕ) (image : List ℕ) (inside : 4 + capacity ≤ length image) where
   -- the text is as long as its length says

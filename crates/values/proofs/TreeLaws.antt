@@ -73,7 +73,7 @@ mutual
   unfolding items
 
   -- a tree at bit p + q is that tree at bit q of the bits from p on
-  pub shift : (t : Tree) (p q : ℕ) (x : Bits) → read (items t (p + q)) x ≡ read (items t q) (from p x)
+  shift : (t : Tree) (p q : ℕ) (x : Bits) → read (items t (p + q)) x ≡ read (items t q) (from p x)
   shift (leaf l) p q x = leaf-shift l p q x
   shift (bits w n) p q x =
       between-same 10 11 (each (allBits w n) oneFlag 1 (p + q)) (each (allBits w n) oneFlag 1 q) x (from p x)
@@ -99,7 +99,7 @@ abbrev pub Agree : ℕ → ℕ → Bits → Bits → Type 0
 Agree p n x y = (k : ℕ) → p ≤ k → k < p + n → x k ≡ y k
 
 -- a leaf gives what its bits say
-pub emit-ext : (l : Leaf) (b c : Bits) → ((k : ℕ) → k < width l → b k ≡ c k) → emit l b ≡ emit l c
+emit-ext : (l : Leaf) (b c : Bits) → ((k : ℕ) → k < width l → b k ≡ c k) → emit l b ≡ emit l c
 emit-ext flag b c h = ap bool (h 0 (omega arith))
 emit-ext byte b c h = ap (λ (v : ℕ). bool (isTrue v)) (val-ext 8 b c h)
 emit-ext (int n) b c h = ap (λ (v : ℕ). number 2 (signed n v)) (val-ext n b c h)
@@ -148,7 +148,7 @@ each-alike (suc n) f w p x y g h =
 mutual
   unfolding items span Inside
 
-  pub alike : (t : Tree) (p : ℕ) (x y : Bits) → Inside t → Agree p (span t) x y
+  alike : (t : Tree) (p : ℕ) (x y : Bits) → Inside t → Agree p (span t) x y
       → read (items t p) x ≡ read (items t p) y
   alike (leaf l) p x y i h = leaf-alike l p x y (λ k a b. h k a (omega (arith, width-room l)))
   alike (bits w n) p x y i h =

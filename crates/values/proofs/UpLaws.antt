@@ -10,7 +10,7 @@ use mathlib.Core.List.{List, [], _∷_, _++_, append-assoc, append-nil}
 use lib.ListN.{length, length-append}
 use Rattle.values.specs.Stream.{Token, mark, bodies}
 use Rattle.values.specs.Walk.{upTo, wrap}
-use Rattle.values.proofs.EntryLaws.{bodies-append}
+use Rattle.values.proofs.HeadLaws.{bodies-append}
 
 -- runs that agree element for element
 pub up-ext : (g h : ℕ → List Token) (n : ℕ) → ((k : ℕ) → k < n → g k ≡ h k) → upTo g n ≡ upTo h n

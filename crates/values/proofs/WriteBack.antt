@@ -11,16 +11,15 @@ use Rattle.words.specs.Bits.{Bits, from, stamp}
 use Rattle.values.specs.Effects.{Effect, put, orNull, taken}
 use Rattle.values.specs.Leaf.{Leaf, flag, width, emit}
 use Rattle.values.specs.Normal.{norm}
+use Rattle.values.specs.Placed.{AllPlaced, Good, Numbered, Placed}
 use Rattle.values.specs.Stream.{Token, member, mark, kindOf}
 use Rattle.values.specs.Tree.{Tree, leaf, bits, array, struct, Branches, none, branch, allBits, span}
 use Rattle.values.specs.Tree.{Item, say, at, each, between, oneFlag, items, branchItems, read}
 use Rattle.values.specs.Writing.{Outcome, ok, writeOne, opened, elements, membersIn}
 use Rattle.values.specs.Writing.{boolsIn, wholesIn, firstIs, noBits, writeBits, write, writeBranch}
 use Rattle.values.proofs.FitLaws.{not-null}
-use Rattle.values.proofs.NormalLaws.{Good}
 use Rattle.values.proofs.OutcomeLaws.{elements-next}
 use Rattle.values.proofs.OverLaws.{over, over-append, flags-hide}
-use Rattle.values.proofs.PlacedLaws.{Placed, AllPlaced, Numbered}
 use Rattle.values.proofs.PutBack.{PutBack, emit-value, put-back}
 use Rattle.values.proofs.StampLaws.{stamp-ext}
 use Rattle.values.proofs.TreeLaws.{read-append}

@@ -1,5 +1,5 @@
 -- The second half of demand 3 (document 01, "Writing", "Normal image"), over byte images and byte streams, for tables
--- as our own calls left them: the stream of an image of a value, written over any image of that value, is accepted,
+-- whose members share no bit: the stream of an image of a value, written over any image of that value, is accepted,
 -- sets every bit that the value holds to the normal image's, and keeps every other bit.
 use Prim.Native.Nat.{ℕ, _*_, _<_, _≤_}
 use mathlib.Core.Path.{_≡_, refl, sym, ap, _∙_}
@@ -9,7 +9,6 @@ use lib.ListN.{length}
 use borrow.Author.Tests.{eq-eqb}
 use Rattle.words.specs.Bits.{Bits, flat}
 use Rattle.words.specs.Words.{Bytes}
-use Rattle.types.specs.Kept.{Kept}
 use Rattle.types.specs.Layout.{times}
 use Rattle.types.specs.Shape.{isThere}
 use Rattle.types.specs.Waste.{sizeIn, sizesIn}
@@ -17,6 +16,7 @@ use Rattle.types.specs.declared.member.Ty.{Ty}
 use Rattle.values.specs.Form.{countIn}
 use Rattle.values.specs.Leaf.{chars}
 use Rattle.values.specs.Normal.{held, normalImage}
+use Rattle.values.specs.Placed.{Disjoint, Placed}
 use Rattle.values.specs.Reading.{valueStream}
 use Rattle.types.specs.Said.{done}
 use Rattle.values.specs.Stream.{Token, mostBytes}
@@ -26,9 +26,9 @@ use Rattle.values.specs.Walkable.{ValueImage}
 use Rattle.values.specs.Writing.{Outcome, ok, ended, write, written}
 use Rattle.values.specs.Written.{Result, taking, valueWritten, writeResult}
 use Rattle.values.proofs.CharLaws.{length-chars}
-use Rattle.values.proofs.KeptPlaced.{kept-placed}
+use Rattle.values.proofs.DisjointLaws.{disjoint-value}
 use Rattle.values.proofs.OverLaws.{over, over-bit}
-use Rattle.values.proofs.PlacedLaws.{Placed, tree-apart}
+use Rattle.values.proofs.PlacedLaws.{tree-apart}
 use Rattle.values.proofs.SameStream.{stream-ok, tokens-are, normal-bits}
 use Rattle.values.proofs.WriteBack.{tree-back}
 use Rattle.values.proofs.WrittenHeld.{bytes-bit}
@@ -48,7 +48,7 @@ whole-back tree x z a =
     ap ended (ap (λ (ts : List Token). write tree 0 ts z) (sym (append-nil (read (items tree 0) x)))
     ∙ tree-back tree 0 x a z [])
 
-module _ {types members names : List ℕ} (kept : Kept types members names) (t : Ty) (n : ℕ)
+module _ {types members : List ℕ} (d : Disjoint types members) (t : Ty) (n : ℕ)
     (there : isThere types t ≡ true) (x z : List ℕ) (v : ValueImage types t n x) (u : ValueImage types t n z)
     (b : Bytes x) (room : length (valueStream types members t n x) ≤ mostBytes) where
   abbrev tree : Tree
@@ -61,12 +61,12 @@ module _ {types members names : List ℕ} (kept : Kept types members names) (t :
   stream = valueStream types members t n x
 
   placed : Placed tree
-  placed = kept-placed kept t n (v .fits)
+  placed = disjoint-value d t n (v .fits)
 
   outcome : valueWritten types members t n stream z ≡ ok [] (over is (flat x) (flat z))
   unfolding valueWritten
   outcome =
-      ap (λ (ts : List Token). written tree ts (flat z)) (tokens-are kept t n (v .fits) x v b room)
+      ap (λ (ts : List Token). written tree ts (flat z)) (tokens-are d t n (v .fits) x v b room)
       ∙ whole-back tree (flat x) (flat z) placed
 
   result : writeResult types members t n stream z ≡ taking (countIn stream) (ok [] (over is (flat x) (flat z))) z
@@ -75,7 +75,7 @@ module _ {types members names : List ℕ} (kept : Kept types members names) (t :
       rw (
         there,
         eq-eqb (length z) (sizeIn (sizesIn types) t * times n) (u .long),
-        stream-ok kept t n (v .fits) x v b room,
+        stream-ok d t n (v .fits) x v b room,
       )
       (ap (λ (w : Outcome). taking (countIn stream) w z) outcome)
 
@@ -85,7 +85,7 @@ module _ {types members names : List ℕ} (kept : Kept types members names) (t :
   left-bit k l =
       bytes-bit (length z) (over is (flat x) (flat z)) k l
       ∙ over-bit is (flat x) (flat z) (tree-apart tree 0 placed) k
-      ∙ ap (λ (y : Bits). cond (held is k) (y k) (flat z k)) (sym (normal-bits kept t n (v .fits) x v b))
+      ∙ ap (λ (y : Bits). cond (held is k) (y k) (flat z k)) (sym (normal-bits d t n (v .fits) x v b))
 
   pub written-back : WrittenBack tree x z (writeResult types members t n stream z)
   written-back =

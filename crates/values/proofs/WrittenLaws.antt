@@ -34,7 +34,7 @@ use Rattle.values.proofs.TreeLaws.{chars-part}
 
 -- ---- all entries
 
-pub left-all : (s : List ℕ) → leftAt s 0 ≡ tokensIn s
+left-all : (s : List ℕ) → leftAt s 0 ≡ tokensIn s
 unfolding leftAt tokensIn
 left-all s = rw sub-zero refl
 
@@ -67,7 +67,8 @@ module _ (types members : List ℕ) (t : Ty) (n : ℕ) (s image : List ℕ) (for
   place-of q l = rw (left-long s q) (omega arith)
 
   at-bad : (x : Refusal) {q : ℕ} → placeOf x ≡ q → q ≤ countIn s
-      → ended (entries (flat image)) ≡ bad (numberOf x) (leftAt s q) → Entered types members t n s image (Refused x) image
+      → ended (entries (flat image)) ≡ bad (numberOf x) (leftAt s q)
+      → Entered types members t n s image (Refused x) image
   at-bad x {q} k l e =
       record {
         answer = sym (ap (takenOf (countIn s)) (all-written ∙ e) ∙ ap (refused (numberOf x)) (place-of q l ∙ sym k));

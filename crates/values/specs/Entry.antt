@@ -9,6 +9,7 @@ use lib.ListN.{getD, length}
 use lib.Seq.{sets}
 use Rattle.words.specs.Bits.{digit}
 use Rattle.words.specs.Words.{wordAt}
+use Rattle.types.specs.Said.{Said, done, refused}
 use Rattle.values.specs.Stream.{entryBytes}
 use Rattle.values.specs.declared.entries.Entry.{Entry}
 use Rattle.values.specs.declared.entries.Entry.the-variants as entry
@@ -65,9 +66,52 @@ EntryFits entry.ArrayClose = Unit {0}
 abbrev pub bytesOfEntry : Entry → List ℕ
 bytesOfEntry e = entryBytes (entryKind e) (entryPayload e)
 
--- ---- what a payload says
+-- so does what was loaded
+abbrev pub LoadedFits : Loaded → Type 0
+LoadedFits (Is e) = EntryFits e
+LoadedFits Malformed = Unit {0}
 
--- of an entry that has none
+-- ---- what twelve bytes say
+
+-- what an answer says: an entry's kind and its payload, or 17
+abbrev pub saidBy : Loaded → Said (ℕ × ℕ)
+saidBy (Is e) = done (entryKind e, entryPayload e)
+saidBy Malformed = refused 17 0
+
+-- whether a number of 64 bits is right as a payload of each kind, 0 to 11: a bool is 0 or 1, REAL bits and a member's
+-- number have 32 bits, and unused payload is zero
+abbrev pub payloadsRight : ℕ → List Bool
+payloadsRight x =
+    eqb x 0 ∷ ltb x 2 ∷ true ∷ true ∷ ltb x (2 ^ 32) ∷ true ∷ true ∷ ltb x (2 ^ 32) ∷ eqb x 0 ∷ eqb x 0 ∷ eqb x 0
+    ∷ eqb x 0 ∷ []
+
+unfoldable pub payloadRight : ℕ → ℕ → Bool
+payloadRight kind x = getD (payloadsRight x) kind false
+
+-- a kind and a payload, or 17
+abbrev pub entryOr17 : Bool → ℕ → ℕ → Said (ℕ × ℕ)
+entryOr17 good kind x = cond good (done (kind, x)) (refused 17 0)
+
+-- three zeros after the kind
+unfoldable pub threeZeros : List ℕ → ℕ → Bool
+threeZeros s at = eqb (getD s (at + 1) 0) 0 && eqb (getD s (at + 2) 0) 0 && eqb (getD s (at + 3) 0) 0
+
+abbrev pub kindAt : List ℕ → ℕ → ℕ
+kindAt s at = getD s at 0
+
+abbrev pub payloadAt : List ℕ → ℕ → ℕ
+payloadAt s at = wordAt 8 s (at + 4)
+
+-- the bytes are there, and they are an entry's
+unfoldable pub isEntry : List ℕ → ℕ → Bool
+isEntry s at = leb (at + 12) (length s) && threeZeros s at && payloadRight (kindAt s at) (payloadAt s at)
+
+unfoldable pub entryAt : List ℕ → ℕ → Said (ℕ × ℕ)
+entryAt s at = entryOr17 (isEntry s at) (kindAt s at) (payloadAt s at)
+
+-- ---- the same by value, as the code tells it and as a stream's form is told
+
+-- of an entry that has no payload
 unfoldable pub bareIn : Entry → ℕ → Loaded
 bareIn e x = cond (eqb x 0) (Is e) Malformed
 
@@ -91,20 +135,11 @@ payloadsIn x =
 unfoldable pub loadedOf : ℕ → ℕ → Loaded
 loadedOf kind x = getD (payloadsIn x) kind Malformed
 
--- ---- what twelve bytes say
-
--- three zeros after the kind
-unfoldable pub threeZeros : List ℕ → ℕ → Bool
-threeZeros s at = eqb (getD s (at + 1) 0) 0 && eqb (getD s (at + 2) 0) 0 && eqb (getD s (at + 3) 0) 0
-
+-- of twelve bytes that are there
 unfoldable pub entryIn : List ℕ → ℕ → Loaded
-entryIn s at = cond (threeZeros s at) (loadedOf (getD s at 0) (wordAt 8 s (at + 4))) Malformed
+entryIn s at = cond (threeZeros s at) (loadedOf (kindAt s at) (payloadAt s at)) Malformed
 
--- ---- in a list of bytes, at any place
-
--- bytes that are not there say nothing
-unfoldable pub entryAt : List ℕ → ℕ → Loaded
-entryAt s at = cond (leb (at + 12) (length s)) (entryIn s at) Malformed
+-- ---- storing
 
 -- an entry is stored where it has room, and nothing where it has none
 unfoldable pub entrySet : List ℕ → ℕ → Entry → List ℕ

@@ -6,7 +6,6 @@ use mathlib.Core.Path.{_≡_}
 use mathlib.Core.Bool.{Bool, true, false, cond, not}
 use mathlib.Core.List.{List, [], _∷_}
 use Rattle.words.specs.Bits.{Bits, flat, from, inside, stamp}
-use Rattle.types.specs.Kept.{Kept}
 use Rattle.types.specs.Laid.{firstBit, hasBit}
 use Rattle.types.specs.Tables.{memberAt}
 use Rattle.types.specs.declared.member.Member.{Member}
@@ -15,11 +14,6 @@ use Rattle.values.specs.Rows.{MemberHere, memberTree}
 use Rattle.values.specs.Tree.{Tree, items, span}
 use Rattle.values.specs.Walkable.{RowOf}
 use Rattle.values.specs.Writing.{noBits}
-
--- the tables of types and members as our own calls left them, beside some table of names
-pub record Standing (types members : List ℕ) : Type 0 where
-  pub names : List ℕ
-  pub kept : Kept types members names
 
 -- ---- bits
 

@@ -37,7 +37,7 @@ unfoldable pub chars : ℕ → Bits → List ℕ
 chars zero b = []
 chars (suc n) b = val 8 b ∷ chars n (from 8 b)
 
--- a string's text is clipped to its capacity: LEN is read as a u32
+-- a string's text is clipped to its capacity: it is min(LEN as u32, capacity) bytes long
 abbrev pub clipped : ℕ → Bits → ℕ
 clipped capacity b = min (val 32 b) capacity
 

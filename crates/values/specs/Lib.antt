@@ -22,8 +22,10 @@ pub mod Rows
 pub mod Written
 pub mod Normal
 pub mod InPlace
+pub mod Placed
 pub mod Normalised
 pub mod Texts
+pub mod CaseTables
 pub mod ReadingCases
 pub mod WritingCases
 pub mod NormalCases

@@ -3,16 +3,12 @@
 use mathlib.Core.Path.{_≡_, refl}
 use mathlib.Core.List.{[], _∷_}
 use Rattle.words.specs.Bits.{bitOf, flat, inside, val}
-use Rattle.values.specs.Leaf.{chars, flag, int, str}
+use Rattle.values.specs.Leaf.{chars, str}
 use Rattle.values.specs.Normal.{normal, normalImage}
-use Rattle.values.specs.ReadingCases.{chan-image}
-use Rattle.values.specs.Tree.{Tree, leaf, struct, none, branch, items}
+use Rattle.values.specs.ReadingCases.{chan-image, chanTree}
+use Rattle.values.specs.Tree.{leaf, items}
 
--- Chan's tree, as `ReadingCases.chan-tree` computes it
-abbrev chan : Tree
-chan = struct 32 (branch 1 0 (leaf flag) (branch 2 1 (leaf flag) (branch 3 16 (leaf (int 16)) none)))
-
-pub chan-normal : normalImage chan chan-image ≡ 0x03 ∷ 0x00 ∷ 0xFE ∷ 0xFF ∷ []
+pub chan-normal : normalImage chanTree chan-image ≡ 0x03 ∷ 0x00 ∷ 0xFE ∷ 0xFF ∷ []
 unfolding normalImage normal items chars flat bitOf inside val
 chan-normal = refl
 

@@ -2,46 +2,30 @@
 -- a string of capacity 82 with LEN FFFFFFFF reads 82 bytes; and one DWORD gives its 32 bits as an array.
 use Prim.Native.Nat.{ℕ}
 use mathlib.Core.Path.{_≡_, refl}
-use mathlib.Core.Bool.{Bool, true, false}
+use mathlib.Core.Bool.{true, false}
 use mathlib.Core.List.{List, [], _∷_}
 use lib.ListN.{length, replicate, take}
 use Rattle.words.specs.Bits.{bitOf, flat, val}
 use Rattle.words.specs.Words.{bytesOf}
 use Rattle.types.specs.Atomic.{bitString, sizeOf}
-use Rattle.types.specs.declared.atomic.Atomic.{Atomic as AtomicType}
-use Rattle.types.specs.declared.atomic.Atomic.the-variants.{Bool as BOOL, SInt, Int, DInt, DWord}
-use Rattle.types.specs.declared.member.Bit.{Bit}
-use Rattle.types.specs.declared.member.Bit.the-variants.{None, At}
-use Rattle.types.specs.declared.member.Member.{Member}
-use Rattle.types.specs.declared.member.StructKind.the-variants.{Udt, Str}
+use Rattle.types.specs.declared.atomic.Atomic.the-variants.{DWord}
 use Rattle.types.specs.declared.member.Ty.{Ty}
 use Rattle.types.specs.declared.member.Ty.the-variants.{Atomic, Struct}
+use Rattle.values.specs.CaseTables.{chanDef, knownOf, string82Def}
 use Rattle.values.specs.Leaf.{flag, int, str, signed, chars}
 use Rattle.values.specs.Stream.{Token, bool, number, text, member, mark, entryBytes, heads, bodies, streamBytes}
 use Rattle.values.specs.Tree.{Tree, leaf, struct, none, branch, span, allBits, each, items, read}
 use Rattle.values.specs.Trees.{Known, atomicsTree, structsTree, branchesFrom, structTree, treeWithin, treeOf}
 use Rattle.values.specs.Trees.{treeOfValue}
 
--- ---- structures, and what is asked of a value
+-- ---- what is asked of a value
 
-abbrev row : AtomicType → ℕ → ℕ → Bit → Bool → Member
-row a count offset bit hidden =
-    record { ty = Atomic a; count = count; offset = offset; bit = bit; hidden = hidden; local = false; access = 0 }
-
--- UDT Chan: Good BOOL, Live BOOL, Level INT, after the host of the two BOOLs
+-- what the tables of UDT Chan, and of a string of capacity 82, say
 abbrev pub chan : ℕ → Known
-chan i =
-    record {
-      kind = Udt;
-      size = 4;
-      members =
-          row SInt 0 0 None true ∷ row BOOL 0 0 (At 0) false ∷ row BOOL 0 0 (At 1) false ∷ row Int 0 2 None false ∷ [];
-    }
+chan = knownOf chanDef
 
--- a string of capacity 82
 abbrev pub string82 : ℕ → Known
-string82 i =
-    record { kind = Str; size = 88; members = row DInt 0 0 None false ∷ row SInt 82 4 None false ∷ [] }
+string82 = knownOf string82Def
 
 -- a value's tree
 unfoldable pub tree : (ℕ → Known) → Ty → ℕ → Tree
@@ -60,9 +44,12 @@ stream known t n image = streamBytes (entries known t n image)
 
 -- ---- Chan
 
-pub chan-tree : tree chan (Struct 0) 0
-    ≡ struct 32 (branch 1 0 (leaf flag) (branch 2 1 (leaf flag) (branch 3 16 (leaf (int 16)) none)))
-unfolding tree
+-- a host of 8 bits is hidden; Good and Live are its bits 0 and 1, and Level begins at bit 16
+abbrev pub chanTree : Tree
+chanTree = struct 32 (branch 1 0 (leaf flag) (branch 2 1 (leaf flag) (branch 3 16 (leaf (int 16)) none)))
+
+pub chan-tree : tree chan (Struct 0) 0 ≡ chanTree
+unfolding tree knownOf
 chan-tree = refl
 
 abbrev pub chan-image : List ℕ
@@ -71,11 +58,11 @@ chan-image = 0x03 ∷ 0x7F ∷ 0xFE ∷ 0xFF ∷ []
 -- Good and Live are true, Level is -2
 pub chan-entries : entries chan (Struct 0) 0 chan-image
     ≡ mark 8 ∷ member 1 ∷ bool true ∷ member 2 ∷ bool true ∷ member 3 ∷ number 2 0xFFFFFFFFFFFFFFFE ∷ mark 9 ∷ []
-unfolding entries
+unfolding entries knownOf
 chan-entries = refl
 
 pub chan-eight : length (entries chan (Struct 0) 0 chan-image) ≡ 8
-unfolding entries
+unfolding entries knownOf
 chan-eight = refl
 
 -- the count, and the first three entries: structure open, member 1, true
@@ -85,18 +72,18 @@ pub chan-bytes : take 40 (stream chan (Struct 0) 0 chan-image)
     ∷ 8 ∷ 0 ∷ 0 ∷ 0 ∷ 0 ∷ 0 ∷ 0 ∷ 0 ∷ 0 ∷ 0 ∷ 0 ∷ 0
     ∷ 7 ∷ 0 ∷ 0 ∷ 0 ∷ 1 ∷ 0 ∷ 0 ∷ 0 ∷ 0 ∷ 0 ∷ 0 ∷ 0
     ∷ 1 ∷ 0 ∷ 0 ∷ 0 ∷ 1 ∷ 0 ∷ 0 ∷ 0 ∷ 0 ∷ 0 ∷ 0 ∷ 0 ∷ []
-unfolding stream
+unfolding stream knownOf
 chan-bytes = refl
 
 -- 4 bytes and 8 entries of 12
 pub chan-long : length (stream chan (Struct 0) 0 chan-image) ≡ 100
-unfolding stream
+unfolding stream knownOf
 chan-long = refl
 
 -- ---- strings
 
 pub string-tree : tree string82 (Struct 0) 0 ≡ leaf (str 82)
-unfolding tree
+unfolding tree knownOf
 string-tree = refl
 
 -- LEN FFFFFFFF reads 82 bytes
@@ -104,13 +91,13 @@ abbrev pub long-image : List ℕ
 long-image = 0xFF ∷ 0xFF ∷ 0xFF ∷ 0xFF ∷ replicate 84 65
 
 pub string-entries : entries string82 (Struct 0) 0 long-image ≡ text (replicate 82 65) ∷ []
-unfolding entries
+unfolding entries knownOf
 string-entries = refl
 
 -- one entry: its text's place 0 and length 82, and the text
 pub string-bytes : stream string82 (Struct 0) 0 long-image
     ≡ 1 ∷ 0 ∷ 0 ∷ 0 ∷ 6 ∷ 0 ∷ 0 ∷ 0 ∷ 0 ∷ 0 ∷ 0 ∷ 0 ∷ 82 ∷ 0 ∷ 0 ∷ 0 ∷ replicate 82 65
-unfolding stream
+unfolding stream knownOf
 string-bytes = refl
 
 -- ---- bit strings

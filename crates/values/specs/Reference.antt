@@ -6,7 +6,7 @@ use mathlib.Core.Option.{some}
 use lib.ListN.{length, replicate}
 use Rattle.types.specs.declared.atomic.Atomic.the-variants.{DWord}
 use Rattle.types.specs.declared.member.Ty.the-variants.{Struct}
-use Rattle.types.specs.Cases.{aoi, bool, boolDim, declared, hostsAt, sint, udt, udtSize, visible}
+use Rattle.types.specs.Cases.{aoi, bool, boolDim, declared, hostsAt, partsIf, sint, sizeIf, udt, visible}
 use Rattle.types.specs.Cases as layouts
 use Rattle.types.specs.Handle.{foldFrom}
 use Rattle.types.specs.Layout.{boolAt, otherAt}
@@ -19,19 +19,19 @@ use Rattle.values.specs.Stream.{text}
 
 pub record Reference : Type 0 where
   -- no members: size 0
-  pub no-members : udtSize [] ≡ some 0
+  pub no-members : sizeIf (udt []) ≡ some 0
   -- eight BOOLs: one host; nine: hosts at 0 and 1, 11 members, size 4
   pub eight-bools : hostsAt (udt (replicate 8 bool)) ≡ 0 ∷ []
   pub nine-bools : hostsAt (udt (replicate 9 bool)) ≡ 0 ∷ 1 ∷ []
-  pub nine-members : length (udt (replicate 9 bool)) ≡ 11
-  pub nine-size : udtSize (replicate 9 bool) ≡ some 4
+  pub nine-members : length (partsIf (udt (replicate 9 bool))) ≡ 11
+  pub nine-size : sizeIf (udt (replicate 9 bool)) ≡ some 4
   -- BOOL, SINT, BOOL: hosts at 0 and 2, SINT at 1
   pub between-hosts : hostsAt (udt (bool ∷ sint ∷ bool ∷ [])) ≡ 0 ∷ 2 ∷ []
   pub between : visible (udt (bool ∷ sint ∷ bool ∷ [])) ≡ boolAt bool 0 0 ∷ otherAt sint 1 ∷ boolAt bool 2 0 ∷ []
   -- BOOL dim 32: one DWORD; dim 33: two, size 8
   pub dim-32 : visible (udt (boolDim 32 ∷ [])) ≡ otherAt (declared DWord 1) 0 ∷ []
   pub dim-33 : visible (udt (boolDim 33 ∷ [])) ≡ otherAt (declared DWord 2) 0 ∷ []
-  pub dim-33-size : udtSize (boolDim 33 ∷ []) ≡ some 8
+  pub dim-33-size : sizeIf (udt (boolDim 33 ∷ [])) ≡ some 8
   -- AOI with 30 BOOLs: one host, last at byte 3 bit 7; with 31: two, last at byte 4 bit 0
   pub thirty-bools : hostsAt (aoi (replicate 30 bool)) ≡ 0 ∷ []
   pub thirty-last : getLast? (visible (aoi (replicate 30 bool))) ≡ some (boolAt bool 3 7)

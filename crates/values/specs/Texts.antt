@@ -7,29 +7,26 @@ use mathlib.Core.Bool.{cond}
 use mathlib.Core.List.{List, []}
 use lib.Dec.{eqb}
 use lib.ListN.{length}
-use Rattle.types.specs.Refusal.{numberOf}
 use Rattle.types.specs.Shape.{isThere}
 use Rattle.types.specs.Tables.{typeAt}
 use Rattle.types.specs.Waste.{sizesIn}
 use Rattle.types.specs.declared.member.Ty.{Ty}
 use Rattle.types.specs.declared.member.Ty.the-variants as ty
-use Rattle.types.specs.declared.refusal.Refusal.the-variants.{ImageLength, NoSuchType}
 use Rattle.values.specs.Trees.{isString}
 use Rattle.values.specs.Walk.{capacityAt, textLength, textIn}
 
 -- the number for structure i and an image of so many bytes
 unfoldable pub stringNumber : List ℕ → ℕ → ℕ → ℕ
 stringNumber types i long =
-    cond (isString (typeAt types i .kind)) (cond (eqb long (sizesIn types i)) 0 (numberOf ImageLength))
-    (numberOf NoSuchType)
+    cond (isString (typeAt types i .kind)) (cond (eqb long (sizesIn types i)) 0 14) 15
 
 -- an atomic is no string type
 abbrev pub typeNumber : List ℕ → Ty → ℕ → ℕ
-typeNumber types (ty.Atomic a) long = numberOf NoSuchType
+typeNumber types (ty.Atomic a) long = 15
 typeNumber types (ty.Struct i) long = stringNumber types i long
 
 unfoldable pub textNumber : List ℕ → Ty → List ℕ → ℕ
-textNumber types t image = cond (isThere types t) (typeNumber types t (length image)) (numberOf NoSuchType)
+textNumber types t image = cond (isThere types t) (typeNumber types t (length image)) 15
 
 -- the capacity of a string type
 abbrev pub capacityOf : List ℕ → List ℕ → Ty → ℕ
@@ -41,10 +38,22 @@ unfoldable pub textPart : List ℕ → List ℕ → Ty → List ℕ → List ℕ
 textPart types members t image =
     cond (eqb (textNumber types t image) 0) (textIn (capacityOf types members t) image) []
 
--- what a caller who asks for the text gets
-pub record Stored (types members : List ℕ) (t : Ty) (image : List ℕ) (number : ℕ) (part : List ℕ) : Type 0 where
+-- where in the image the part begins: after LEN, and an empty part at the image's start
+abbrev pub textStart : ℕ → ℕ
+textStart number = cond (eqb number 0) 4 0
+
+-- a place in memory: the number of a block of memory, and a byte's number in that block
+abbrev pub Address : Type 0
+Address = ℕ × ℕ
+
+-- what a caller who asks for the text of the image at an address gets: a number, and the part at another address; that
+-- it is the very part of the image, and no other bytes like it, is said by its block and the byte where it begins
+pub record Stored (types members : List ℕ) (t : Ty) (image : List ℕ) (whole : Address) (number : ℕ) (part : List ℕ)
+    (place : Address) : Type 0 where
   pub why : number ≡ textNumber types t image
   pub text : part ≡ textPart types members t image
+  pub block : place .0 ≡ whole .0
+  pub start : place .1 ≡ whole .1 + textStart number
 
 -- the bytes of a text that is not refused lie in the image
 pub record Held (types members : List ℕ) (t : Ty) (image : List ℕ) (n : ℕ) : Type 0 where

@@ -1,11 +1,11 @@
 -- The walk that the code makes over the tables (document 01, "Reading"): the entries of a value, each member read from
 -- its own part of the image. That it is the reading of the type's tree is the law `meaning`.
-use Prim.Native.Nat.{ℕ, zero, suc, _+_, _*_, min}
+use Prim.Native.Nat.{ℕ, zero, suc, _+_, _*_}
 use mathlib.Core.Bool.{Bool, true, false, cond}
 use mathlib.Core.List.{List, [], _∷_, _++_}
 use lib.Dec.{eqb}
 use Rattle.words.specs.Bits.{flat}
-use Rattle.words.specs.Words.{part, wordAt}
+use Rattle.words.specs.Words.{part}
 use Rattle.types.specs.Atomic.{bitString, sizeOf}
 use Rattle.types.specs.Layout.{times}
 use Rattle.types.specs.Tables.{memberAt, typeAt}
@@ -16,7 +16,7 @@ use Rattle.types.specs.declared.member.Bit.the-variants.{None, At}
 use Rattle.types.specs.declared.member.Member.{Member}
 use Rattle.types.specs.declared.member.Ty.{Ty}
 use Rattle.types.specs.declared.member.Ty.the-variants as ty
-use Rattle.values.specs.Leaf.{emit, leafOf}
+use Rattle.values.specs.Leaf.{clipped, emit, leafOf}
 use Rattle.values.specs.Stream.{Token, bool, text, member, mark}
 use Rattle.values.specs.Trees.{isString}
 
@@ -57,9 +57,8 @@ atomicsOut a n image =
 
 -- ---- strings
 
--- min (LEN, capacity)
 abbrev pub textLength : ℕ → List ℕ → ℕ
-textLength capacity image = min (wordAt 4 image 0) capacity
+textLength capacity image = clipped capacity (flat image)
 
 abbrev pub textIn : ℕ → List ℕ → List ℕ
 textIn capacity image = part image 4 (textLength capacity image)

@@ -7,9 +7,10 @@ use mathlib.Core.List.{List, [], _∷_}
 use Rattle.words.specs.Bits.{bitOf, flat, inside, stamp, val}
 use Rattle.words.specs.Words.{bytesOf}
 use Rattle.values.specs.Effects.{ofKind, inRange, whole, asText, orNull}
-use Rattle.values.specs.Leaf.{chars, flag, int, str, word}
+use Rattle.values.specs.Leaf.{chars, int, str, word}
+use Rattle.values.specs.ReadingCases.{chanTree}
 use Rattle.values.specs.Stream.{Token, null, bool, number, text, member, mark}
-use Rattle.values.specs.Tree.{Tree, leaf, bits, array, struct, none, branch, span}
+use Rattle.values.specs.Tree.{Tree, leaf, bits, array, span}
 use Rattle.values.specs.Writing.{Outcome, bad, writeOne, opened, elements, membersIn, writeBits, write, written}
 use Rattle.values.specs.Written.{bytesAfter}
 
@@ -23,21 +24,17 @@ unfoldable pub after : Tree → List Token → List ℕ → List ℕ
 unfolding outcome stamp inside chars val flat bitOf bytesOf
 after tree ts image = bytesAfter (outcome tree ts image) image
 
--- Chan's tree, as `ReadingCases.chan-tree` computes it
-abbrev chan : Tree
-chan = struct 32 (branch 1 0 (leaf flag) (branch 2 1 (leaf flag) (branch 3 16 (leaf (int 16)) none)))
-
 abbrev ones : List ℕ
 ones = 0xFF ∷ 0xFF ∷ 0xFF ∷ 0xFF ∷ []
 
 -- members in any order, later wins
-pub later-wins : after chan (mark 8 ∷ member 3 ∷ number 2 7 ∷ member 1 ∷ bool false ∷ member 3 ∷ number 2 0x1234
+pub later-wins : after chanTree (mark 8 ∷ member 3 ∷ number 2 7 ∷ member 1 ∷ bool false ∷ member 3 ∷ number 2 0x1234
     ∷ mark 9 ∷ []) ones ≡ 0xFE ∷ 0xFF ∷ 0x34 ∷ 0x12 ∷ []
 unfolding after
 later-wins = refl
 
 -- null keeps what stands, for a BOOL member too
-pub null-keeps : after chan (mark 8 ∷ member 1 ∷ null ∷ mark 9 ∷ []) ones ≡ ones
+pub null-keeps : after chanTree (mark 8 ∷ member 1 ∷ null ∷ mark 9 ∷ []) ones ≡ ones
 unfolding after
 null-keeps = refl
 
@@ -78,7 +75,8 @@ unfolding outcome
 mixture = refl
 
 -- a hidden member
-pub hidden-member : outcome chan (mark 8 ∷ member 0 ∷ null ∷ mark 9 ∷ []) ones ≡ bad 18 (member 0 ∷ null ∷ mark 9 ∷ [])
+pub hidden-member : outcome chanTree (mark 8 ∷ member 0 ∷ null ∷ mark 9 ∷ []) ones
+    ≡ bad 18 (member 0 ∷ null ∷ mark 9 ∷ [])
 unfolding outcome
 hidden-member = refl
 

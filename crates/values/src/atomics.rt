@@ -10,9 +10,9 @@ ghost use Rattle.words.specs.Bits.{bitOf, digit};
 ghost use Rattle.values.specs.Laying.{Put};
 ghost use Rattle.values.specs.Walk.{atomicsOut, bitToken, bitsOut, numbersOut, upTo};
 use crate::entry::put_entry;
-use crate::numbers::is_bits;
 use crate::runs::put_run;
 use types::Atomic;
+use types::is_bits;
 
 // Bit k of a byte.
 fn bit_of(x: u8, k: u8) -> u64

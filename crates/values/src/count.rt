@@ -7,8 +7,6 @@ ghost use Rattle.types.specs.Tables.{memberAt};
 ghost use Rattle.values.specs.Counting.{Counted, Plain};
 ghost use Rattle.values.specs.Walk.{atomicsOut, leafOut, memberBy, membersBy, structOut, structsBy};
 ghost use Rattle.values.specs.Walkable.{NestedRow, Walkable};
-use crate::numbers::is_bits;
-use crate::numbers::size_of;
 use crate::rows::is_nested;
 use crate::rows::is_string;
 use crate::rows::times_of;
@@ -17,7 +15,9 @@ use types::Bit;
 use types::MemberTable;
 use types::Ty;
 use types::TypeTable;
+use types::is_bits;
 use types::member_row;
+use types::size_of;
 use types::type_row;
 use words::wide;
 

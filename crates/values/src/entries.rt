@@ -4,7 +4,7 @@ ghost use mathlib.Core.Path.{_≡_};
 ghost use Prim.Native.Nat.{_+_, _≤_};
 ghost use lib.ListN.{length};
 ghost use lib.Dec.{leb};
-ghost use Rattle.values.specs.Entry.{EntryStored, entryAt, entryIn, entryKind, entryPayload, loadedOf};
+ghost use Rattle.values.specs.Entry.{EntryStored, entryAt, entryIn, entryKind, entryPayload, loadedOf, saidBy};
 ghost use Rattle.values.specs.Entry.{bareIn, lowIn, textIn, truthIn};
 use crate::entry::put_entry;
 use crate::numbers::truth_of;
@@ -183,9 +183,9 @@ fn load_entry(s: &[u8], at: usize) -> Loaded
     loaded_of(s[at], load64(s, at + 4))
 }
 
-// The entry in the twelve bytes at a place; bytes that are not there say nothing.
+// The entry in the twelve bytes at a place; bytes that are not there are malformed.
 pub fn entry_at(s: &[u8], at: usize) -> Loaded
-    ensures { λ r. ⌜ r ≡ entryAt (now (s .entry)) at ⌝ }
+    ensures { λ r. ⌜ saidBy r ≡ entryAt (now (s .entry)) at ⌝ }
 {
     let inside = is_inside(s.len(), at);
     if inside {

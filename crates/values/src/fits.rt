@@ -16,8 +16,6 @@ ghost use Rattle.values.specs.Trees.{atomicsTree};
 ghost use Rattle.values.specs.Writing.{Outcome, boolsIn, elements, write, writeOne};
 use crate::limits::limits_of;
 use crate::limits::misfit;
-use crate::numbers::is_bits;
-use crate::numbers::size_of;
 use crate::tokens::high;
 use crate::tokens::kind_at;
 use crate::tokens::kind_of;
@@ -27,7 +25,9 @@ use types::Atomic;
 use types::Bit;
 use types::MemberTable;
 use types::Ty;
+use types::is_bits;
 use types::member_row;
+use types::size_of;
 use words::wide;
 
 // One atomic, or null.

@@ -1,8 +1,9 @@
 // Normal images (document 01, "Normal image"): an image made normal in place, so that two images of a type hold the
 // same values exactly when their bytes are then equal.
 ghost use mathlib.Core.Path.{_≡_};
-ghost use Rattle.values.specs.InPlace.{Standing};
+ghost use Rattle.types.specs.Kept.{KeptRows};
 ghost use Rattle.values.specs.Normalised.{MadeNormal, valueNormal};
+ghost use Rattle.values.specs.Placed.{Sweepable};
 ghost use Rattle.values.specs.Walkable.{ValueImage};
 use crate::norms::normal_atomics;
 use crate::reading::is_product;
@@ -20,7 +21,7 @@ use types::is_there;
 
 // A value of n elements, or of one where n is 0.
 fn normal_value(types: &TypeTable, members: &MemberTable, ty: Ty, n: usize, image: &mut [u8])
-    requires { ⌜ Standing (now types) (now members) × ValueImage (now types) ty n (now image) ⌝ }
+    requires { ⌜ Sweepable (now types) (now members) × ValueImage (now types) ty n (now image) ⌝ }
     ensures { λ _. ⌜ now (image .exit)
         ≡ valueNormal (now (types .entry)) (now (members .entry)) ty n (now (image .entry)) ⌝ }
 {
@@ -47,7 +48,7 @@ pub fn normal(
     count: u64,
     image: &mut [u8],
 ) -> Taken
-    requires { ⌜ Standing (now types) (now members) ⌝ }
+    requires { ⌜ KeptRows (now types) (now members) ⌝ }
     ensures { λ r. ⌜ MadeNormal (now (types .entry)) (now (members .entry)) ty count (now (image .entry)) r
         (now (image .exit)) ⌝ }
 {

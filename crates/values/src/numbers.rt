@@ -3,7 +3,6 @@
 ghost use mathlib.Core.Path.{_≡_};
 ghost use Prim.Native.Nat.{_+_, _^_, _<_};
 ghost use Rattle.words.specs.Bits.{digit};
-ghost use Rattle.types.specs.Atomic.{bitString, sizeOf};
 ghost use Rattle.values.specs.Leaf.{isTrue};
 ghost use Rattle.values.specs.Numbers.{formOf, extended};
 use types::Atomic;
@@ -13,52 +12,6 @@ pub struct Form {
     pub kind: u8,
     pub half: u64,
     pub fill: u64,
-}
-
-// An atomic's bytes: by a match, since the table of fifteen rows is dearer.
-pub fn size_of(a: Atomic) -> usize
-    ensures { λ r. ⌜ r ≡ sizeOf a ⌝ }
-{
-    match a {
-        Atomic::Bool => 1,
-        Atomic::SInt => 1,
-        Atomic::Int => 2,
-        Atomic::DInt => 4,
-        Atomic::LInt => 8,
-        Atomic::USInt => 1,
-        Atomic::UInt => 2,
-        Atomic::UDInt => 4,
-        Atomic::ULInt => 8,
-        Atomic::Real => 4,
-        Atomic::LReal => 8,
-        Atomic::Byte => 1,
-        Atomic::Word => 2,
-        Atomic::DWord => 4,
-        Atomic::LWord => 8,
-    }
-}
-
-// BYTE, WORD, DWORD or LWORD.
-pub fn is_bits(a: Atomic) -> bool
-    ensures { λ r. ⌜ r ≡ bitString a ⌝ }
-{
-    match a {
-        Atomic::Bool => false,
-        Atomic::SInt => false,
-        Atomic::Int => false,
-        Atomic::DInt => false,
-        Atomic::LInt => false,
-        Atomic::USInt => false,
-        Atomic::UInt => false,
-        Atomic::UDInt => false,
-        Atomic::ULInt => false,
-        Atomic::Real => false,
-        Atomic::LReal => false,
-        Atomic::Byte => true,
-        Atomic::Word => true,
-        Atomic::DWord => true,
-        Atomic::LWord => true,
-    }
 }
 
 // A number without a sign is kept as it is.

@@ -6,6 +6,7 @@ ghost use mathlib.Core.List.{[]};
 ghost use Prim.Native.Nat.{_+_, _*_, _≤_, min};
 ghost use lib.Dec.{eqb};
 ghost use lib.ListN.{length};
+ghost use Rattle.types.specs.Kept.{KeptRows};
 ghost use Rattle.types.specs.Layout.{times};
 ghost use Rattle.types.specs.Tables.{TyFits};
 ghost use Rattle.types.specs.Waste.{sizeIn, sizesIn};
@@ -20,7 +21,6 @@ use crate::count::count_atomics;
 use crate::count::count_structs;
 use crate::lengths::text_elements;
 use crate::lengths::text_struct;
-use crate::numbers::size_of;
 use crate::place::Place;
 use crate::rows::struct_size;
 use crate::rows::times_of;
@@ -32,6 +32,7 @@ use types::Refusal;
 use types::Ty;
 use types::TypeTable;
 use types::is_there;
+use types::size_of;
 use words::least;
 use words::store32;
 
@@ -222,7 +223,7 @@ pub fn read(
     image: &[u8],
     out: &mut [u8],
 ) -> Streamed
-    requires { ⌜ Walkable (now types) (now members) ⌝ }
+    requires { ⌜ KeptRows (now types) (now members) ⌝ }
     ensures { λ r. ⌜ Answered (now (types .entry)) (now (members .entry)) ty count (now (image .entry))
         (now (out .entry)) r (now (out .exit)) ⌝ }
 {

@@ -1,6 +1,7 @@
 // The stored text of a string (document 01, "Reading"): handed back as that part of the caller's image.
 ghost use mathlib.Core.Path.{_≡_};
 ghost use Prim.Native.Nat.{_<_};
+ghost use Rattle.types.specs.Kept.{KeptRows};
 ghost use Rattle.values.specs.Texts.{Held, Stored, stringNumber, textNumber};
 ghost use Rattle.values.specs.Walkable.{Walkable};
 use crate::rows::capacity_at;
@@ -74,9 +75,9 @@ pub fn text<'a>(
     image: &'a [u8],
     why: &mut u8,
 ) -> &'a [u8]
-    requires { ⌜ Walkable (now types) (now members) ⌝ }
-    ensures { λ r. ⌜ Stored (now (types .entry)) (now (members .entry)) ty (now (image .entry)) (now (why .exit))
-        (now r) ⌝ }
+    requires { ⌜ KeptRows (now types) (now members) ⌝ }
+    ensures { λ r. ⌜ Stored (now (types .entry)) (now (members .entry)) ty (now (image .entry)) (image .entry .ptr)
+        (now (why .exit)) (now r) (r .ptr) ⌝ }
 {
     let number = text_number(types, ty, image);
     *why = number;

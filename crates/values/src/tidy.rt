@@ -5,7 +5,8 @@ ghost use Prim.Native.Nat.{_*_};
 ghost use Rattle.words.specs.Bits.{flat};
 ghost use Rattle.types.specs.Tables.{memberAt, typeAt};
 ghost use Rattle.types.specs.Waste.{sizesIn};
-ghost use Rattle.values.specs.InPlace.{OnwardTo, PlainRow, Standing, made, swept};
+ghost use Rattle.values.specs.InPlace.{OnwardTo, PlainRow, made, swept};
+ghost use Rattle.values.specs.Placed.{Sweepable};
 ghost use Rattle.values.specs.Rows.{AllHere, Here, treeIn};
 ghost use Rattle.values.specs.Tree.{array};
 ghost use Rattle.values.specs.Trees.{membersAt};
@@ -13,7 +14,6 @@ use crate::flags::keep_flags;
 use crate::flags::put_flags;
 use crate::norms::normal_atomics;
 use crate::norms::normal_text;
-use crate::numbers::size_of;
 use crate::rows::capacity_at;
 use crate::rows::is_plain;
 use crate::rows::is_string;
@@ -24,6 +24,7 @@ use types::MemberTable;
 use types::Ty;
 use types::TypeTable;
 use types::member_row;
+use types::size_of;
 use types::type_row;
 use words::wide;
 
@@ -38,7 +39,7 @@ pub fn normal_struct(
     image: &mut [u8],
     base: usize,
 )
-    requires { ⌜ Standing (now types) (now members) × Here (now types) i base (now image) ⌝ }
+    requires { ⌜ Sweepable (now types) (now members) × Here (now types) i base (now image) ⌝ }
     ensures { λ _. ⌜ flat (now (image .exit))
         ≡ made (treeIn (now (types .entry)) (now (members .entry)) i) (8 * base) (flat (now (image .entry))) ⌝ }
 {
@@ -60,7 +61,7 @@ pub fn normal_struct(
 
 // Its visible members that are no BOOLs made normal, and all between them cleared.
 fn sweep(types: &TypeTable, members: &MemberTable, i: usize, image: &mut [u8], base: usize)
-    requires { ⌜ Standing (now types) (now members) × Here (now types) i base (now image) ⌝ }
+    requires { ⌜ Sweepable (now types) (now members) × Here (now types) i base (now image) ⌝ }
     ensures { λ _. ⌜ flat (now (image .exit))
         ≡ swept (treeIn (now (types .entry)) (now (members .entry))) (8 * base) (8 * sizesIn (now (types .entry)) i)
         (membersAt (now (members .entry)) (typeAt (now (types .entry)) i .first)
@@ -92,7 +93,7 @@ fn normal_member(
     base: usize,
     c: usize,
 ) -> usize
-    requires { ⌜ Standing (now types) (now members) × (PlainRow (now types) (now members) i row c
+    requires { ⌜ Sweepable (now types) (now members) × (PlainRow (now types) (now members) i row c
         × Here (now types) i base (now image)) ⌝ }
     ensures { λ r. ⌜ OnwardTo (treeIn (now (types .entry)) (now (members .entry))) base c
         (memberAt (now (members .entry)) row) (now (image .entry)) (now (image .exit)) r ⌝ }
@@ -128,7 +129,7 @@ pub fn normal_elements(
     image: &mut [u8],
     base: usize,
 )
-    requires { ⌜ Standing (now types) (now members) × AllHere (now types) i count base (now image) ⌝ }
+    requires { ⌜ Sweepable (now types) (now members) × AllHere (now types) i count base (now image) ⌝ }
     ensures { λ _. ⌜ flat (now (image .exit))
         ≡ made (array count (treeIn (now (types .entry)) (now (members .entry)) i)) (8 * base)
         (flat (now (image .entry))) ⌝ }

@@ -9,7 +9,6 @@ ghost use Rattle.values.specs.Walk.{elementsBy, leafOut, memberBy, membe
 ghost use Rattle.values.specs.Walkable.{ImageOf, ImagesOf, NestedRow, RowOf, Walkable};
 use crate::atomics::put_atomics;
 use crate::entry::put_entry;
-use crate::numbers::size_of;
 use crate::numbers::truth_of;
 use crate::place::Place;
 use crate::rows::capacity_at;
@@ -23,6 +22,7 @@ use types::MemberTable;
 use types::Ty;
 use types::TypeTable;
 use types::member_row;
+use types::size_of;
 use types::type_row;
 use words::bit_at;
 use words::wide;

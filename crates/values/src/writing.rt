@@ -4,6 +4,7 @@ ghost use mathlib.Core.Path.{_≡_};
 ghost use mathlib.Core.Bool.{true};
 ghost use Prim.Native.Nat.{_*_, _%_, _^_, _<_, _≤_};
 ghost use Rattle.words.specs.Bits.{flat};
+ghost use Rattle.types.specs.Kept.{KeptRows};
 ghost use Rattle.types.specs.Layout.{times};
 ghost use Rattle.types.specs.Refusal.{numberOf, placeOf};
 ghost use Rattle.types.specs.Tables.{TyFits};
@@ -151,7 +152,7 @@ pub fn write(
     s: &[u8],
     image: &mut [u8],
 ) -> Taken
-    requires { ⌜ Walkable (now types) (now members) ⌝ }
+    requires { ⌜ KeptRows (now types) (now members) ⌝ }
     ensures { λ r. ⌜ Done (now (types .entry)) (now (members .entry)) ty count (now (s .entry)) (now (image .entry)) r
         (now (image .exit)) ⌝ }
 {

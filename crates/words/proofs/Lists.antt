@@ -95,12 +95,6 @@ module _ {A : Type 0} where
       let f : at + (i + 1) ≡ suc (at + i) = omega arith in
       rw (e, f, drop-cons s (at + i) d (omega arith))
 
-  pub part-none : (s : List A) (at n i : ℕ) → n ≤ i → part s at (n - i) ≡ []
-  unfolding part
-  part-none s at n i l =
-      let e : n - i ≡ 0 = omega arith in
-      rw e
-
   -- eight stores, one after the other, are a row of eight
   pub eight : (t : List A) (a : ℕ) (u v w x y z p q : A)
       → set (set (set (set (set (set (set (set t a u) (a + 1) v) (a + 2) w) (a + 3) x) (a + 4) y) (a + 5) z) (a + 6)

@@ -1,17 +1,16 @@
 -- Laws of little-endian words, over the width: a word is its two halves, in a list and as bytes; what was stored is
 -- loaded; what was loaded can be stored again.
-use Prim.Native.Nat.{ℕ, zero, suc, _+_, _-_, _*_, _/_, _%_, _^_, _≤_, _<_}
+use Prim.Native.Nat.{ℕ, zero, suc, _+_, _*_, _/_, _%_, _^_, _≤_, _<_}
 use native.Mathlib.Nat.{add-zero, zero-add, suc-add, pow-suc, pow-succ', mul-assoc, div-div-eq-div-mul}
 use native.Mathlib.Nat.{one-le-pow, mod-one, div-one}
 use native.Mathlib.Omega.{arith}
 use mathlib.Core.Path.{_≡_, refl, sym, ap, _∙_}
 use mathlib.Core.List.{List, [], _∷_, _++_}
-use mathlib.Core.Logic.{_⊎_, inl, inr, ⊎-elim}
 use lib.Arith.{mod-mul}
 use lib.ListN.{length, getD}
 use lib.Seq.{sets, drop-cons}
 use Rattle.words.specs.Words.{wordAt, bytesOf, part, Bytes}
-use Rattle.words.proofs.Lists.{sets-append, getD-sets, getD-beside}
+use Rattle.words.proofs.Lists.{sets-append, getD-sets}
 
 power-pos : (n : ℕ) → 0 < 256 ^ n
 power-pos n = one-le-pow n 256 (omega arith)
@@ -81,13 +80,6 @@ word-ext (suc n) s t at to h =
     let b : to + 1 + k ≡ to + suc k = omega arith in
     rw (a, b) (h (suc k) (omega arith))) in
     rw (e, f)
-
--- a store elsewhere changes no word
-pub word-beside : (n : ℕ) (s : List ℕ) (at i : ℕ) (vs : List ℕ) → (at + n ≤ i) ⊎ (i + length vs ≤ at)
-    → wordAt n (sets s i vs) at ≡ wordAt n s at
-word-beside n s at i vs h =
-    word-ext n (sets s i vs) s at at
-    (λ k l. getD-beside s i vs (at + k) 0 (⊎-elim (λ a. inl (omega arith)) (λ b. inr (omega arith)) h))
 
 bytes-word : (n x : ℕ) → wordAt n (bytesOf n x) 0 ≡ x % 256 ^ n
 unfolding wordAt bytesOf

@@ -124,7 +124,7 @@ fn shapes(asked: &mut Asked) {
 
 /// Unknown kinds, and questions too short for their fields.
 fn no_questions(asked: &mut Asked) {
-    let kinds = [&[][..], &[0], &[11], &[255, 1, 2]];
+    let kinds = [&[][..], &[0], &[254], &[255, 1, 2]];
     let short: [&[u8]; 8] = [
         &[1],
         &[1, 1, 0, 2, 0, 3, 0, 4],

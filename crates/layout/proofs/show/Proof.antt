@@ -1,7 +1,7 @@
--- `layout::show` meets its contract: what a build leaves in the tables can be listed.
+-- `layout::show` meets its contract: what a build leaves in the tables is kept.
 use borrow.Author.Needs.{needs}
 use Rattle.words.specs.Words.{Bytes}
-use Rattle.types.proofs.KeptLaws.{build-kept, kept-listed}
+use Rattle.types.proofs.KeptLaws.{build-kept}
 use Rattle.layout.proofs.show.Statement.{statement}
 use Rattle.layout.proofs.show.Tie as tie
 
@@ -27,7 +27,7 @@ list-requires : tie.Need-list-requires
 list-requires c κs =
     let b = c .before .before .before .before .before .before in
     let k = b .before .before .before .before .before .before .before .before in
-    (kept-listed (build-kept 1 2 3 4 (k .before .args .book .now) (bytes k) (b .build .ensures)), search needs)
+    build-kept _ (k .before .args .book .now) (bytes k) (b .build .ensures)
 
 enum-known-built : tie.Need-enum-known-built
 enum-known-built c = search needs

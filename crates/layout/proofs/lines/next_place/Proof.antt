@@ -13,7 +13,7 @@ returns c = search needs
 
 slice-aggregate-write-all : tie.Need-slice-aggregate-write-all
 slice-aggregate-write-all c =
-    let s = c .before .before .before in sym (length-take-le (s .args .at) (s .args .out .now) (s .pre .0))
+    let s = c .before .before .before in sym (length-take-le (s .args .at) (s .args .out .now) (s .pre))
 
 write-all-requires : tie.Need-write-all-requires
 write-all-requires c κs = search needs

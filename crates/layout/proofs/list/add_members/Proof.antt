@@ -1,10 +1,8 @@
 -- `layout::add_members` meets its contract. The loop's invariant: the place lies in the buffer, which keeps its length.
-use native.Mathlib.Omega.{arith}
 use borrow.Author.Needs.{needs}
 use Prim.Native.Nat.{_-_, _≤_}
 use mathlib.Core.Path.{_≡_}
 use lib.ListN.{length}
-use Rattle.layout.proofs.LineLaws.{member-below}
 use Rattle.layout.proofs.list.add_members.Statement.{statement}
 use Rattle.layout.proofs.list.add_members.Tie as tie
 
@@ -15,8 +13,8 @@ Inv-loop types members names i out₀ from count at₀ k₀ out at k =
 abbrev μ-loop : tie.MeasureT-loop
 μ-loop types members names i out₀ from count at₀ k₀ out at k = count - k
 
-type-row-requires : tie.Need-type-row-requires Inv-loop μ-loop
-type-row-requires c κs = search needs
+type-at-requires : tie.Need-type-at-requires Inv-loop μ-loop
+type-at-requires c κs = search needs
 
 wide-requires : tie.Need-wide-requires Inv-loop μ-loop
 wide-requires c κs = search needs
@@ -25,18 +23,7 @@ loop-holds : tie.Need-loop-holds Inv-loop μ-loop
 loop-holds c = search needs
 
 add-member-requires : tie.Need-add-member-requires Inv-loop μ-loop
-add-member-requires c κs =
-    let s = c .before .before .before .before .before .before in (
-      s .pre .0,
-      (
-        s .pre .1 .0,
-        (
-          member-below (c .before .before .before .wide .ensures) (c .before .before .before .before .type-row .ensures)
-              (c .before .loop-test .taken),
-          (omega arith, omega arith),
-        ),
-      ),
-    )
+add-member-requires c κs = search needs
 
 add-k : tie.Need-add-k Inv-loop μ-loop
 add-k c = search needs
@@ -59,7 +46,7 @@ add-members-spec =
     (tie.spec
     Inv-loop
     μ-loop
-    type-row-requires
+    type-at-requires
     wide-requires
     loop-holds
     add-member-requires

@@ -5,7 +5,6 @@ use Prim.Native.Nat.{_-_, _≤_}
 use mathlib.Core.Path.{_≡_, sym}
 use lib.ListN.{length}
 use lib.Seq.{length-take-le}
-use Rattle.layout.proofs.LineLaws.{row-few, row-listable}
 use Rattle.layout.proofs.list.list.Statement.{statement}
 use Rattle.layout.proofs.list.list.Tie as tie
 
@@ -22,20 +21,10 @@ loop-holds : tie.Need-loop-holds Inv-loop μ-loop
 loop-holds c = search needs
 
 add-type-requires : tie.Need-add-type-requires Inv-loop μ-loop
-add-type-requires c κs =
-    let t = c .before in
-    let s = t .before .before .before .before in
-    let e = t .before .before .type-count .ensures in
-    let h = t .loop-test .taken in
-    (row-few (s .pre .0) e h, (row-listable (s .pre .0) e h, (omega arith, omega arith)))
+add-type-requires c κs = search needs
 
 add-members-requires : tie.Need-add-members-requires Inv-loop μ-loop
-add-members-requires c κs =
-    let t = c .before .before .before .before .before in
-    let s = t .before .before .before .before in
-    let e = t .before .before .type-count .ensures in
-    let h = t .loop-test .taken in
-    (row-few (s .pre .0) e h, (row-listable (s .pre .0) e h, (search needs, search needs)))
+add-members-requires c κs = search needs
 
 add-i : tie.Need-add-i Inv-loop μ-loop
 add-i c = search needs

@@ -1,8 +1,20 @@
 -- `replies::put_template` is safe and ends.
+use Prim.Native.Nat.{_+_, _≤_}
+use native.Mathlib.Omega.{arith}
+use borrow.Author.Tests.{not-false}
+use lib.ListN.{length}
 use borrow.Author.Needs.{needs}
-use Rattle.types.proofs.KeptLaws.{kept-readable}
 use Rattle.replies.proofs.kinds.put_template.Statement.{statement}
 use Rattle.replies.proofs.kinds.put_template.Tie as tie
+
+-- the body has room
+room : (c : tie.Else1)
+    → let a = c .before .before .before .args in
+    5 + a .room ≤ length (a .out .now)
+room c = c .before .has-room .ensures (not-false _ (c .if1 .left))
+
+has-room-requires : tie.Need-has-room-requires
+has-room-requires c κs = search needs
 
 malformed-requires : tie.Need-malformed-requires
 malformed-requires c κs = search needs
@@ -13,20 +25,8 @@ same-length c = search needs
 returns : tie.Need-returns
 returns c = search needs
 
-sub-if2 : tie.Need-sub-if2
-sub-if2 c = search needs
-
-malformed-requires-2 : tie.Need-malformed-requires-2
-malformed-requires-2 c κs = search needs
-
-same-length-2 : tie.Need-same-length-2
-same-length-2 c = search needs
-
-returns-2 : tie.Need-returns-2
-returns-2 c = search needs
-
 add-end : tie.Need-add-end
-add-end c = search needs
+add-end c = omega (arith, room c)
 
 sub-template : tie.Need-sub-template
 sub-template c = search needs
@@ -35,10 +35,10 @@ part-template-start : tie.Need-part-template-start
 part-template-start c = search needs
 
 part-template-end : tie.Need-part-template-end
-part-template-end c = search needs
+part-template-end c = omega (arith, room c)
 
 template-requires : tie.Need-template-requires
-template-requires c κs = kept-readable (c .before .before .before .before .pre)
+template-requires c κs = search needs
 
 enum-known-wrote : tie.Need-enum-known-wrote
 enum-known-wrote c = search needs
@@ -52,11 +52,11 @@ wide-requires c κs = search needs
 add-result : tie.Need-add-result
 add-result c = search needs
 
-same-length-3 : tie.Need-same-length-3
-same-length-3 c = search needs
+same-length-2 : tie.Need-same-length-2
+same-length-2 c = search needs
 
-returns-3 : tie.Need-returns-3
-returns-3 c = search needs
+returns-2 : tie.Need-returns-2
+returns-2 c = search needs
 
 enum-known-wrote-2 : tie.Need-enum-known-wrote-2
 enum-known-wrote-2 c = search needs
@@ -64,23 +64,20 @@ enum-known-wrote-2 c = search needs
 refuse-requires : tie.Need-refuse-requires
 refuse-requires c κs = search needs
 
-same-length-4 : tie.Need-same-length-4
-same-length-4 c = search needs
+same-length-3 : tie.Need-same-length-3
+same-length-3 c = search needs
 
-returns-4 : tie.Need-returns-4
-returns-4 c = search needs
+returns-3 : tie.Need-returns-3
+returns-3 c = search needs
 
 pub put-template-spec : {M : Type 1} → statement M
 put-template-spec =
     tie.close
     (tie.spec
+    has-room-requires
     malformed-requires
     same-length
     returns
-    sub-if2
-    malformed-requires-2
-    same-length-2
-    returns-2
     add-end
     sub-template
     part-template-start
@@ -90,9 +87,9 @@ put-template-spec =
     accept-requires
     wide-requires
     add-result
-    same-length-3
-    returns-3
+    same-length-2
+    returns-2
     enum-known-wrote-2
     refuse-requires
-    same-length-4
-    returns-4)
+    same-length-3
+    returns-3)

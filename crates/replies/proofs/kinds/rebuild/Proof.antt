@@ -22,7 +22,7 @@ build-requires c κs = search needs
 returns : tie.Need-returns
 returns c =
     let known = c .before .before .before .before .before .before .before .before in
-    build-kept _ _ _ _ _ (λ k. (known .shared-slice-known2 .given k) .fits) (c .build .ensures)
+    build-kept _ _ (λ k. (known .shared-slice-known2 .given k) .fits) (c .build .ensures)
 
 pub rebuild-spec : {M : Type 1} → statement M
 rebuild-spec =

@@ -1,11 +1,10 @@
 -- `replies::tell_lookup` is safe and ends.
 use borrow.Author.Needs.{needs}
-use Rattle.types.proofs.KeptLaws.{kept-inside}
 use Rattle.replies.proofs.kinds.tell_lookup.Statement.{statement}
 use Rattle.replies.proofs.kinds.tell_lookup.Tie as tie
 
 find-requires : tie.Need-find-requires
-find-requires c κs = kept-inside (c .before .before .pre)
+find-requires c κs = record { members = c .before .before .args .members .now; kept = c .before .before .pre }
 
 enum-known-found : tie.Need-enum-known-found
 enum-known-found c = search needs

@@ -1,7 +1,20 @@
 -- `replies::put_normal` is safe and ends.
+use Prim.Native.Nat.{_+_, _≤_}
+use native.Mathlib.Omega.{arith}
+use borrow.Author.Tests.{not-false}
+use lib.ListN.{length}
 use borrow.Author.Needs.{needs}
 use Rattle.replies.proofs.normals.put_normal.Statement.{statement}
 use Rattle.replies.proofs.normals.put_normal.Tie as tie
+
+-- the body has room
+room : (c : tie.Else1)
+    → let a = c .before .before .before .before .args in
+    5 + length (a .image .now) ≤ length (a .out .now)
+room c = c .before .has-room .ensures (not-false _ (c .if1 .left))
+
+has-room-requires : tie.Need-has-room-requires
+has-room-requires c κs = search needs
 
 malformed-requires : tie.Need-malformed-requires
 malformed-requires c κs = search needs
@@ -11,18 +24,6 @@ same-length c = search needs
 
 returns : tie.Need-returns
 returns c = search needs
-
-sub-if2 : tie.Need-sub-if2
-sub-if2 c = search needs
-
-malformed-requires-2 : tie.Need-malformed-requires-2
-malformed-requires-2 c κs = search needs
-
-same-length-2 : tie.Need-same-length-2
-same-length-2 c = search needs
-
-returns-2 : tie.Need-returns-2
-returns-2 c = search needs
 
 add-end : tie.Need-add-end
 add-end c = search needs
@@ -37,12 +38,10 @@ part-normal-start : tie.Need-part-normal-start
 part-normal-start c = search needs
 
 part-normal-end : tie.Need-part-normal-end
-part-normal-end c = search needs
+part-normal-end c = omega (arith, room (c .before .before .before .before))
 
 normal-requires : tie.Need-normal-requires
-normal-requires c κs =
-    let start = c .before .before .before .before .before .before .before .before .before in
-    record { names = _; kept = start .pre }
+normal-requires c κs = search needs
 
 enum-told : tie.Need-enum-told
 enum-told c = search needs
@@ -50,11 +49,11 @@ enum-told c = search needs
 accept-requires : tie.Need-accept-requires
 accept-requires c κs = search needs
 
-same-length-3 : tie.Need-same-length-3
-same-length-3 c = search needs
+same-length-2 : tie.Need-same-length-2
+same-length-2 c = search needs
 
-returns-3 : tie.Need-returns-3
-returns-3 c = search needs
+returns-2 : tie.Need-returns-2
+returns-2 c = search needs
 
 enum-known-r : tie.Need-enum-known-r
 enum-known-r c = search needs
@@ -62,23 +61,20 @@ enum-known-r c = search needs
 refuse-requires : tie.Need-refuse-requires
 refuse-requires c κs = search needs
 
-same-length-4 : tie.Need-same-length-4
-same-length-4 c = search needs
+same-length-3 : tie.Need-same-length-3
+same-length-3 c = search needs
 
-returns-4 : tie.Need-returns-4
-returns-4 c = search needs
+returns-3 : tie.Need-returns-3
+returns-3 c = search needs
 
 pub put-normal-spec : {M : Type 1} → statement M
 put-normal-spec =
     tie.close
     (tie.spec
+    has-room-requires
     malformed-requires
     same-length
     returns
-    sub-if2
-    malformed-requires-2
-    same-length-2
-    returns-2
     add-end
     put-bytes-requires
     sub-normal
@@ -87,9 +83,9 @@ put-normal-spec =
     normal-requires
     enum-told
     accept-requires
-    same-length-3
-    returns-3
+    same-length-2
+    returns-2
     enum-known-r
     refuse-requires
-    same-length-4
-    returns-4)
+    same-length-3
+    returns-3)

@@ -1,11 +1,10 @@
 -- `replies::put_stored` is safe and ends.
-use Rattle.values.proofs.KeptWalkable.{kept-walkable}
 use borrow.Author.Needs.{needs}
 use Rattle.replies.proofs.streams.put_stored.Statement.{statement}
 use Rattle.replies.proofs.streams.put_stored.Tie as tie
 
 text-requires : tie.Need-text-requires
-text-requires c κs = kept-walkable (c .before .before .before .pre)
+text-requires c κs = record { names = _; kept = c .before .before .before .pre }
 
 refuse-with-requires : tie.Need-refuse-with-requires
 refuse-with-requires c κs = search needs

@@ -1,10 +1,21 @@
 -- `replies::put_stream` is safe and ends.
+use Prim.Native.Nat.{_+_, _≤_}
 use native.Mathlib.Omega.{arith}
-use Rattle.values.proofs.KeptWalkable.{kept-walkable}
+use borrow.Author.Tests.{not-false}
 use Rattle.values.proofs.ReadingLaws.{read-short}
+use lib.ListN.{length}
 use borrow.Author.Needs.{needs}
 use Rattle.replies.proofs.streams.put_stream.Statement.{statement}
 use Rattle.replies.proofs.streams.put_stream.Tie as tie
+
+-- the body has room
+room : (c : tie.Else1)
+    → let a = c .before .before .before .before .args in
+    5 + a .room ≤ length (a .out .now)
+room c = c .before .has-room .ensures (not-false _ (c .if1 .left))
+
+has-room-requires : tie.Need-has-room-requires
+has-room-requires c κs = search needs
 
 malformed-requires : tie.Need-malformed-requires
 malformed-requires c κs = search needs
@@ -15,20 +26,8 @@ same-length c = search needs
 returns : tie.Need-returns
 returns c = search needs
 
-sub-if2 : tie.Need-sub-if2
-sub-if2 c = search needs
-
-malformed-requires-2 : tie.Need-malformed-requires-2
-malformed-requires-2 c κs = search needs
-
-same-length-2 : tie.Need-same-length-2
-same-length-2 c = search needs
-
-returns-2 : tie.Need-returns-2
-returns-2 c = search needs
-
 add-end : tie.Need-add-end
-add-end c = search needs
+add-end c = omega (arith, room c)
 
 sub-read : tie.Need-sub-read
 sub-read c = search needs
@@ -37,10 +36,10 @@ part-read-start : tie.Need-part-read-start
 part-read-start c = search needs
 
 part-read-end : tie.Need-part-read-end
-part-read-end c = search needs
+part-read-end c = omega (arith, room c)
 
 read-requires : tie.Need-read-requires
-read-requires c κs = kept-walkable (c .before .before .before .before .before .pre)
+read-requires c κs = search needs
 
 enum-known-r : tie.Need-enum-known-r
 enum-known-r c = search needs
@@ -55,11 +54,11 @@ add-result c =
     let answered = rw (at-length .r .given .1) at (at-read .read .ensures) in
     omega (arith, read-short answered)
 
-same-length-3 : tie.Need-same-length-3
-same-length-3 c = search needs
+same-length-2 : tie.Need-same-length-2
+same-length-2 c = search needs
 
-returns-3 : tie.Need-returns-3
-returns-3 c = search needs
+returns-2 : tie.Need-returns-2
+returns-2 c = search needs
 
 enum-known-r-2 : tie.Need-enum-known-r-2
 enum-known-r-2 c = search needs
@@ -67,23 +66,20 @@ enum-known-r-2 c = search needs
 refuse-requires : tie.Need-refuse-requires
 refuse-requires c κs = search needs
 
-same-length-4 : tie.Need-same-length-4
-same-length-4 c = search needs
+same-length-3 : tie.Need-same-length-3
+same-length-3 c = search needs
 
-returns-4 : tie.Need-returns-4
-returns-4 c = search needs
+returns-3 : tie.Need-returns-3
+returns-3 c = search needs
 
 pub put-stream-spec : {M : Type 1} → statement M
 put-stream-spec =
     tie.close
     (tie.spec
+    has-room-requires
     malformed-requires
     same-length
     returns
-    sub-if2
-    malformed-requires-2
-    same-length-2
-    returns-2
     add-end
     sub-read
     part-read-start
@@ -92,9 +88,9 @@ put-stream-spec =
     enum-known-r
     accept-requires
     add-result
-    same-length-3
-    returns-3
+    same-length-2
+    returns-2
     enum-known-r-2
     refuse-requires
-    same-length-4
-    returns-4)
+    same-length-3
+    returns-3)

@@ -23,8 +23,9 @@ add-named-requires c κs = search needs
 
 -- the id that was picked is the definition's
 picked-id : (c : tie.After-pick-id)
-    → let a = c .before .before .before .before .before .before .args in
-    c .pick-id .result ≡ idFor (viewIn (a .types .now) (a .names .now) (a .u) .ids) (hasId (a .e)) (a .e .id)
+    → let a = c .before .before .before .before .before .before .before .before .args in
+    let e = a .w .entry in
+    c .pick-id .result ≡ idFor (viewIn (a .types .now) (a .names .now) (a .w .used) .ids) (hasId e) (e .id)
 unfolding viewIn
 picked-id c = c .pick-id .ensures ∙ rw (c .before .before .has-id .ensures)
 

@@ -1,7 +1,7 @@
 -- `types::add_named` meets its contract: a string, or a type of members.
 use borrow.Author.Needs.{needs}
 use mathlib.Core.Path.{sym, _∙_}
-use Rattle.types.proofs.AddStoreLaws.{took-no}
+use Rattle.types.proofs.AddStoreLaws.{took-no, took-so}
 use Rattle.types.proofs.AddTypeLaws.{string-most, named-string, named-wrong, named-members}
 use Rattle.types.proofs.add.add_named.Statement.{statement}
 use Rattle.types.proofs.add.add_named.Tie as tie
@@ -9,48 +9,50 @@ use Rattle.types.proofs.add.add_named.Tie as tie
 is-string-requires : tie.Need-is-string-requires
 is-string-requires c κs = search needs
 
-string-ok-requires : tie.Need-string-ok-requires
-string-ok-requires c κs = search needs
-
-add-string-requires : tie.Need-add-string-requires
-add-string-requires c κs =
-    let ok = c .before .before .before .before in
-    let p = ok .before .before .before .before .before .before .pre in
-    let e = ok .before .before .before .before .before .before .args .e in (
-      record { usable = p .usable; long = p .long; rows = p .rows; bytes = p .bytes },
-      string-most e (sym (ok .string-ok .ensures) ∙ c .before .before .before .if2 .taken),
-    )
-
-returns : tie.Need-returns
-returns c =
-    let ok = c .before .before .before .before .before in
-    rw (named-string _ _ _ _ _ _ _ _ _ (ok .before .before .is-string .ensures) (ok .before .if1 .taken) _
-    (ok .string-ok .ensures) (c .before .before .before .before .if2 .taken)) (c .add-string .ensures)
-
-returns-2 : tie.Need-returns-2
-returns-2 c =
-    let ok = c .before in
-    took-no _ _ _ _ (named-wrong _ _ _ _ _ _ _ _ _ (ok .before .before .is-string .ensures) (ok .before .if1 .taken) _
-    (ok .string-ok .ensures) (c .if2 .left))
-
 count-of-requires : tie.Need-count-of-requires
 count-of-requires c κs = search needs
 
 is-aoi-requires : tie.Need-is-aoi-requires
 is-aoi-requires c κs = search needs
 
+string-ok-requires : tie.Need-string-ok-requires
+string-ok-requires c κs = search needs
+
+add-string-requires : tie.Need-add-string-requires
+add-string-requires c κs =
+    let ok = c .before .before .before .before in
+    let s = ok .before .before .before .before .before .before .before .before .before .before in
+    let p = s .pre in (
+      record { usable = p .usable; long = p .long; rows = p .rows; bytes = p .bytes },
+      string-most (s .args .w .entry) (sym (ok .string-ok .ensures) ∙ c .before .before .before .if2 .taken),
+    )
+
+returns : tie.Need-returns
+returns c =
+    let ok = c .before .before .before .before .before in
+    let string = ok .before in
+    took-so (named-string _ _ _ _ _ _ _ _ _ (string .before .before .before .is-string .ensures) (string .if1 .taken) _
+    (ok .string-ok .ensures) (c .before .before .before .before .if2 .taken)) (c .add-string .ensures)
+
+returns-2 : tie.Need-returns-2
+returns-2 c =
+    let ok = c .before in
+    let string = ok .before in
+    took-no _ _ _ _ (named-wrong _ _ _ _ _ _ _ _ _ (string .before .before .before .is-string .ensures)
+    (string .if1 .taken) _ (ok .string-ok .ensures) (c .if2 .left))
+
 add-members-requires : tie.Need-add-members-requires
 add-members-requires c κs =
-    let n = c .before .before .before .before in
-    rw (n .count-of .ensures .0) (n .before .before .before .before .before .before .pre)
+    let n = c .before .before .before .before .before in
+    rw (n .count-of .ensures .0) (n .before .before .before .before .before .before .before .pre)
 
 returns-3 : tie.Need-returns-3
 returns-3 c =
-    let aoi = c .before .before .before .before in
+    let other = c .before .before .before .before in
+    let aoi = other .before in
     let n = aoi .before in
     rw (
-      named-members _ _ _ _ _ _ _ _ _ (n .before .before .is-string .ensures)
-          (n .before .if1 .left),
+      named-members _ _ _ _ _ _ _ _ _ (n .before .is-string .ensures) (other .if1 .left),
       ← n .count-of .ensures .0,
       ← aoi .is-aoi .ensures,
     )
@@ -61,11 +63,11 @@ add-named-spec =
     tie.close
     (tie.spec
     is-string-requires
+    count-of-requires
+    is-aoi-requires
     string-ok-requires
     add-string-requires
     returns
     returns-2
-    count-of-requires
-    is-aoi-requires
     add-members-requires
     returns-3)

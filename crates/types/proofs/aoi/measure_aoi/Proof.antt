@@ -2,7 +2,8 @@
 use native.Mathlib.Omega.{arith}
 use borrow.Author.Needs.{needs}
 use mathlib.Core.Path.{_∙_}
-use Rattle.types.specs.Structs.{aoiHosts, measuredAoi}
+use Rattle.types.specs.Passes.{measuredAoi}
+use Rattle.types.specs.Structs.{aoiHosts}
 use Rattle.types.proofs.Measuring.{from-hosts}
 use Rattle.types.proofs.aoi.measure_aoi.Statement.{statement}
 use Rattle.types.proofs.aoi.measure_aoi.Tie as tie

@@ -2,7 +2,8 @@
 use native.Mathlib.Omega.{arith}
 use borrow.Author.Needs.{needs}
 use Prim.Native.Nat.{_+_}
-use Rattle.types.specs.Structs.{enableParts, Put}
+use Rattle.types.specs.Passes.{Put}
+use Rattle.types.specs.Structs.{enableParts}
 use Rattle.types.proofs.AoiStoreLaws.{rows-room, names-room, rest-storable, third, all-rows, all-names}
 use Rattle.types.proofs.aoi.store_aoi.Statement.{statement}
 use Rattle.types.proofs.aoi.store_aoi.Tie as tie

@@ -1,5 +1,6 @@
--- `types::build` meets its contract.
+-- `types::build` meets its contract: a scratch of 65,536 is enough for any book.
 use borrow.Author.Needs.{needs}
+use Rattle.types.proofs.ScratchLaws.{few-all, scratch-local}
 use Rattle.types.proofs.building.build.Statement.{statement}
 use Rattle.types.proofs.building.build.Tie as tie
 
@@ -14,13 +15,37 @@ build-small-requires c κs =
 returns : tie.Need-returns
 returns c = c .build-small .ensures
 
-build-large-requires : tie.Need-build-large-requires
-build-large-requires c κs = search needs
+slice-aggregate-build-with : tie.Need-slice-aggregate-build-with
+slice-aggregate-build-with c = search needs
+
+slice-aggregate-build-with-2 : tie.Need-slice-aggregate-build-with-2
+slice-aggregate-build-with-2 c = search needs
+
+slice-aggregate-build-with-3 : tie.Need-slice-aggregate-build-with-3
+slice-aggregate-build-with-3 c = search needs
+
+slice-aggregate-build-with-4 : tie.Need-slice-aggregate-build-with-4
+slice-aggregate-build-with-4 c = search needs
+
+build-with-requires : tie.Need-build-with-requires
+build-with-requires c κs =
+    let large = c .before .before .before .before .before .before .before in
+    let known = large .before .before in
+    scratch-local _ 65536 65536 (few-all _ (λ k. (known .shared-slice-known .given k) .fits))
 
 returns-2 : tie.Need-returns-2
-returns-2 c = c .build-large .ensures
+returns-2 c = c .before .before .before .before .build-with .ensures
 
 pub build-spec : {M : Type 1} → statement M
 build-spec =
     tie.close
-    (tie.spec is-small-requires build-small-requires returns build-large-requires returns-2)
+    (tie.spec
+    is-small-requires
+    build-small-requires
+    returns
+    slice-aggregate-build-with
+    slice-aggregate-build-with-2
+    slice-aggregate-build-with-3
+    slice-aggregate-build-with-4
+    build-with-requires
+    returns-2)

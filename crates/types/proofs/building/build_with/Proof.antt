@@ -23,13 +23,11 @@ ids-ok-requires c κs = search needs
 
 returns : tie.Need-returns
 returns c =
-    ended-ids _ _ _ _ _ (sym (c .before .ids-ok .ensures) ∙ not-true _ (c .if1 .taken))
+    ended-ids _ _ (sym (c .before .ids-ok .ensures) ∙ not-true _ (c .if1 .taken))
     (c .before .before .clear .ensures)
 
 -- the ids will do, and the book is good
-ids-good : (c : tie.Else1)
-    → let a = begun (c .before .before) .args in
-    predefinedIds (a .timer) (a .counter) (a .control) (a .string) ≡ true
+ids-good : (c : tie.Else1) → predefinedIds (begun (c .before .before) .args .ids) ≡ true
 ids-good c = sym (c .before .ids-ok .ensures) ∙ not-false _ (c .if1 .left)
 
 book-good : (c : tie.Else2)
@@ -42,7 +40,7 @@ book-ok-requires c κs = search needs
 
 returns-2 : tie.Need-returns-2
 returns-2 c =
-    ended-book _ _ _ _ _ (ids-good (c .before .before)) (sym (c .before .book-ok .ensures) ∙ not-true _ (c .if2 .taken))
+    ended-book _ _ (ids-good (c .before .before)) (sym (c .before .book-ok .ensures) ∙ not-true _ (c .if2 .taken))
     (c .before .before .before .before .clear .ensures)
 
 load16-requires : tie.Need-load16-requires
@@ -59,7 +57,7 @@ run-requires c κs =
     record {
       okay = book-good good;
       is = count .count-of .ensures .0 ∙ count .before .load16 .ensures;
-      ids = ids-good (good .before .before);
+      allowed = ids-good (good .before .before);
       cleared = good .before .before .before .before .clear .ensures;
       scratch = start .pre;
     }
@@ -80,7 +78,7 @@ returns-3 : tie.Need-returns-3
 returns-3 c =
     let ran = c .before .before .before .before .before .before .before .before in
     let good = ran .before .before .before .before .before .before .before .before .before .before in
-    ended-run _ _ _ _ _ (ids-good (good .before .before)) (book-good good) (ran .run .ensures)
+    ended-run _ _ (ids-good (good .before .before)) (book-good good) (ran .run .ensures)
 
 pub build-with-spec : {M : Type 1} → statement M
 build-with-spec =

@@ -2,7 +2,11 @@
 use native.Mathlib.Omega.{arith}
 use borrow.Author.Needs.{needs}
 use mathlib.Core.Path.{_∙_}
+use mathlib.Core.List.{List}
+use Rattle.types.specs.Defs.{Def}
+use Rattle.types.specs.OneRound.{Reached, first}
 use Rattle.types.specs.Predefined.{predefined}
+use Rattle.types.specs.Registry.{Stands}
 use Rattle.types.proofs.BuildLaws.{Going, going-start, going-few, going-in, going-less, going-next}
 use Rattle.types.proofs.BuildLaws.{ended-all, ended-no, ended-stuck}
 use Rattle.types.proofs.OneRoundLaws.{const-small}
@@ -10,11 +14,23 @@ use Rattle.types.proofs.building.run.Statement.{statement}
 use Rattle.types.proofs.building.run.Tie as tie
 
 abbrev Inv-loop : tie.InvT-loop
-Inv-loop book T timer counter control string t₀ m₀ n₀ tys₀ f₀ k₀ r₀ u₀ left₀ t m n tys f k r u left =
-    Going book (predefined timer counter control string) T tys₀ f₀ k₀ r₀ t m n tys f k r u left
+Inv-loop book T t₀ m₀ n₀ tys₀ f₀ k₀ r₀ u₀ left₀ t m n tys f k r u left =
+    (start : List Def) → Reached book start → Stands start t₀ m₀ n₀ u₀
+    → Going book start T tys₀ f₀ k₀ r₀ t m n tys f k r u left
 
 abbrev μ-loop : tie.MeasureT-loop
-μ-loop book T timer counter control string t₀ m₀ n₀ tys₀ f₀ k₀ r₀ u₀ left₀ t m n tys f k r u left = left
+μ-loop book T t₀ m₀ n₀ tys₀ f₀ k₀ r₀ u₀ left₀ t m n tys f k r u left = left
+
+-- the rounds began with the predefined types
+abbrev begun : tie.At-loop Inv-loop μ-loop → tie.Start Inv-loop μ-loop
+begun c = c .before .before .before .before .before .before .before .before .before .before
+
+going : (c : tie.At-loop Inv-loop μ-loop)
+    → let a = begun c .args in
+    let now = c .loop in
+    Going (a .book .now) (predefined (a .ids)) (a .t) (a .tys .now) (a .done .now) (a .stuck .now) (a .tried .now)
+    (now .types) (now .members) (now .names) (now .tys) (now .done) (now .stuck) (now .tried) (now .u) (now .left)
+going c = c .loop .inv _ (first _ (begun c .pre .allowed)) (c .before .put-predefined .ensures)
 
 -- after a round: where it refused a type, where it added none, and where it added some
 abbrev refused : tie.After-clear Inv-loop μ-loop → tie.After-tried Inv-loop μ-loop
@@ -39,15 +55,16 @@ began c = made c .before .before .before .before .before .before .before .before
 put-predefined-requires : tie.Need-put-predefined-requires Inv-loop μ-loop
 put-predefined-requires c κs =
     let p = c .before .before .before .before .before .before .before .before .pre in
-    ((p .cleared .types, (p .cleared .members, p .cleared .names)), p .ids)
+    ((p .cleared .types, (p .cleared .members, p .cleared .names)), p .allowed)
 
 loop-holds : tie.Need-loop-holds Inv-loop μ-loop
 loop-holds c =
     let known = c .before .before .before .before .before .before .before .before in
-    going-start (known .before .pre) (λ k. (known .shared-slice-known .given k) .fits) (c .put-predefined .ensures)
+    λ start reached stands.
+    going-start (known .before .pre) (λ k. (known .shared-slice-known .given k) .fits) reached stands
 
 turns-requires : tie.Need-turns-requires Inv-loop μ-loop
-turns-requires c κs = going-in (c .before .before .before .before .before .before .before .before .loop .inv)
+turns-requires c κs = going-in (going (c .before .before .before .before .before .before .before .before))
 
 enum-known-r : tie.Need-enum-known-r Inv-loop μ-loop
 enum-known-r c = search needs
@@ -57,23 +74,23 @@ clear-requires c κs = search needs
 
 same-length : tie.Need-same-length Inv-loop μ-loop
 same-length c =
-    refused c .before .before .before .before .before .before .tys .given ∙ began (refused c) .before .loop .inv .words
+    refused c .before .before .before .before .before .before .tys .given ∙ going (began (refused c) .before) .words
 
 same-length-2 : tie.Need-same-length-2 Inv-loop μ-loop
 same-length-2 c =
-    refused c .before .before .before .before .done .given ∙ began (refused c) .before .loop .inv .flags
+    refused c .before .before .before .before .done .given ∙ going (began (refused c) .before) .flags
 
 same-length-3 : tie.Need-same-length-3 Inv-loop μ-loop
 same-length-3 c =
-    refused c .before .before .stuck .given ∙ began (refused c) .before .loop .inv .members
+    refused c .before .before .stuck .given ∙ going (began (refused c) .before) .members
 
 same-length-4 : tie.Need-same-length-4 Inv-loop μ-loop
-same-length-4 c = refused c .tried .given ∙ began (refused c) .before .loop .inv .rows
+same-length-4 c = refused c .tried .given ∙ going (began (refused c) .before) .rows
 
 returns : tie.Need-returns Inv-loop μ-loop
 returns c =
     let turn = began (refused c) in
-    ended-no (turn .before .loop .inv) (made (refused c) .turns .ensures) (turn .loop-test .taken) _
+    ended-no (going (turn .before)) (made (refused c) .turns .ensures) (turn .loop-test .taken) _
     (c .before .before .before .before .before .r .given .1) (c .clear .ensures)
 
 enum-known-r-2 : tie.Need-enum-known-r-2 Inv-loop μ-loop
@@ -85,72 +102,73 @@ clear-requires-2 c κs = search needs
 first-waiting-requires : tie.Need-first-waiting-requires Inv-loop μ-loop
 first-waiting-requires c κs =
     let round = idle (c .before .before .before .before .before) in
-    rw (round .before .before .before .before .done .given) (began round .before .loop .inv .outer .flags)
+    rw (round .before .before .before .before .done .given) (going (began round .before) .outer .flags)
 
-cast-t47 : tie.Need-cast-t47 Inv-loop μ-loop
-cast-t47 c =
+cast-t44 : tie.Need-cast-t44 Inv-loop μ-loop
+cast-t44 c =
     let turn = began (idle (in-vain c)) in
-    omega (arith, c .first-waiting .ensures .small, const-small (turn .before .loop .inv .const))
+    omega (arith, c .first-waiting .ensures .small, const-small (going (turn .before) .const))
 
 same-length-5 : tie.Need-same-length-5 Inv-loop μ-loop
 same-length-5 c =
     let round = idle (in-vain c) in
-    round .before .before .before .before .before .before .tys .given ∙ began round .before .loop .inv .words
+    round .before .before .before .before .before .before .tys .given ∙ going (began round .before) .words
 
 same-length-6 : tie.Need-same-length-6 Inv-loop μ-loop
 same-length-6 c =
     let round = idle (in-vain c) in
-    round .before .before .before .before .done .given ∙ began round .before .loop .inv .flags
+    round .before .before .before .before .done .given ∙ going (began round .before) .flags
 
 same-length-7 : tie.Need-same-length-7 Inv-loop μ-loop
 same-length-7 c =
     let round = idle (in-vain c) in
-    round .before .before .stuck .given ∙ began round .before .loop .inv .members
+    round .before .before .stuck .given ∙ going (began round .before) .members
 
 same-length-8 : tie.Need-same-length-8 Inv-loop μ-loop
 same-length-8 c =
     let round = idle (in-vain c) in
-    round .tried .given ∙ began round .before .loop .inv .rows
+    round .tried .given ∙ going (began round .before) .rows
 
 returns-2 : tie.Need-returns-2 Inv-loop μ-loop
 returns-2 c =
     let stuck = in-vain c in
     let turn = began (idle stuck) in
-    ended-stuck (turn .before .loop .inv) (made (idle stuck) .turns .ensures) (turn .loop-test .taken) _ _
+    ended-stuck (going (turn .before)) (made (idle stuck) .turns .ensures) (turn .loop-test .taken) _ _
     (stuck .before .before .r2 .given .1) _ (stuck .if1 .taken) (c .first-waiting .ensures)
     (c .before .before .clear2 .ensures)
 
 loop-less : tie.Need-loop-less Inv-loop μ-loop
 loop-less c =
     let turn = began (added c) in
-    going-less (turn .before .loop .inv) (made (added c) .turns .ensures) (turn .loop-test .taken) _ _
+    going-less (going (turn .before)) (made (added c) .turns .ensures) (turn .loop-test .taken) _ _
     (c .before .before .r2 .given .1) (c .if1 .left)
 
 loop-again : tie.Need-loop-again Inv-loop μ-loop
 loop-again c =
     let round = added c in
     let turn = began round in
-    going-next (turn .before .loop .inv) (made round .turns .ensures) (turn .loop-test .taken) _ _
+    λ start reached stands.
+    going-next (turn .before .loop .inv start reached stands) (made round .turns .ensures) (turn .loop-test .taken) _ _
     (c .before .before .r2 .given .1) (c .if1 .left) (round .before .before .before .before .before .before .tys .given)
     (round .before .before .before .before .done .given) (round .before .before .stuck .given) (round .tried .given)
 
-cast-t49 : tie.Need-cast-t49 Inv-loop μ-loop
-cast-t49 c = omega (arith, going-few (c .before .before .loop .inv))
+cast-t46 : tie.Need-cast-t46 Inv-loop μ-loop
+cast-t46 c = omega (arith, going-few (going (c .before .before)))
 
 same-length-9 : tie.Need-same-length-9 Inv-loop μ-loop
-same-length-9 c = c .before .before .loop .inv .words
+same-length-9 c = going (c .before .before) .words
 
 same-length-10 : tie.Need-same-length-10 Inv-loop μ-loop
-same-length-10 c = c .before .before .loop .inv .flags
+same-length-10 c = going (c .before .before) .flags
 
 same-length-11 : tie.Need-same-length-11 Inv-loop μ-loop
-same-length-11 c = c .before .before .loop .inv .members
+same-length-11 c = going (c .before .before) .members
 
 same-length-12 : tie.Need-same-length-12 Inv-loop μ-loop
-same-length-12 c = c .before .before .loop .inv .rows
+same-length-12 c = going (c .before .before) .rows
 
 returns-3 : tie.Need-returns-3 Inv-loop μ-loop
-returns-3 c = ended-all (c .before .before .loop .inv) (omega (arith, c .before .loop-test .left))
+returns-3 c = ended-all (going (c .before .before)) (omega (arith, c .before .loop-test .left))
 
 pub run-spec : {M : Type 1} → statement M
 run-spec =
@@ -171,7 +189,7 @@ run-spec =
     enum-known-r-2
     clear-requires-2
     first-waiting-requires
-    cast-t47
+    cast-t44
     same-length-5
     same-length-6
     same-length-7
@@ -179,7 +197,7 @@ run-spec =
     returns-2
     loop-less
     loop-again
-    cast-t49
+    cast-t46
     same-length-9
     same-length-10
     same-length-11

@@ -1,6 +1,9 @@
 -- `types::find` meets its contract: all types that stand in the tables are looked through.
 use borrow.Author.Needs.{needs}
-use mathlib.Core.Path.{_∙_}
+use mathlib.Core.Path.{ap, _∙_}
+use Rattle.types.specs.Lookup.{saidBy}
+use Rattle.types.proofs.KeptLaws.{kept-inside}
+use Rattle.types.proofs.LookupLaws.{among-said}
 use Rattle.types.proofs.count.find.Statement.{statement}
 use Rattle.types.proofs.count.find.Tie as tie
 
@@ -8,10 +11,10 @@ type-count-requires : tie.Need-type-count-requires
 type-count-requires c κs = search needs
 
 lookup-requires : tie.Need-lookup-requires
-lookup-requires c κs = rw (c .before .type-count .ensures) (c .before .before .before .pre)
+lookup-requires c κs = rw (c .before .type-count .ensures) (kept-inside (c .before .before .before .pre .kept))
 
 returns : tie.Need-returns
-returns c = c .lookup .ensures ∙ rw (c .before .before .type-count .ensures)
+returns c = ap saidBy (c .lookup .ensures) ∙ rw (c .before .before .type-count .ensures) (among-said _ _)
 
 pub find-spec : {M : Type 1} → statement M
 find-spec = tie.close (tie.spec type-count-requires lookup-requires returns)

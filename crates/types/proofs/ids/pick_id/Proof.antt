@@ -1,9 +1,7 @@
 -- `types::pick_id` meets its contract, one law for each way out.
 use borrow.Author.Needs.{needs}
 use mathlib.Core.Path.{_∙_}
-use Rattle.types.specs.Book.{listFrom}
-use Rattle.types.specs.Ids.{idWord}
-use Rattle.types.proofs.IdLaws.{lowest-free, pick-low, pick-high, pick-used, pick-given, pick-lowest, pick-none}
+use Rattle.types.proofs.IdLaws.{pick-low, pick-high, pick-used, pick-given, pick-lowest, pick-none}
 use Rattle.types.proofs.ids.pick_id.Statement.{statement}
 use Rattle.types.proofs.ids.pick_id.Tie as tie
 
@@ -44,16 +42,14 @@ returns-5 c =
     let found = c .before in
     let a = found .before .before .args in
     rw (found .before .if1 .left)
-    (pick-lowest (listFrom (idWord (a .types .now)) 0 (a .n)) (a .id) _
-    (lowest-free (a .types .now) (a .n) _ (found .free-id .ensures)) (c .if5 .taken))
+    (pick-lowest (a .types .now) (a .n) (a .id) _ (found .free-id .ensures) (c .if5 .taken))
 
 returns-6 : tie.Need-returns-6
 returns-6 c =
     let found = c .before in
     let a = found .before .before .args in
     rw (found .before .if1 .left)
-    (pick-none (listFrom (idWord (a .types .now)) 0 (a .n)) (a .id) _
-    (lowest-free (a .types .now) (a .n) _ (found .free-id .ensures)) (c .if5 .left))
+    (pick-none (a .types .now) (a .n) (a .id) _ (found .free-id .ensures) (c .if5 .left))
 
 pub pick-id-spec : {M : Type 1} → statement M
 pick-id-spec =

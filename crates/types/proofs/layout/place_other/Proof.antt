@@ -28,7 +28,8 @@ unfolding startOf
 returns c =
     let end = c .before .before .before in
     let a = end .before .before .args in
-    other-over (a .c) (a .d) _ _ (end .before .align-up .ensures) (end .member-end .ensures) (c .enum-told .given .1)
+    other-over (a .c) (a .d) _ (end .member-end .result) (end .before .align-up .ensures) (end .member-end .ensures)
+    (c .enum-told .given .1)
 
 returns-2 : tie.Need-returns-2
 unfolding startOf
@@ -36,7 +37,8 @@ returns-2 c =
     let way = c .before .before in
     let end = way .before .before .before in
     let a = end .before .before .args in
-    other-at (a .c) (a .d) _ _ (end .before .align-up .ensures) (end .member-end .ensures) _ _ (way .end .given .1)
+    other-at (a .c) (a .d) _ (end .member-end .result) (end .before .align-up .ensures) (end .member-end .ensures)
+    _ _ (way .end .given .1)
     (way .before .before .close .ensures)
 
 pub place-other-spec : {M : Type 1} → statement M

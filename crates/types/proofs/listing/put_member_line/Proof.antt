@@ -1,123 +1,64 @@
--- `types::put_member_line` meets its contract: the fields of the member that was read.
+-- `types::put_member_line` meets its contract: the line in a buffer of its own, given; or 15.
+use native.Mathlib.Omega.{arith}
 use borrow.Author.Needs.{needs}
-use mathlib.Core.List.{List}
-use Prim.Native.Nat.{ℕ}
-use Rattle.types.specs.Listing.{line, TypeNamed, Short}
-use Rattle.types.proofs.ListingLaws.{Left, left-room, left-on, memberFields, member-lined, row-same, row-below}
-use Rattle.types.proofs.ListingLaws.{row-short, row-named, row-left}
+use mathlib.Core.Path.{_≡_, sym, _∙_}
+use mathlib.Core.Bool.{true}
+use Rattle.types.specs.Listing.{hasMember}
+use Rattle.types.proofs.GivenLaws.{given-absent, line-given, line-inside, line-long, line-short}
+use Rattle.types.proofs.ThereLaws.{kept-there, member-there}
 use Rattle.types.proofs.listing.put_member_line.Statement.{statement}
 use Rattle.types.proofs.listing.put_member_line.Tie as tie
 
-abbrev first : tie.After-name-row → tie.After-wide
-first c = c .before .before
+-- the test was passed
+there : (c : tie.Then1)
+    → let a = c .before .before .before .args in
+    hasMember (a .types .now) (a .i) (a .k) ≡ true
+there c = sym (c .before .has-member .ensures) ∙ c .if1 .taken
 
-abbrev start : tie.After-name-row → tie.Start
-start c = first c .before .before .before
+has-member-requires : tie.Need-has-member-requires
+has-member-requires c κs = search needs
 
--- the fields as the code has them
-abbrev fields : tie.After-name-row → List (List ℕ)
-fields c =
-    let a = start c .args in
-    memberFields (a .types .now) (a .names .now) (a .k) (c .before .member-row .result) (c .name-row .result)
+slice-aggregate-member-line : tie.Need-slice-aggregate-member-line
+slice-aggregate-member-line c = search needs
 
-named : (c : tie.After-name-row) → TypeNamed (start c .args .types .now) (c .before .member-row .result .ty)
-named c =
-    let p = start c .pre in
-    row-named (first c .before .type-row .ensures) (first c .wide .ensures) (p .1 .1 .0) (p .1 .0)
-    (c .before .member-row .ensures)
+member-line-requires : tie.Need-member-line-requires
+member-line-requires c κs =
+    let start = c .before .before .before .before in
+    let m = member-there _ _ _ (there (c .before)) in
+    let row = kept-there (start .pre) (start .args .i) (m .0) in
+    (row .few, (row .listable, (m .1, omega arith)))
 
-short : (c : tie.After-name-row) → Short (c .name-row .result)
-short c =
-    let p = start c .pre in
-    row-short (first c .before .type-row .ensures) (first c .wide .ensures) (p .1 .1 .0) (p .1 .0) (c .name-row .ensures)
+array-share-prefix-text : tie.Need-array-share-prefix-text
+array-share-prefix-text c = line-inside (c .before .member-line .ensures)
 
-all : (c : tie.After-name-row)
-    → Left (line (fields c)) 0 (start c .args .out .now) (fields c) 0 (start c .args .out .now)
-all c =
-    let p = start c .pre in
-    row-left (first c .before .type-row .ensures) (first c .wide .ensures) (p .1 .1 .0) (p .1 .0)
-    (start c .args .names .now) (c .before .member-row .ensures) (c .name-row .ensures) (p .1 .1 .1)
+slice-aggregate-give : tie.Need-slice-aggregate-give
+slice-aggregate-give c = line-long (c .before .before .member-line .ensures)
 
-type-row-requires : tie.Need-type-row-requires
-type-row-requires c κs = search needs
-
-wide-requires : tie.Need-wide-requires
-wide-requires c κs = search needs
-
-add-row : tie.Need-add-row
-add-row c = search needs
-
-member-row-requires : tie.Need-member-row-requires
-member-row-requires c κs =
-    let pre = c .before .before .before .pre in
-    row-below (c .before .type-row .ensures) (c .wide .ensures) (pre .1 .1 .0) (pre .1 .0)
-
-name-row-requires : tie.Need-name-row-requires
-name-row-requires c κs =
-    let at-first = c .before in
-    let pre = at-first .before .before .before .pre in
-    row-below (at-first .before .type-row .ensures) (at-first .wide .ensures) (pre .1 .1 .0) (pre .1 .0)
-
-put-number-requires : tie.Need-put-number-requires
-put-number-requires c κs = left-room (all (c .before))
-
-put-seen-requires : tie.Need-put-seen-requires
-put-seen-requires c κs =
-    let n1 = c .before .before .before in
-    left-room (left-on (all (n1 .before .before)) (n1 .put-number .ensures))
-
-put-type-name-requires : tie.Need-put-type-name-requires
-put-type-name-requires c κs =
-    let n2 = c .before .before .before .before in
-    let n1 = n2 .before .before .before .before in
-    let w = n1 .before .before in
-    let l1 = left-on (all w) (n1 .put-number .ensures) in
-    let l2 = left-on l1 (n2 .put-seen .ensures) in
-    (named w, (c .before .put-type-name-arg .given .0, left-room l2))
-
-put-place-requires : tie.Need-put-place-requires
-put-place-requires c κs =
-    let n3 = c .before .before .before .before in
-    let n2 = n3 .before .before .before .before .before in
-    let n1 = n2 .before .before .before .before in
-    let w = n1 .before .before in
-    let l1 = left-on (all w) (n1 .put-number .ensures) in
-    let l2 = left-on l1 (n2 .put-seen .ensures) in
-    let l3 = left-on l2 (n3 .put-type-name .ensures) in
-    (rw (c .before .put-place-arg .given .0) (short w .inside), l3 .fits)
+give-requires : tie.Need-give-requires
+give-requires c κs = line-short (c .before .before .before .member-line .ensures) (omega arith)
 
 same-length : tie.Need-same-length
 same-length c = search needs
 
 returns : tie.Need-returns
 returns c =
-    let n4 = c .before .before in
-    let n3 = n4 .before .before .before .before .before in
-    let n2 = n3 .before .before .before .before .before in
-    let n1 = n2 .before .before .before .before in
-    let w = n1 .before .before in
-    let l1 = left-on (all w) (n1 .put-number .ensures) in
-    let l2 = left-on l1 (n2 .put-seen .ensures) in
-    let l3 = left-on l2 (n3 .put-type-name .ensures) in
-    let a = start w .args in
-    let p = start w .pre in
-    let row = row-same (first w .before .type-row .ensures) (first w .wide .ensures) (p .1 .1 .0) (p .1 .0) in
-    rw (← row, ← w .before .member-row .ensures, ← w .name-row .ensures)
-    (member-lined (a .types .now) (a .names .now) (a .k) (w .before .member-row .result) (w .name-row .result)
-    (l3 .then _ _ (n4 .put-place .ensures)))
+    let given = c .before .before in
+    let lined = given .before .before .before .before in
+    line-given (lined .member-line .ensures) (there (lined .before .before)) (given .give .ensures)
+
+returns-2 : tie.Need-returns-2
+returns-2 c = given-absent _ _ (sym (c .before .has-member .ensures) ∙ c .if1 .left)
 
 pub put-member-line-spec : {M : Type 1} → statement M
 put-member-line-spec =
     tie.close
     (tie.spec
-    type-row-requires
-    wide-requires
-    add-row
-    member-row-requires
-    name-row-requires
-    put-number-requires
-    put-seen-requires
-    put-type-name-requires
-    put-place-requires
+    has-member-requires
+    slice-aggregate-member-line
+    member-line-requires
+    array-share-prefix-text
+    slice-aggregate-give
+    give-requires
     same-length
-    returns)
+    returns
+    returns-2)

@@ -1,67 +1,42 @@
--- `types::put_refused_line` meets its contract: the word, the number and the place.
+-- `types::put_refused_line` meets its contract: the line in a buffer of its own, given.
 use borrow.Author.Needs.{needs}
-use mathlib.Core.List.{List}
-use Prim.Native.Nat.{ℕ}
-use Rattle.types.specs.Listing.{line}
-use Rattle.types.proofs.ListingLaws.{Left, left-room, left-on, last-room, left-done, refusedFields}
-use Rattle.types.proofs.ListingLaws.{refused-left, refused-lined}
+use native.Mathlib.Omega.{arith}
+use mathlib.Core.Path.{refl}
+use Rattle.types.proofs.GivenLaws.{line-given, line-inside, line-long, line-short}
 use Rattle.types.proofs.listing.put_refused_line.Statement.{statement}
 use Rattle.types.proofs.listing.put_refused_line.Tie as tie
 
-abbrev start : tie.After-wide64 → tie.Start
-start c = c .before .before
+slice-aggregate-refused-line : tie.Need-slice-aggregate-refused-line
+slice-aggregate-refused-line c = search needs
 
--- the fields as the code has them
-abbrev fields : tie.After-wide64 → List (List ℕ)
-fields c = refusedFields (start c .args .number) (c .wide64 .result)
+refused-line-requires : tie.Need-refused-line-requires
+refused-line-requires c κs = search needs
 
-all : (c : tie.After-wide64)
-    → Left (line (fields c)) 0 (start c .args .out .now) (fields c) 0 (start c .args .out .now)
-all c = refused-left (start c .args .number) (c .wide64 .result) (start c .pre)
+array-share-prefix-text : tie.Need-array-share-prefix-text
+array-share-prefix-text c = line-inside (c .before .refused-line .ensures)
 
-wide64-requires : tie.Need-wide64-requires
-wide64-requires c κs = search needs
+slice-aggregate-give : tie.Need-slice-aggregate-give
+slice-aggregate-give c = line-long (c .before .before .refused-line .ensures)
 
-slice-aggregate-put-field : tie.Need-slice-aggregate-put-field
-slice-aggregate-put-field c = search needs
-
-put-field-requires : tie.Need-put-field-requires
-put-field-requires c κs = search needs
-
-put-number-requires : tie.Need-put-number-requires
-put-number-requires c κs =
-    let n1 = c .before .before .before in
-    left-room (left-on (all (n1 .before .before .before)) (n1 .put-field .ensures))
-
-put-number-requires-2 : tie.Need-put-number-requires-2
-put-number-requires-2 c κs =
-    let n2 = c .before .before .before in
-    let n1 = n2 .before .before .before .before in
-    let l1 = left-on (all (n1 .before .before .before)) (n1 .put-field .ensures) in
-    last-room (left-on l1 (n2 .put-number .ensures))
+give-requires : tie.Need-give-requires
+give-requires c κs = line-short (c .before .before .before .refused-line .ensures) (omega arith)
 
 same-length : tie.Need-same-length
 same-length c = search needs
 
 returns : tie.Need-returns
 returns c =
-    let n3 = c .before .before in
-    let n2 = n3 .before .before .before .before in
-    let n1 = n2 .before .before .before .before in
-    let w = n1 .before .before .before in
-    let l1 = left-on (all w) (n1 .put-field .ensures) in
-    let l2 = left-on l1 (n2 .put-number .ensures) in
-    rw (← w .wide64 .ensures)
-    (refused-lined (start w .args .number) (w .wide64 .result) (left-done l2 (n3 .put-number2 .ensures)))
+    let given = c .before .before in
+    line-given (given .before .before .before .before .refused-line .ensures) refl (given .give .ensures)
 
 pub put-refused-line-spec : {M : Type 1} → statement M
 put-refused-line-spec =
     tie.close
     (tie.spec
-    wide64-requires
-    slice-aggregate-put-field
-    put-field-requires
-    put-number-requires
-    put-number-requires-2
+    slice-aggregate-refused-line
+    refused-line-requires
+    array-share-prefix-text
+    slice-aggregate-give
+    give-requires
     same-length
     returns)

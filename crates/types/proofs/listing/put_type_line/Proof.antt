@@ -1,87 +1,64 @@
--- `types::put_type_line` meets its contract: the word, the name and the numbers of the structure that was read.
+-- `types::put_type_line` meets its contract: the line in a buffer of its own, given; or 15.
+use native.Mathlib.Omega.{arith}
 use borrow.Author.Needs.{needs}
-use mathlib.Core.List.{List}
-use Prim.Native.Nat.{ℕ}
-use Rattle.types.specs.Listing.{line, Listable}
-use Rattle.types.proofs.ListingLaws.{Left, left-room, left-on, typeFields, type-left, type-lined, listed}
+use mathlib.Core.Path.{_≡_, sym, _∙_}
+use mathlib.Core.Bool.{true}
+use Rattle.types.specs.declared.member.Ty.the-variants.{Struct}
+use Rattle.types.specs.Template.{hasTemplate}
+use Rattle.types.proofs.GivenLaws.{given-absent, line-given, line-inside, line-long, line-short}
+use Rattle.types.proofs.ThereLaws.{kept-there}
 use Rattle.types.proofs.listing.put_type_line.Statement.{statement}
 use Rattle.types.proofs.listing.put_type_line.Tie as tie
 
-abbrev start : tie.After-waste → tie.Start
-start c = c .before .before .before .before .before
+-- the test was passed
+there : (c : tie.Then1)
+    → let a = c .before .before .before .args in
+    hasTemplate (a .types .now) (Struct (a .i)) ≡ true
+there c = sym (c .before .is-there .ensures) ∙ c .if1 .taken
 
-abbrev names : tie.After-waste → List ℕ
-names c = start c .args .names .now
+is-there-requires : tie.Need-is-there-requires
+is-there-requires c κs = search needs
 
--- the fields as the code has them
-abbrev fields : tie.After-waste → List (List ℕ)
-fields c =
-    typeFields (names c) (c .before .before .before .type-row .result) (c .before .template-len .result)
-    (c .waste .result)
+slice-aggregate-type-line : tie.Need-slice-aggregate-type-line
+slice-aggregate-type-line c = search needs
 
-known : (c : tie.After-waste)
-    → Listable (start c .args .types .now) (start c .args .members .now) (c .before .before .before .type-row .result)
-known c = listed (c .before .before .before .type-row .ensures) (start c .pre .1 .0)
+type-line-requires : tie.Need-type-line-requires
+type-line-requires c κs =
+    let start = c .before .before .before .before in
+    let row = kept-there (start .pre) (start .args .i) (there (c .before)) in
+    (row .few, (row .listable, omega arith))
 
-all : (c : tie.After-waste)
-    → Left (line (fields c)) 0 (start c .args .out .now) (fields c) 0 (start c .args .out .now)
-all c = type-left (names c) (c .before .before .before .type-row .result) _ _ (known c .name) (start c .pre .1 .1)
+array-share-prefix-text : tie.Need-array-share-prefix-text
+array-share-prefix-text c = line-inside (c .before .type-line .ensures)
 
-type-row-requires : tie.Need-type-row-requires
-type-row-requires c κs = search needs
+slice-aggregate-give : tie.Need-slice-aggregate-give
+slice-aggregate-give c = line-long (c .before .before .type-line .ensures)
 
-template-len-requires : tie.Need-template-len-requires
-template-len-requires c κs = listed (c .before .type-row .ensures) (c .before .before .before .pre .1 .0) .rows .rows
-
-waste-requires : tie.Need-waste-requires
-waste-requires c κs = listed (c .before .before .type-row .ensures) (c .before .before .before .before .pre .1 .0) .rows
-
-slice-aggregate-put-field : tie.Need-slice-aggregate-put-field
-slice-aggregate-put-field c = search needs
-
-put-field-requires : tie.Need-put-field-requires
-put-field-requires c κs = search needs
-
-put-name-requires : tie.Need-put-name-requires
-put-name-requires c κs =
-    let n1 = c .before .before .before .before in
-    let w = n1 .before .before .before in
-    let l1 = left-on (all w) (n1 .put-field .ensures) in
-    (rw (c .put-name-arg2 .given .0) (known w .name .inside), left-room l1)
-
-put-numbers-requires : tie.Need-put-numbers-requires
-put-numbers-requires c κs =
-    let n2 = c .before .before .before in
-    let n1 = n2 .before .before .before .before .before in
-    let l1 = left-on (all (n1 .before .before .before)) (n1 .put-field .ensures) in
-    left-on l1 (n2 .put-name .ensures) .fits
+give-requires : tie.Need-give-requires
+give-requires c κs = line-short (c .before .before .before .type-line .ensures) (omega arith)
 
 same-length : tie.Need-same-length
 same-length c = search needs
 
 returns : tie.Need-returns
 returns c =
-    let n3 = c .before .before in
-    let n2 = n3 .before .before .before .before in
-    let n1 = n2 .before .before .before .before .before in
-    let w = n1 .before .before .before in
-    let l1 = left-on (all w) (n1 .put-field .ensures) in
-    let l2 = left-on l1 (n2 .put-name .ensures) in
-    let d = w .before .before .before .type-row in
-    let bytes = w .before .template-len in
-    rw (← d .ensures, ← bytes .ensures, ← w .waste .ensures (names w))
-    (type-lined (names w) (d .result) (bytes .result) (w .waste .result) (l2 .then _ _ (n3 .put-numbers .ensures)))
+    let given = c .before .before in
+    let lined = given .before .before .before .before in
+    line-given (lined .type-line .ensures) (there (lined .before .before)) (given .give .ensures)
+
+returns-2 : tie.Need-returns-2
+returns-2 c = given-absent _ _ (sym (c .before .is-there .ensures) ∙ c .if1 .left)
 
 pub put-type-line-spec : {M : Type 1} → statement M
 put-type-line-spec =
     tie.close
     (tie.spec
-    type-row-requires
-    template-len-requires
-    waste-requires
-    slice-aggregate-put-field
-    put-field-requires
-    put-name-requires
-    put-numbers-requires
+    is-there-requires
+    slice-aggregate-type-line
+    type-line-requires
+    array-share-prefix-text
+    slice-aggregate-give
+    give-requires
     same-length
-    returns)
+    returns
+    returns-2)

@@ -6,7 +6,7 @@ use mathlib.Core.Path.{_≡_, ap, _∙_}
 use Rattle.words.specs.Words.{Bytes}
 use Rattle.types.specs.Digits.{hostName}
 use Rattle.types.specs.Entries.{declAt}
-use Rattle.types.specs.Structs.{measureOne}
+use Rattle.types.specs.Passes.{measureOne}
 use Rattle.types.proofs.Measuring.{Measuring, starts, all-done, one-near, one-found, refused-access}
 use Rattle.types.proofs.Measuring.{refused-far, goes-on}
 use Rattle.types.proofs.measure.measure.Statement.{statement}

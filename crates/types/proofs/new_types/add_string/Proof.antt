@@ -1,22 +1,19 @@
 -- `types::add_string` meets its contract, one law for each way out.
-use native.Mathlib.Omega.{arith}
 use borrow.Author.Needs.{needs}
+use native.Mathlib.Omega.{arith}
 use Prim.Native.Nat.{_+_}
-use mathlib.Core.Path.{_∙_}
+use mathlib.Core.Path.{sym, _∙_}
 use lib.ListN.{length}
-use Rattle.types.proofs.AddStoreLaws.{Roomy}
-use Rattle.types.proofs.AddStringLaws.{string-full, string-room, string-readable, string-took}
+use Rattle.types.proofs.AddLaidLaws.{string-counted}
+use Rattle.types.proofs.AddStoreLaws.{Roomy, roomy, stored-full, stored-readable, stored-took}
 use Rattle.types.proofs.new_types.add_string.Statement.{statement}
 use Rattle.types.proofs.new_types.add_string.Tie as tie
 
 -- there is room
 fits : (c : tie.Then1)
-    → let a = c .before .before .before .args in
-    Roomy (a .u) 2 (length (a .name .now) + 7)
-fits c =
-    let s = c .before .before .before in
-    string-room (s .pre .0 .usable) (s .args .name .now) (s .args .capacity) (c .before .has-room .ensures)
-    (c .if1 .taken)
+    → let a = c .before .before .before .before .args in
+    Roomy (a .new .used) 2 (length (a .name .now) + 7)
+fits c = roomy _ _ _ (sym (c .if1 .taken) ∙ c .before .has-room .ensures)
 
 add-bytes : tie.Need-add-bytes
 add-bytes c = search needs
@@ -47,17 +44,18 @@ enter-requires c κs =
     let stored = head .before in
     let size = stored .before .before .before .before .before .before in
     let t = size .before in
-    let s = t .before .before .before in (
+    let s = t .before .before .before .before in
+    let a = s .args in (
       fits t .types,
       rw (head .bare-head .ensures, size .string-size .ensures, stored .put-string .ensures .0)
-          (string-readable (s .pre .0 .usable) (s .args .name .now) _ (t .before .has-room .ensures) (t .if1 .taken)
-          (s .args .members .now) (s .pre .0 .rows) _),
+          (stored-readable (a .types .now) (a .members .now) (a .names .now) (a .new .used)
+          (string-counted (a .name .now) (a .capacity) _) _ _ _ (t .before .has-room .ensures) (t .if1 .taken)
+          (s .pre .0 .usable) (s .pre .0 .rows)),
     )
 
 used-more-requires : tie.Need-used-more-requires
 used-more-requires c κs =
-    let stored = c .before .before .before .before .before in
-    let f = fits (stored .before .before .before .before .before .before .before) in
+    let f = fits (c .before .before .before .before .before .before .before .before .before .before .before .before) in
     (f .types, (f .members, f .bytes))
 
 returns : tie.Need-returns
@@ -68,18 +66,20 @@ returns c =
     let put = stored .before .before .before in
     let size = put .before .before .before in
     let t = size .before in
-    let s = t .before .before .before in
+    let s = t .before .before .before .before in
+    let a = s .args in
     rw (c .used-more .ensures)
-    (string-took (s .pre .0 .usable) _ _ (t .before .has-room .ensures) (t .if1 .taken) _ (s .pre .0 .rows) _ _
-    (s .pre .0 .bytes)
-    (stored .put-string .ensures .0)
+    (stored-took (a .types .now) (a .members .now) (a .names .now) (a .new .used)
+    (string-counted (a .name .now) (a .capacity) _) _ _ _ (t .before .has-room .ensures) (t .if1 .taken)
+    (s .pre .0 .usable) (s .pre .0 .rows) _ (s .pre .0 .bytes) (stored .put-string .ensures .0)
     (stored .put-string .ensures .1 ∙ rw (put .put-bytes .ensures))
     (entered .enter .ensures ∙ rw (head .bare-head .ensures, size .string-size .ensures)))
 
 returns-2 : tie.Need-returns-2
 returns-2 c =
-    let s = (c .before .before .before) in
-    string-full (s .pre .0 .usable) _ _ (c .before .has-room .ensures) _ _ _ (c .if1 .left)
+    let a = c .before .before .before .before .args in
+    stored-full (a .types .now) (a .members .now) (a .names .now) (a .new .used)
+    (string-counted (a .name .now) (a .capacity) _) _ _ _ (c .before .has-room .ensures) _ (c .if1 .left)
 
 pub add-string-spec : {M : Type 1} → statement M
 add-string-spec =

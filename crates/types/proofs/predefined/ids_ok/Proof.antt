@@ -9,27 +9,27 @@ use Rattle.types.proofs.predefined.ids_ok.Statement.{statement}
 use Rattle.types.proofs.predefined.ids_ok.Tie as tie
 
 -- the ids that passed
-one : (c : tie.Else1) → predefinedId (c .before .before .args .timer) ≡ true
+one : (c : tie.Else1) → predefinedId (c .before .before .args .ids .timer) ≡ true
 one c = sym (c .before .id-ok .ensures) ∙ not-false _ (c .if1 .left)
 
-two : (c : tie.Else2) → predefinedId (c .before .before .before .before .args .counter) ≡ true
+two : (c : tie.Else2) → predefinedId (c .before .before .before .before .args .ids .counter) ≡ true
 two c = sym (c .before .id-ok2 .ensures) ∙ not-false _ (c .if2 .left)
 
-three : (c : tie.Else3) → predefinedId (c .before .before .before .before .before .before .args .control) ≡ true
+three : (c : tie.Else3) → predefinedId (c .before .before .before .before .before .before .args .ids .control) ≡ true
 three c = sym (c .before .id-ok3 .ensures) ∙ not-false _ (c .if3 .left)
 
 id-ok-requires : tie.Need-id-ok-requires
 id-ok-requires c κs = search needs
 
 returns : tie.Need-returns
-returns c = wrong-1 _ _ _ _ (sym (c .before .id-ok .ensures) ∙ not-true _ (c .if1 .taken))
+returns c = wrong-1 _ (sym (c .before .id-ok .ensures) ∙ not-true _ (c .if1 .taken))
 
 id-ok-requires-2 : tie.Need-id-ok-requires-2
 id-ok-requires-2 c κs = search needs
 
 returns-2 : tie.Need-returns-2
 returns-2 c =
-    wrong-2 _ _ _ _ (one (c .before .before)) (sym (c .before .id-ok2 .ensures) ∙ not-true _ (c .if2 .taken))
+    wrong-2 _ (one (c .before .before)) (sym (c .before .id-ok2 .ensures) ∙ not-true _ (c .if2 .taken))
 
 id-ok-requires-3 : tie.Need-id-ok-requires-3
 id-ok-requires-3 c κs = search needs
@@ -37,7 +37,7 @@ id-ok-requires-3 c κs = search needs
 returns-3 : tie.Need-returns-3
 returns-3 c =
     let second = c .before .before in
-    wrong-3 _ _ _ _ (one (second .before .before)) (two second)
+    wrong-3 _ (one (second .before .before)) (two second)
     (sym (c .before .id-ok3 .ensures) ∙ not-true _ (c .if3 .taken))
 
 id-ok-requires-4 : tie.Need-id-ok-requires-4
@@ -47,7 +47,7 @@ returns-4 : tie.Need-returns-4
 returns-4 c =
     let third = c .before .before in
     let second = third .before .before in
-    wrong-4 _ _ _ _ (one (second .before .before)) (two second) (three third)
+    wrong-4 _ (one (second .before .before)) (two second) (three third)
     (sym (c .before .id-ok4 .ensures) ∙ not-true _ (c .if4 .taken))
 
 all-differ-requires : tie.Need-all-differ-requires
@@ -59,7 +59,7 @@ returns-5 c =
     let third = fourth .before .before in
     let second = third .before .before in
     c .all-differ .ensures
-    ∙ ids-differ _ _ _ _ (one (second .before .before)) (two second) (three third)
+    ∙ ids-differ _ (one (second .before .before)) (two second) (three third)
     (sym (fourth .before .id-ok4 .ensures) ∙ not-false _ (fourth .if4 .left))
 
 pub ids-ok-spec : {M : Type 1} → statement M

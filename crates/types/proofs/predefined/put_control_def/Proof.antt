@@ -1,22 +1,32 @@
--- `types::put_control_def` meets its contract: CONTROL's name and parts, then its row.
+-- `types::put_control_def` meets its contract: a control type's name and parts, then its row.
 use borrow.Author.Needs.{needs}
+use native.Mathlib.Omega.{arith}
 use mathlib.Core.Path.{_∙_}
 use Rattle.types.specs.declared.member.StructKind.the-variants.{Predefined}
-use Rattle.types.proofs.PredefinedLaws.{control-kept, stored-readable, stored-took}
+use Rattle.types.proofs.PredefinedLaws.{control-counted, new-readable, new-took}
 use Rattle.types.proofs.predefined.put_control_def.Statement.{statement}
 use Rattle.types.proofs.predefined.put_control_def.Tie as tie
 
-slice-aggregate-put-bytes : tie.Need-slice-aggregate-put-bytes
-slice-aggregate-put-bytes c = search needs
+-- where the function starts, from where the row was entered
+abbrev begun : tie.After-enter → tie.Start
+begun c =
+    let placed = c .before .before .before .before .before .before .before in
+    placed .before .before .before .before .before .before .before
+
+add-count : tie.Need-add-count
+add-count c = search needs
 
 put-bytes-requires : tie.Need-put-bytes-requires
 put-bytes-requires c κs = search needs
 
-add-put-control-type : tie.Need-add-put-control-type
-add-put-control-type c = search needs
+add-put-control : tie.Need-add-put-control
+add-put-control c = search needs
 
-put-control-type-requires : tie.Need-put-control-type-requires
-put-control-type-requires c κs = search needs
+put-control-requires : tie.Need-put-control-requires
+put-control-requires c κs = search needs
+
+cast-bare-head : tie.Need-cast-bare-head
+cast-bare-head c = search needs
 
 bare-head-requires : tie.Need-bare-head-requires
 bare-head-requires c κs = search needs
@@ -25,16 +35,24 @@ enter-requires : tie.Need-enter-requires
 enter-requires c κs =
     let bare = c .before .before .before in
     let put = bare .before in
-    let start = put .before .before .before .before .before .before .before in
+    let start = put .before .before .before .before .before .before .before .before .before in
     let a = start .args in (
-      start .pre .few,
-      rw (put .put-control-type .ensures .0, bare .bare-head .ensures)
-          (stored-readable (a .types .now) (a .members .now) (a .names .now) (a .u) control-kept (a .id) 12 Predefined
-          (start .pre)),
+      start .pre .ready .few,
+      rw (put .put-control .ensures .0, bare .bare-head .ensures)
+          (new-readable (a .types .now) (a .members .now) (a .names .now) (a .u) (control-counted (start .pre)) (a .id)
+          12 Predefined (start .pre .ready)),
     )
 
+add-used-more : tie.Need-add-used-more
+add-used-more c = omega (arith, begun c .pre .ready .bytes)
+
+add-used-more-2 : tie.Need-add-used-more-2
+add-used-more-2 c = omega (arith, begun c .pre .ready .bytes)
+
 used-more-requires : tie.Need-used-more-requires
-used-more-requires c κs = search needs
+used-more-requires c κs =
+    let ready = begun c .pre .ready in
+    (ready .few, (ready .rows, ready .bytes))
 
 returns : tie.Need-returns
 returns c =
@@ -42,21 +60,25 @@ returns c =
     let bare = row .before .before .before .before in
     let put = bare .before in
     let name = put .before .before .before .before in
-    let start = name .before .before .before in
+    let start = name .before .before .before .before .before in
     let a = start .args in
-    stored-took (a .types .now) (a .members .now) (a .names .now) (a .u) control-kept (a .id) 12 Predefined (start .pre)
-    (put .put-control-type .ensures .0) (put .put-control-type .ensures .1 ∙ rw (name .put-bytes .ensures))
-    (row .enter .ensures ∙ rw (bare .bare-head .ensures)) (c .used-more .ensures)
+    new-took (a .types .now) (a .members .now) (a .names .now) (a .u) (control-counted (start .pre)) (a .id) 12
+    Predefined (start .pre .ready) (put .put-control .ensures .0)
+    (put .put-control .ensures .1 ∙ rw (name .put-bytes .ensures)) (row .enter .ensures ∙ rw (bare .bare-head .ensures))
+    (c .used-more .ensures)
 
 pub put-control-def-spec : {M : Type 1} → statement M
 put-control-def-spec =
     tie.close
     (tie.spec
-    slice-aggregate-put-bytes
+    add-count
     put-bytes-requires
-    add-put-control-type
-    put-control-type-requires
+    add-put-control
+    put-control-requires
+    cast-bare-head
     bare-head-requires
     enter-requires
+    add-used-more
+    add-used-more-2
     used-more-requires
     returns)

@@ -4,7 +4,7 @@ use mathlib.Core.Path.{_∙_}
 use Rattle.types.specs.declared.member.StructKind.the-variants.{Str}
 use Rattle.types.specs.Layout.{alignUp}
 use Rattle.types.specs.Structs.{stringSize}
-use Rattle.types.proofs.PredefinedLaws.{string-kept, stored-readable, stored-took}
+use Rattle.types.proofs.PredefinedLaws.{string-kept, new-readable, new-took}
 use Rattle.types.proofs.predefined.put_string_def.Statement.{statement}
 use Rattle.types.proofs.predefined.put_string_def.Tie as tie
 
@@ -32,7 +32,7 @@ enter-requires c κs =
     let a = start .args in (
       start .pre .few,
       rw (put .put-string .ensures .0, bare .bare-head .ensures)
-          (stored-readable (a .types .now) (a .members .now) (a .names .now) (a .u) string-kept (a .id)
+          (new-readable (a .types .now) (a .members .now) (a .names .now) (a .u) string-kept (a .id)
           (stringSize 82) Str (start .pre)),
     )
 
@@ -48,7 +48,7 @@ returns c =
     let name = put .before .before .before .before in
     let start = name .before .before .before in
     let a = start .args in
-    stored-took (a .types .now) (a .members .now) (a .names .now) (a .u) string-kept (a .id) (stringSize 82) Str
+    new-took (a .types .now) (a .members .now) (a .names .now) (a .u) string-kept (a .id) (stringSize 82) Str
     (start .pre) (put .put-string .ensures .0) (put .put-string .ensures .1 ∙ rw (name .put-bytes .ensures))
     (row .enter .ensures ∙ rw (bare .bare-head .ensures)) (c .used-more .ensures)
 

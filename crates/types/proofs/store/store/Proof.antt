@@ -6,7 +6,8 @@ use mathlib.Core.Path.{_≡_}
 use lib.Seq.{sets}
 use Rattle.words.specs.Words.{Bytes}
 use Rattle.types.specs.Entries.{declAt}
-use Rattle.types.specs.Structs.{rowsOf, namesOf, oneParts, storedOne}
+use Rattle.types.specs.Passes.{oneParts, storedOne}
+use Rattle.types.specs.Structs.{rowsOf, namesOf}
 use Rattle.types.proofs.Storing.{Storing, starts, rows-done, names-done, one-found, one-fits, rows-stopped}
 use Rattle.types.proofs.Storing.{names-stopped, goes-on}
 use Rattle.types.proofs.store.store.Statement.{statement}

@@ -2,6 +2,7 @@
 use borrow.Author.Needs.{needs}
 use borrow.Author.Tests.{lt-ltb, le-ltb}
 use Rattle.types.specs.Tables.{tyOf}
+use Rattle.types.proofs.AtomicLaws.{at-is}
 use Rattle.types.proofs.tables.ty_of.Statement.{statement}
 use Rattle.types.proofs.tables.ty_of.Tie as tie
 
@@ -13,7 +14,7 @@ at-requires c κs = search needs
 
 returns : tie.Need-returns
 unfolding tyOf
-returns c = simp (lt-ltb _ _ (c .before .before .if1 .taken), c .at .ensures, c .before .wide .ensures)
+returns c = simp (lt-ltb _ _ (c .before .before .if1 .taken), at-is _ _ (c .at .ensures), c .before .wide .ensures)
 
 wide-requires-2 : tie.Need-wide-requires-2
 wide-requires-2 c κs = search needs

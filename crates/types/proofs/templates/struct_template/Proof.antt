@@ -21,8 +21,8 @@ returns-2 c =
     no-id (a .types .now) (a .members .now) (a .names .now) (a .n) (a .out .now)
     (at-inside .if1 .left) (c .before .type-row .ensures) (c .if2 .taken)
 
-template-len-requires : tie.Need-template-len-requires
-template-len-requires c κs =
+template-bytes-requires : tie.Need-template-bytes-requires
+template-bytes-requires c κs =
     let at-inside = c .before .before in
     let at-start = at-inside .before .before in
     let a = at-start .args in
@@ -41,7 +41,7 @@ returns-3 c =
     let a = at-start .args in
     no-room (a .types .now) (a .members .now) (a .names .now) (a .n) (a .out .now)
     (at-inside .if1 .left) (at-row .type-row .ensures) (at-used .if2 .left)
-    (rw (c .before .template-len .ensures) at (c .if3 .taken))
+    (rw (c .before .template-bytes .ensures) at (c .if3 .taken))
 
 write-template-requires : tie.Need-write-template-requires
 write-template-requires c κs =
@@ -52,7 +52,7 @@ write-template-requires c κs =
     let at-start = at-inside .before .before in
     let a = at-start .args in
     let used = rw (at-row .type-row .ensures) at (at-used .if2 .left) in
-    let fits = rw (at-long .template-len .ensures) at (c .before .if3 .left) in
+    let fits = rw (at-long .template-bytes .ensures) at (c .before .if3 .left) in
     (rw (at-row .type-row .ensures) (at-start .pre (a .n) (at-inside .if1 .left) used), fits)
 
 same-length : tie.Need-same-length
@@ -68,7 +68,7 @@ returns-4 c =
     let at-inside = at-row .before in
     let at-start = at-inside .before .before in
     let a = at-start .args in
-    let long = at-long .template-len .ensures in
+    let long = at-long .template-bytes .ensures in
     rw (long, at-write-template .write-template .ensures)
     (room (a .types .now) (a .members .now) (a .names .now) (a .n) (a .out .now)
     (at-inside .if1 .left) (at-row .type-row .ensures) (at-used .if2 .left)
@@ -81,7 +81,7 @@ struct-template-spec =
     returns
     type-row-requires
     returns-2
-    template-len-requires
+    template-bytes-requires
     cast-if3
     returns-3
     write-template-requires

@@ -1,5 +1,6 @@
 -- `types::template` meets its contract: an atomic has no template.
 use borrow.Author.Needs.{needs}
+use Rattle.types.proofs.KeptLaws.{kept-readable}
 use Rattle.types.proofs.WalkLaws.{no-atomic}
 use Rattle.types.proofs.templates.template.Statement.{statement}
 use Rattle.types.proofs.templates.template.Tie as tie
@@ -16,7 +17,7 @@ enum-known-ty : tie.Need-enum-known-ty
 enum-known-ty c = search needs
 
 struct-template-requires : tie.Need-struct-template-requires
-struct-template-requires c κs = search needs
+struct-template-requires c κs = kept-readable (c .before .before .before .before .before .pre)
 
 same-length : tie.Need-same-length
 same-length c = search needs

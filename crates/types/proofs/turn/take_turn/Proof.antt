@@ -123,8 +123,8 @@ wide-requires-3 c κs = search needs
 add-end : tie.Need-add-end
 add-end c = search needs
 
-cast-add-entry : tie.Need-cast-add-entry
-cast-add-entry c = omega (arith, begun-2 (c .before .before .before .before .before .before .before) .pre .small)
+cast-t25 : tie.Need-cast-t25
+cast-t25 c = omega (arith, begun-2 (c .before .before .before .before .before .before) .pre .small)
 
 sub-add-entry : tie.Need-sub-add-entry
 sub-add-entry c = search needs
@@ -213,7 +213,7 @@ take-turn-spec =
     wide-requires-2
     wide-requires-3
     add-end
-    cast-add-entry
+    cast-t25
     sub-add-entry
     part-add-entry-start
     part-add-entry-end

@@ -1,6 +1,6 @@
 -- `types::store_udt` meets its contract.
 use borrow.Author.Needs.{needs}
-use Rattle.types.specs.Structs.{udtParts}
+use Rattle.types.specs.Passes.{udtParts}
 use Rattle.types.proofs.udt.store_udt.Statement.{statement}
 use Rattle.types.proofs.udt.store_udt.Tie as tie
 

@@ -1,126 +1,38 @@
--- `types::waste` meets its contract. The invariant: the bits so far and those of the rows left are the bits of all.
-use native.Mathlib.Omega.{arith}
+-- `types::waste` meets its contract: of a structure that is there, or 15.
 use borrow.Author.Needs.{needs}
-use Prim.Native.Nat.{ℕ, _-_, _*_}
-use mathlib.Core.Path.{ap}
-use Rattle.types.proofs.TemplateLaws.{row-inside}
-use Rattle.types.proofs.WasteLaws.{Counting, count-first, count-on, count-done, row-fitting}
+use mathlib.Core.Path.{sym, _∙_}
+use Rattle.types.specs.Waste.{wasteAt}
+use Rattle.types.proofs.ThereLaws.{kept-there, there-below}
 use Rattle.types.proofs.waste_bits.waste.Statement.{statement}
 use Rattle.types.proofs.waste_bits.waste.Tie as tie
 
-abbrev Inv-loop : tie.InvT-loop
-Inv-loop types members first n total bits₀ i₀ bits i = Counting types members first n bits i
+is-there-requires : tie.Need-is-there-requires
+is-there-requires c κs = search needs
 
-abbrev μ-loop : tie.MeasureT-loop
-μ-loop types members first n total bits₀ i₀ bits i = n - i
+type-row-requires : tie.Need-type-row-requires
+type-row-requires c κs = there-below _ _ (sym (c .before .is-there .ensures) ∙ c .if1 .taken)
 
-wide-requires : tie.Need-wide-requires Inv-loop μ-loop
-wide-requires c κs = search needs
+lost-bits-requires : tie.Need-lost-bits-requires
+lost-bits-requires c κs =
+    let start = c .before .before .before in
+    rw (c .type-row .ensures)
+    (kept-there (start .pre .kept) (start .args .n) (sym (c .before .before .is-there .ensures) ∙ c .before .if1 .taken)
+    .listable .rows)
 
-wide-requires-2 : tie.Need-wide-requires-2 Inv-loop μ-loop
-wide-requires-2 c κs = search needs
+returns : tie.Need-returns
+unfolding wasteAt
+returns c names =
+    let then1 = c .before .before in
+    rw (
+      c .lost-bits .ensures names,
+      c .before .type-row .ensures,
+      sym (then1 .before .is-there .ensures) ∙ then1 .if1 .taken,
+    )
 
-wide64-requires : tie.Need-wide64-requires Inv-loop μ-loop
-wide64-requires c κs = search needs
-
-mul-total : tie.Need-mul-total Inv-loop μ-loop
-mul-total c = search needs
-
-loop-holds : tie.Need-loop-holds Inv-loop μ-loop
-loop-holds c =
-    let at-first = c .before .before in
-    let at-start = at-first .before in
-    let a = at-start .args in
-    count-first (a .types .now) (a .members .now) (at-first .wide .result) (c .before .wide2 .result)
-
-add-member-row : tie.Need-add-member-row Inv-loop μ-loop
-add-member-row c =
-    let at-n = c .before .before .before in
-    let at-first = at-n .before in
-    let at-start = at-first .before in
-    let inside = row-inside (at-first .wide .ensures) (at-n .wide2 .ensures) (c .loop-test .taken)
-    (at-start .pre .rows) in
-    omega arith
-
-member-row-requires : tie.Need-member-row-requires Inv-loop μ-loop
-member-row-requires c κs =
-    let at-n = c .before .before .before in
-    let at-first = at-n .before in
-    let at-start = at-first .before in
-    row-inside (at-first .wide .ensures) (at-n .wide2 .ensures) (c .loop-test .taken)
-    (at-start .pre .rows)
-
-seen-bits-requires : tie.Need-seen-bits-requires Inv-loop μ-loop
-seen-bits-requires c κs =
-    let at-n = c .before .before .before .before in
-    let at-first = at-n .before in
-    let at-start = at-first .before in
-    rw (c .member-row .ensures)
-    (row-fitting (at-first .wide .ensures) (at-n .wide2 .ensures) (c .before .loop-test .taken) (at-start .pre))
-
-add-bits : tie.Need-add-bits Inv-loop μ-loop
-add-bits c =
-    let turn = c .before .before in
-    let at-loop = turn .before in
-    let at-n = at-loop .before .before in
-    let at-first = at-n .before in
-    let at-start = at-first .before in
-    let inside = row-inside (at-first .wide .ensures) (at-n .wide2 .ensures) (turn .loop-test .taken)
-    (at-start .pre .rows) in
-    omega (arith, at-loop .loop .inv .small, c .seen-bits .ensures .small)
-
-add-i : tie.Need-add-i Inv-loop μ-loop
-add-i c = search needs
-
-loop-less : tie.Need-loop-less Inv-loop μ-loop
-loop-less c = search needs
-
-loop-again : tie.Need-loop-again Inv-loop μ-loop
-loop-again c =
-    let turn = c .before .before in
-    let at-loop = turn .before in
-    count-on (at-loop .loop .inv) (turn .loop-test .taken)
-    (rw (c .before .member-row .ensures) at (c .seen-bits .ensures))
-
-returns : tie.Need-returns Inv-loop μ-loop
-returns c =
-    let at-loop = c .before .before in
-    let at-size = at-loop .before in
-    let at-n = at-size .before in
-    let at-first = at-n .before in
-    let at-start = at-first .before in
-    let done = count-done (at-loop .loop .inv) (at-start .args .d) (at-first .wide .ensures) (at-n .wide2 .ensures)
-    (ap (λ (x : ℕ). 8 * x) (at-size .wide64 .ensures)) (c .before .loop-test .left) in
-    λ names. omega (arith, done names, c .if1 .taken)
-
-returns-2 : tie.Need-returns-2 Inv-loop μ-loop
-returns-2 c =
-    let at-loop = c .before .before in
-    let at-size = at-loop .before in
-    let at-n = at-size .before in
-    let at-first = at-n .before in
-    let at-start = at-first .before in
-    let done = count-done (at-loop .loop .inv) (at-start .args .d) (at-first .wide .ensures) (at-n .wide2 .ensures)
-    (ap (λ (x : ℕ). 8 * x) (at-size .wide64 .ensures)) (c .before .loop-test .left) in
-    done
+returns-2 : tie.Need-returns-2
+unfolding wasteAt
+returns-2 c names = rw (sym (c .before .is-there .ensures) ∙ c .if1 .left)
 
 pub waste-spec : {M : Type 1} → statement M
 waste-spec =
-    tie.close
-    (tie.spec
-    Inv-loop
-    μ-loop
-    wide-requires
-    wide-requires-2
-    wide64-requires
-    mul-total
-    loop-holds
-    add-member-row
-    member-row-requires
-    seen-bits-requires
-    add-bits
-    add-i
-    loop-less
-    loop-again
-    returns
-    returns-2)
+    tie.close (tie.spec is-there-requires type-row-requires lost-bits-requires returns returns-2)

@@ -11,6 +11,7 @@ use Rattle.types.specs.Shape.{isThere}
 use Rattle.types.specs.Waste.{sizeIn, sizesIn}
 use Rattle.types.proofs.ShapeLaws.{there-fits}
 use Rattle.values.specs.Reading.{imageFits}
+use Rattle.values.proofs.KeptSweepable.{kept-sweepable}
 use Rattle.values.proofs.NormalisedLaws.{no-image, no-type, whole-normal}
 use borrow.Author.Needs.{needs}
 use Rattle.values.proofs.normals.normal.Statement.{statement}
@@ -84,7 +85,7 @@ normal-value-requires c κs =
     let at-start = at-else .before .before .before in
     let a = at-start .args in
     let same = at-size .as-size .ensures in (
-      at-start .pre,
+      kept-sweepable (at-start .pre),
       record {
         fits = there-fits (a .types .now) (a .ty) (there at-else);
         long = eqb-true (length (a .image .now)) (sizeIn (sizesIn (a .types .now)) (a .ty) * times (a .count))

@@ -11,6 +11,7 @@ use Rattle.types.specs.Shape.{isThere}
 use Rattle.types.specs.Waste.{sizeIn, sizesIn}
 use Rattle.types.proofs.ShapeLaws.{there-fits}
 use Rattle.values.specs.Reading.{imageFits}
+use Rattle.values.proofs.KeptWalkable.{kept-walkable}
 use Rattle.values.proofs.ReadingLaws.{answered, no-image, no-room, no-start, no-type}
 use borrow.Author.Needs.{needs}
 use Rattle.values.proofs.reading.read.Statement.{statement}
@@ -96,7 +97,7 @@ read-within-requires c κs =
     let a = at-start .args in
     let same = at-size .as-size .ensures in (
       (
-        at-start .pre,
+        kept-walkable (at-start .pre .kept),
         record {
           fits = there-fits (a .types .now) (a .ty) (there at-else);
           long = eqb-true (length (a .image .now)) (sizeIn (sizesIn (a .types .now)) (a .ty) * times (a .count))

@@ -1,5 +1,7 @@
 -- `values::text` meets its contract: the text's part of the image, or an empty part.
+use mathlib.Core.Path.{refl, sym, _∙_}
 use borrow.Author.Needs.{needs}
+use Rattle.values.proofs.KeptWalkable.{kept-walkable}
 use Rattle.values.proofs.StoredLaws.{stored-text, stored-none}
 use Rattle.values.proofs.stored.text.Statement.{statement}
 use Rattle.values.proofs.stored.text.Tie as tie
@@ -8,7 +10,9 @@ text-number-requires : tie.Need-text-number-requires
 text-number-requires c κs = search needs
 
 text-bytes-requires : tie.Need-text-bytes-requires
-text-bytes-requires c κs = search needs
+text-bytes-requires c κs =
+    let at-number = c .before in
+    (kept-walkable (at-number .before .before .pre .kept), sym (at-number .text-number .ensures) ∙ c .if1 .taken)
 
 add-end : tie.Need-add-end
 add-end c = search needs
@@ -25,7 +29,7 @@ part-result-end c = search needs
 returns : tie.Need-returns
 returns c =
     let then1 = c .before .before in
-    stored-text (then1 .before .text-number .ensures) (then1 .if1 .taken) (c .before .text-bytes .ensures)
+    stored-text (then1 .before .text-number .ensures) refl (then1 .if1 .taken) (c .before .text-bytes .ensures) refl
 
 sub-result-2 : tie.Need-sub-result-2
 sub-result-2 c = search needs
@@ -39,7 +43,7 @@ part-result-end-2 c = search needs
 returns-2 : tie.Need-returns-2
 returns-2 c =
     let else1 = c .before in
-    stored-none (else1 .before .text-number .ensures) (else1 .if1 .left)
+    stored-none (else1 .before .text-number .ensures) refl (else1 .if1 .left) refl
 
 pub text-spec : {M : Type 1} → statement M
 text-spec =

@@ -10,6 +10,7 @@ use Rattle.types.specs.Shape.{isThere}
 use Rattle.types.specs.Waste.{sizeIn, sizesIn}
 use Rattle.types.proofs.ShapeLaws.{there-fits}
 use Rattle.values.specs.Reading.{imageFits}
+use Rattle.values.proofs.KeptWalkable.{kept-walkable}
 use Rattle.values.proofs.WrittenLaws.{entered-done, no-image, no-stream, no-type}
 use borrow.Author.Needs.{needs}
 use Rattle.values.proofs.writing.write.Statement.{statement}
@@ -97,7 +98,7 @@ write-entries-requires c κs =
     let at-start = at-else .before .before .before .before in
     let a = at-start .args in
     let same = at-size .as-size .ensures in (
-      at-start .pre,
+      kept-walkable (at-start .pre .kept),
       (
         record {
           fits = there-fits (a .types .now) (a .ty) (there at-else);

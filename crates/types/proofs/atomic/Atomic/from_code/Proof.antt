@@ -10,14 +10,15 @@ use lib.Dec.{eqb}
 use lib.ListN.{drop}
 use Rattle.types.specs.declared.atomic.AtomicRow.{AtomicRow}
 use Rattle.types.specs.declared.atomic.FoundAtomic.the-variants.{Is}
-use Rattle.types.specs.Atomic.{atomics, rowOf, rowsOf, firstOf, codeOf, atomicCoded}
-use Rattle.types.proofs.AtomicLaws.{table-row, first-hit, first-miss, first-none}
+use Rattle.types.specs.Atomic.{atomics, rowOf, rowsOf, firstOf, codeOf, codeGiven, saidBy}
+use Rattle.types.proofs.AtomicLaws.{at-is, table-row, first-hit, first-miss, first-none, first-said}
 use Rattle.types.proofs.atomic.Atomic.from_code.Statement.{statement}
 use Rattle.types.proofs.atomic.Atomic.from_code.Tie as tie
 
 abbrev Inv-loop : tie.InvT-loop
 Inv-loop code rows i₀ i =
-    (i ≤ 15) × ((rows ≡ rowsOf atomics) × (atomicCoded code ≡ firstOf (λ a. eqb (codeOf a) code) (drop i atomics)))
+    (i ≤ 15) × ((rows ≡ rowsOf atomics)
+    × (codeGiven code ≡ saidBy (firstOf (λ a. eqb (codeOf a) code) (drop i atomics))))
 
 abbrev μ-loop : tie.MeasureT-loop
 μ-loop code rows i₀ i = 15 - i
@@ -26,8 +27,8 @@ table-requires : tie.Need-table-requires Inv-loop μ-loop
 table-requires c κs = search needs
 
 loop-holds : tie.Need-loop-holds Inv-loop μ-loop
-unfolding atomicCoded
-loop-holds c = (omega arith, (c .table .ensures, refl))
+unfolding codeGiven
+loop-holds c = (omega arith, (c .table .ensures, sym (first-said _ atomics)))
 
 mul-row : tie.Need-mul-row Inv-loop μ-loop
 mul-row c = search needs
@@ -47,9 +48,9 @@ returns c =
     let at-loop = c .before .before .before .before .before in
     let l = at-loop .loop in
     let e = ap (λ (r : AtomicRow). r .0) (table-row _ (l .i) _ (l .inv .1 .0) (omega arith)) in
-    ap Is (c .at .ensures)
+    ap saidBy (ap Is (at-is _ _ (c .at .ensures))
     ∙ first-hit (λ a. eqb (codeOf a) (at-loop .before .before .args .code)) (l .i) (omega arith) true
-    (sym (eq-eqb _ _ (sym e ∙ c .before .if1 .taken))) refl
+    (sym (eq-eqb _ _ (sym e ∙ c .before .if1 .taken))) refl)
     ∙ sym (l .inv .1 .1)
 
 add-i : tie.Need-add-i Inv-loop μ-loop
@@ -68,15 +69,16 @@ loop-again c =
       next,
       (
         l .inv .1 .0,
-        l .inv .1 .1 ∙ first-miss (λ a. eqb (codeOf a) (at-loop .before .before .args .code)) (l .i) (omega arith) false
-            (sym (ne-eqb _ _ (λ q. c .if1 .left (e ∙ q)))) refl,
+        l .inv .1 .1
+            ∙ ap saidBy (first-miss (λ a. eqb (codeOf a) (at-loop .before .before .args .code)) (l .i) (omega arith)
+            false (sym (ne-eqb _ _ (λ q. c .if1 .left (e ∙ q)))) refl),
       ),
     )
 
 returns-2 : tie.Need-returns-2 Inv-loop μ-loop
 returns-2 c =
     let l = c .before .loop in
-    first-none _ (l .i) (omega arith) (omega arith) ∙ sym (l .inv .1 .1)
+    ap saidBy (first-none _ (l .i) (omega arith) (omega arith)) ∙ sym (l .inv .1 .1)
 
 pub from-code-spec : {M : Type 1} → statement M
 from-code-spec =

@@ -7,10 +7,11 @@ use mathlib.Core.Path.{_≡_, refl, sym, ap, _∙_}
 use mathlib.Core.List.{List}
 use lib.ListN.{drop}
 use lib.Seq.{length-take-le}
-use Rattle.types.specs.Atomic.{atomics, atomicAt, rowsOf, firstOf, nameOf, atomicNamed}
+use Rattle.types.specs.Atomic.{atomics, atomicAt, rowsOf, firstOf, nameOf, atomicNamed, saidBy}
 use Rattle.types.specs.Names.{sameName}
 use Rattle.types.specs.declared.atomic.FoundAtomic.the-variants.{Is}
-use Rattle.types.proofs.AtomicLaws.{table-row, row-name, row-long, first-hit, first-miss, first-none}
+use Rattle.types.proofs.AtomicLaws.{at-is, table-row, row-name, row-long}
+use Rattle.types.proofs.AtomicLaws.{first-hit, first-miss, first-none, named-said}
 use Rattle.types.proofs.atomic.Atomic.from_name.Statement.{statement}
 use Rattle.types.proofs.atomic.Atomic.from_name.Tie as tie
 
@@ -60,11 +61,11 @@ returns c =
     let l = at-loop .loop in
     let name = at-loop .before .before .before .args .name .now in
     let row = table-row _ (l .i) _ (l .inv .1 .0) (omega arith) in
-    ap Is (c .at .ensures)
+    ap saidBy (ap Is (at-is _ _ (c .at .ensures))
     ∙ first-hit (λ a. sameName (nameOf a) name) (l .i) (omega arith) _
     (same .same-name .ensures ∙ ap (λ (s : List ℕ). sameName s name) (row-name (atomicAt (l .i)) _ row))
     (c .before .if1 .taken)
-    ∙ sym (l .inv .1 .1)
+    ∙ sym (l .inv .1 .1)) ∙ named-said name
 
 add-i : tie.Need-add-i Inv-loop μ-loop
 add-i c = omega arith
@@ -92,7 +93,7 @@ loop-again c =
 returns-2 : tie.Need-returns-2 Inv-loop μ-loop
 returns-2 c =
     let l = c .before .loop in
-    first-none _ (l .i) (omega arith) (omega arith) ∙ sym (l .inv .1 .1)
+    ap saidBy (first-none _ (l .i) (omega arith) (omega arith) ∙ sym (l .inv .1 .1)) ∙ named-said _
 
 pub from-name-spec : {M : Type 1} → statement M
 from-name-spec =

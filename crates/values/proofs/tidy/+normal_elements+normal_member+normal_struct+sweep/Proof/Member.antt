@@ -13,7 +13,7 @@ use Rattle.types.proofs.member_row.Reads as member-row-reads
 use Rattle.words.proofs.wide.Reads as wide-reads
 use Rattle.values.proofs.sets.clear.Reads as clear-reads
 use Rattle.values.proofs.norms.normal_atomics.Reads as normal-atomics-reads
-use Rattle.values.proofs.numbers.size_of.Reads as size-of-reads
+use Rattle.types.proofs.size_of.Reads as size-of-reads
 use Rattle.values.proofs.rows.times_of.Reads as times-of-reads
 use Rattle.values.proofs.rows.struct_size.Reads as struct-size-reads
 use Rattle.values.proofs.tidy.normal_struct.Reads as struct-reads
@@ -61,7 +61,7 @@ module _ (t : ℕ) where
       let read = at-offset .before in
       let p = read .before .before .pre .1 in
       record {
-        standing = p .0;
+        sweepable = p .0;
         row-of = p .1 .0;
         here = p .1 .1;
         is = read .member-row .ensures;

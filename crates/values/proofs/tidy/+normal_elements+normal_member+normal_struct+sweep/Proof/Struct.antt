@@ -5,7 +5,7 @@ use native.Mathlib.Omega.{arith}
 use borrow.Author.Needs.{needs}
 use borrow.Fn.Kinds.{In, Out}
 use Rattle.values.proofs.SettingLaws.{text-rows}
-use Rattle.values.proofs.StandingLaws.{standing-walkable}
+use Rattle.values.proofs.SweepableLaws.{sweepable-walkable}
 use Rattle.values.proofs.StructSteps.{here-after, members-made, rows-few, rows-here, string-fits, string-made}
 use Rattle.types.proofs.type_row.Reads as type-row-reads
 use Rattle.words.proofs.wide.Reads as wide-reads
@@ -62,7 +62,7 @@ module _ (t : ℕ) where
       let at-first = at-string .before .before in
       let at-type = at-first .before in
       let p = at-type .before .before .pre .1 in
-      text-rows (standing-walkable (p .0)) (p .1) (at-type .type-row .ensures) (at-string .is-string .ensures)
+      text-rows (sweepable-walkable (p .0)) (p .1) (at-type .type-row .ensures) (at-string .is-string .ensures)
       (c .if1 .taken) (at-first .wide .ensures)
 
   normal-text-requires : so lts.Need-normal-text-requires

@@ -81,7 +81,7 @@ module _ (t : ℕ) where
       let start = in-loop .before .before .before .before .before .before in (
         omega (arith, start .pre .0),
         (
-          v .standing,
+          v .sweepable,
           (
             sweep-plain v (in-loop .loop-test .taken) (sym (at-plain .is-plain .ensures) ∙ then1 .if1 .taken),
             sweep-here v,

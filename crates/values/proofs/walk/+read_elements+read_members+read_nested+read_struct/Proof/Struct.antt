@@ -52,8 +52,9 @@ struct-put-text-requires t c κs =
     let start = read .before .before .before in (
       string-fits (start .pre .1 .0 .0) (start .pre .1 .0 .1) (read .type-row .ensures) (test .is-string .ensures)
           (taken .if1 .taken) (wide .wide .ensures) (capacity .capacity-at .ensures),
-      room-as (string-is (start .pre .1 .0 .0) (start .pre .1 .0 .1) (read .type-row .ensures) (test .is-string .ensures)
-          (taken .if1 .taken) (wide .wide .ensures) (capacity .capacity-at .ensures)) (start .pre .1 .1),
+      room-as (string-is (start .pre .1 .0 .0) (start .pre .1 .0 .1) (read .type-row .ensures)
+          (test .is-string .ensures) (taken .if1 .taken) (wide .wide .ensures) (capacity .capacity-at .ensures))
+          (start .pre .1 .1),
     )
 
 struct-returns : (t : ℕ) → struct-lts.Need-returns (struct-claims t) (measures.struct-at t) struct.Post

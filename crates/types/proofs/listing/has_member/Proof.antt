@@ -1,0 +1,30 @@
+-- `types::has_member` meets its contract.
+use borrow.Author.Needs.{needs}
+use mathlib.Core.Path.{sym, _∙_}
+use Rattle.types.specs.Listing.{hasMember}
+use Rattle.types.proofs.ThereLaws.{there-below}
+use Rattle.types.proofs.listing.has_member.Statement.{statement}
+use Rattle.types.proofs.listing.has_member.Tie as tie
+
+is-there-requires : tie.Need-is-there-requires
+is-there-requires c κs = search needs
+
+type-row-requires : tie.Need-type-row-requires
+type-row-requires c κs = there-below _ _ (sym (c .before .is-there .ensures) ∙ c .if1 .taken)
+
+wide-requires : tie.Need-wide-requires
+wide-requires c κs = search needs
+
+returns : tie.Need-returns
+unfolding hasMember
+returns c =
+    let then1 = c .before .before in
+    rw (c .wide .ensures, c .before .type-row .ensures, sym (then1 .before .is-there .ensures) ∙ then1 .if1 .taken)
+
+returns-2 : tie.Need-returns-2
+unfolding hasMember
+returns-2 c = rw (sym (c .before .is-there .ensures) ∙ c .if1 .left)
+
+pub has-member-spec : {M : Type 1} → statement M
+has-member-spec =
+    tie.close (tie.spec is-there-requires type-row-requires wide-requires returns returns-2)

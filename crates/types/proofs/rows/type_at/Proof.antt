@@ -1,0 +1,22 @@
+-- `types::type_at` meets its contract: what was read says its row's words.
+use borrow.Author.Needs.{needs}
+use mathlib.Core.Path.{ap, _∙_}
+use Rattle.types.specs.Tables.{typeRow}
+use Rattle.types.proofs.RowWords.{type-said}
+use Rattle.types.proofs.rows.type_at.Statement.{statement}
+use Rattle.types.proofs.rows.type_at.Tie as tie
+
+type-row-requires : tie.Need-type-row-requires
+type-row-requires c κs = search needs
+
+returns : tie.Need-returns
+returns c = ap typeRow (c .type-row .ensures) ∙ type-said _ _
+
+type-past-requires : tie.Need-type-past-requires
+type-past-requires c κs = search needs
+
+returns-2 : tie.Need-returns-2
+returns-2 c = ap typeRow (c .type-past .ensures) ∙ type-said _ _
+
+pub type-at-spec : {M : Type 1} → statement M
+type-at-spec = tie.close (tie.spec type-row-requires returns type-past-requires returns-2)

@@ -1,0 +1,76 @@
+-- Trees whose branches share no bit (document 01, "Layout", "Normal image"), and what demand 3's theorems and the walk
+-- that makes an image normal ask of the tables. Tables as our own calls left them are so.
+use Prim.Native.Nat.{ℕ, suc, _+_, _*_, _<_, _≤_}
+use mathlib.Core.Bool.{Bool, true, false}
+use mathlib.Core.List.{List, [], _∷_}
+use mathlib.Core.Logic.{_⊎_}
+use Rattle.types.specs.Laid.{firstBit}
+use Rattle.types.specs.Tables.{typeAt}
+use Rattle.types.specs.Waste.{sizesIn}
+use Rattle.types.specs.declared.member.Member.{Member}
+use Rattle.values.specs.InPlace.{isPlain, pastTree}
+use Rattle.values.specs.Leaf.{Leaf, flag, byte, int, word, str}
+use Rattle.values.specs.Rows.{memberTree, treeIn}
+use Rattle.values.specs.Tree.{Tree, leaf, bits, array, struct, Branches, none, branch, span}
+use Rattle.values.specs.Trees.{membersAt}
+use Rattle.values.specs.Walkable.{Walkable}
+
+-- ---- trees
+
+-- the leaves that types have
+abbrev pub Good : Leaf → Type 0
+Good flag = Unit {0}
+Good byte = Unit {0}
+Good (int n) = (1 ≤ n) × (n ≤ 64)
+Good (word kind n) = (3 ≤ kind) × (kind ≤ 5)
+Good (str c) = Unit {0}
+
+-- no branch has a bit among n bits from o on
+abbrev pub Clear : ℕ → ℕ → Branches → Type 0
+Clear o n none = Unit {0}
+Clear o n (branch j q t bs) = ((o + n ≤ q) ⊎ (q + span t ≤ o)) × Clear o n bs
+
+-- each branch's number is larger than that of the one before
+abbrev pub Numbered : ℕ → Branches → Type 0
+Numbered low none = Unit {0}
+Numbered low (branch j o t bs) = (low ≤ j) × Numbered (suc j) bs
+
+unfoldable mutual
+  pub Placed : Tree → Type 0
+  Placed (leaf l) = Good l
+  Placed (bits w n) = Unit {0}
+  Placed (array n t) = Placed t
+  Placed (struct size bs) = AllPlaced size bs × Numbered 0 bs
+
+  -- the branches lie inside the size and share no bit
+  pub AllPlaced : ℕ → Branches → Type 0
+  AllPlaced size none = Unit {0}
+  AllPlaced size (branch j o t bs) = Placed t × ((o + span t ≤ size) × (Clear o (span t) bs × AllPlaced size bs))
+
+-- ---- a structure's plain members
+
+-- one of two claims
+abbrev pub If : Bool → Type 0 → Type 0 → Type 0
+If true A B = A
+If false A B = B
+
+-- the plain members from bit c on stand one after another, up to the size
+module _ (trees : ℕ → Tree) (size : ℕ) where
+  unfoldable pub Stairs : List Member → ℕ → Type 0
+  Stairs [] c = c ≤ size
+  Stairs (m ∷ ms) c =
+      If (isPlain m) ((c ≤ firstBit m) × (Placed (memberTree trees m) × Stairs ms (pastTree trees m))) (Stairs ms c)
+
+-- ---- tables
+
+-- they can be walked, and no two members of a structure share a bit
+pub record Disjoint (types members : List ℕ) : Type 0 where
+  pub walkable : Walkable types members
+  pub placed : (i : ℕ) → i < 200 → Placed (treeIn types members i)
+
+-- and the plain members of a structure stand in the order of their rows, so that one sweep over them comes to all
+pub record Sweepable (types members : List ℕ) : Type 0 where
+  pub disjoint : Disjoint types members
+  pub stairs : (i : ℕ) → i < 200
+      → Stairs (treeIn types members) (8 * sizesIn types i)
+      (membersAt members (typeAt types i .first) (typeAt types i .count)) 0
