@@ -5,7 +5,7 @@ use native.Mathlib.Omega.{arith}
 use mathlib.Core.Path.{_≡_, refl, sym, ap, _∙_}
 use mathlib.Core.Bool.{Bool, true, false, _&&_}
 use mathlib.Core.List.{List, _++_}
-use borrow.Author.Tests.{ltb-true, leb-true}
+use borrow.Author.Tests.{ltb-true, leb-true, le-leb}
 use lib.Dec.{leb, ltb}
 use lib.ListN.{length, getD}
 use lib.Seq.{sets}
@@ -20,7 +20,7 @@ use Rattle.types.specs.declared.refusal.Refusal.the-variants.{TablesFull
 use Rattle.types.specs.declared.used.Turn.{Turn}
 use Rattle.types.specs.declared.used.Turn.the-variants.{Refused, Added}
 use Rattle.types.specs.declared.used.Used.{Used}
-use Rattle.types.specs.Add.{Verdict, no, hasRoom, newDef, fitted, Took, Usable, Declared}
+use Rattle.types.specs.Add.{Verdict, no, yes, hasRoom, newDef, fitted, Took, Usable, Ready, Declared}
 use Rattle.types.specs.Defs.{Part, Def, Readable}
 use Rattle.types.specs.Entries.{declAt, declsFrom, resolved, Found}
 use Rattle.types.specs.Handle.{handleOf}
@@ -32,6 +32,7 @@ use Rattle.types.specs.Template.{templateIn}
 use Rattle.types.proofs.AddLaws.{Able, row-same, fitted-no, fitted-yes}
 use Rattle.types.proofs.DefLaws.{PartFits, earlier-fits, head-readable}
 use Rattle.types.proofs.FoundLaws.{decl-resolved, all-named}
+use Rattle.types.proofs.RoomLaws.{room-bytes}
 use Rattle.types.proofs.TestLaws.{and-left, and-right}
 
 -- ---- the declared members
@@ -124,6 +125,9 @@ module _ (types members names : List ℕ) (u : Used) {name : List ℕ} {parts : 
       (record { is = refl; types = refl; members = refl; names = refl })
 
   module _ (q : r ≡ true) where
+    pub stored-yes : (i : ℕ) → fitted (viewIn types names u) i new ≡ yes new
+    stored-yes i = fitted-yes types members names u name id size kind parts i r room q
+
     pub stored-room : Roomy u count long
     stored-room = roomy u count long (sym q ∙ e)
 
@@ -159,6 +163,32 @@ module _ (types members names : List ℕ) (u : Used) {name : List ℕ} {parts : 
             members = em;
             names = en′;
           })
+
+-- a type for which the tables are ready is stored: its name, parts and row
+module _ (types members names : List ℕ) (u : Used) {name : List ℕ} {parts : List Part} {k l : ℕ}
+    (p : Counted name parts (u .types) k l) (id size : ℕ) (kind : StructKind) (ready : Ready types members names u k l) where
+  ready-room : true ≡ hasRoom u k l
+  ready-room =
+      sym (le-leb (u .bytes + l) 32768 (ready .bytes)) ∙ room-bytes u k l (ready .few) (ready .rows)
+
+  pub new-readable : Readable (sets members (8 * u .members) (rowsOf (u .bytes + length name) parts))
+      (bareHead u (length name) id size kind k)
+  new-readable =
+      stored-readable types members names u p id size kind ready-room refl (ready .usable) (ready .members)
+
+  pub new-took : {t′ m′ n′ : List ℕ} {r : Used}
+      → m′ ≡ sets members (8 * u .members) (rowsOf (u .bytes + length name) parts)
+      → n′ ≡ sets (sets names (u .bytes) name) (u .bytes + length name) (namesOf parts)
+      → t′ ≡ sets types (8 * u .types) (typeRow (withHandle (bareHead u (length name) id size kind k)
+      (handleOf (templateIn types m′ n′ (bareHead u (length name) id size kind k)))))
+      → r ≡ usedWith u k l
+      → Took (yes (newDef (viewIn types names u) name id size kind parts)) u types members names t′ m′ n′ (Added r)
+  new-took em en et er =
+      let took = stored-took types members names u p id size kind ready-room refl (ready .usable) (ready .members) 0
+      (ready .names) em en et in
+      let yes-room : true ≡ hasRoom u (length parts) (length (name ++ namesOf parts)) =
+      rw (p .count, p .long) ready-room in
+      rw er (rw (fitted-yes types members names u name id size kind parts 0 _ yes-room refl) at took)
 
 -- a refusal was answered, and nothing stored
 pub took-no : {s : Verdict} {u : Used} (r : Refusal) (types members names : List ℕ) → s ≡ no (whyOf r)

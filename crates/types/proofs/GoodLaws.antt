@@ -34,7 +34,7 @@ use Rattle.types.proofs.PartLaws.{Formed, PartFormed}
 use Rattle.types.proofs.ProperLaws.{FirstFour}
 use Rattle.types.proofs.RegistryLaws.{names-long, word-after}
 use Rattle.types.proofs.RoundsKeep.{Good}
-use Rattle.types.proofs.ShownLaws.{noDef, Row, name-same, sizes-same, names-inside, all-readable}
+use Rattle.types.proofs.ShownLaws.{noDef, Row, name-same, sizes-same, names-inside, row-readable}
 use Rattle.types.proofs.StringLaws.{StringRow, string-bytes}
 use Rattle.types.proofs.TemplateLaws.{parts-long}
 use Rattle.types.proofs.WellLaws.{sizesOf, laid-same}
@@ -184,7 +184,7 @@ module _ (ds : List Def) (g : Good ds) where
     pub good-countable : Countable types members (typeAt types i)
     good-countable =
         record {
-          rows = all-readable ds (g .shown) i (omega (arith, g .shown .few)) good-used;
+          rows = row-readable ds (g .shown) i l;
           small = rw (r .head)
               (λ k h b. small (memberAt members (r .row + k)) (drop (suc k) (d .parts))
               (rw (member-is k h) (part-lies (sizesIn types) i (d .size) noPart (d .parts) k def-laid h)) b);

@@ -16,7 +16,7 @@ use Rattle.types.specs.declared.member.StructDef.{StructDef}
 use Rattle.types.specs.declared.member.StructKind.the-variants.{Predefined, Str}
 use Rattle.types.specs.declared.predefined.PredefinedIds.{PredefinedIds}
 use Rattle.types.specs.Build.{buildOf, Ended}
-use Rattle.types.specs.Defs.{Def, AllReadable, partsAt}
+use Rattle.types.specs.Defs.{Def, partsAt}
 use Rattle.types.specs.Kept.{Made, none, built, Kept}
 use Rattle.types.specs.Laid.{Laid}
 use Rattle.types.specs.Listing.{Listable}
@@ -35,7 +35,7 @@ use Rattle.types.proofs.GoodLaws.{good-used, good-id, good-kind, good-f
 use Rattle.types.proofs.GoodLaws.{good-string, good-unused, good-ids-apart, good-names-apart}
 use Rattle.types.proofs.ProperLaws.{FirstFour, proper-none}
 use Rattle.types.proofs.RoundsKeep.{Good, predefined-begun, rounds-begun}
-use Rattle.types.proofs.ShownLaws.{shown-none, all-readable, ids-fit}
+use Rattle.types.proofs.ShownLaws.{shown-none, ids-fit}
 use Rattle.types.proofs.StringLaws.{StringRow}
 use Rattle.types.proofs.UniqueLaws.{unlike-none}
 use Rattle.types.proofs.VisibleLaws.{visible-inside}
@@ -108,11 +108,7 @@ module _ {types members names : List ℕ} (k : Kept types members names) where
   good : Good (k .defs)
   good = made-good (k .defs) (k .made)
 
-  -- the rows and names of every type lie inside the tables
-  pub kept-readable : AllReadable types members
-  kept-readable = rw (k .rows, k .parts) (all-readable (k .defs) (good .shown))
-
-  -- so do the names of all types there are
+  -- the names of all types there are lie inside the table
   pub kept-inside : NamesInside types names (typeCount types)
   kept-inside = rw (k .rows, k .bytes) (good-inside (k .defs) good)
 

@@ -1,42 +1,37 @@
 -- Laws of the predefined types (document 01, "Layout", Predefined; "Order of building"): the tests of their ids, their
 -- parts can be stored and read back, each is added to the earlier ones, and the tables show all four.
-use Prim.Native.Nat.{ℕ, _+_, _*_, _/_, _<_, _≤_}
+use Prim.Native.Nat.{ℕ, _+_, _/_, _<_, _≤_}
 use native.Mathlib.Omega.{arith}
-use mathlib.Core.Path.{_≡_, refl, sym, _∙_}
+use mathlib.Core.Path.{_≡_, refl}
 use mathlib.Core.Bool.{true, false, not, and-eq-true-iff}
 use mathlib.Core.List.{List, [], _∷_, _++_}
 use borrow.Author.Tests.{le-leb, lt-leb, leb-true, eq-eqb, ne-eqb}
 use lib.Dec.{eqb, leb}
 use lib.ListN.{length}
-use lib.Seq.{sets}
 use Rattle.words.specs.Words.{part}
 use Rattle.types.specs.declared.member.StructKind.{StructKind}
 use Rattle.types.specs.declared.member.StructKind.the-variants.{Predefined, Str}
 use Rattle.types.specs.declared.predefined.PredefinedIds.{PredefinedIds}
 use Rattle.types.specs.declared.used.Turn.the-variants.{Added}
 use Rattle.types.specs.declared.used.Used.{Used}
-use Rattle.types.specs.Add.{yes, hasRoom, newDef, Took}
-use Rattle.types.specs.Defs.{Part, Def, Readable}
-use Rattle.types.specs.Handle.{handleOf}
+use Rattle.types.specs.Add.{yes, newDef, Took, Ready}
+use Rattle.types.specs.Defs.{Part, Def}
 use Rattle.types.specs.Laid.{Every}
-use Rattle.types.specs.Predefined.{predefinedId, distinct, predefinedIds, added, Ready, ControlReady}
+use Rattle.types.specs.Predefined.{predefinedId, distinct, predefinedIds, added, ControlReady}
 use Rattle.types.specs.Predefined.{withTimer, withCounter, withControl, predefined}
 use Rattle.types.specs.Predefined.{timerName, counterName, controlName, stringName}
-use Rattle.types.specs.Registry.{viewIn, viewOf, membersOf, bytesOf, bareHead, withHandle, usedWith}
+use Rattle.types.specs.Registry.{viewIn, viewOf, membersOf, bytesOf}
 use Rattle.types.specs.Registry.{noTypes, noMembers, noNames, typeRows, memberRows, Stands}
 use Rattle.types.specs.Registry.{typesTable, membersTable, namesTable}
-use Rattle.types.specs.Structs.{namesOf, rowsOf, statusParts, controlParts, stringParts, stringSize}
+use Rattle.types.specs.Structs.{namesOf, statusParts, controlParts, stringParts, stringSize}
 use Rattle.types.specs.Structs.{timerParts, counterParts, controlTypeParts, controlOf, pairs}
-use Rattle.types.specs.Tables.{typeRow}
-use Rattle.types.specs.Template.{userId, templateIn}
-use Rattle.types.proofs.AddLaws.{fitted-yes}
+use Rattle.types.specs.Template.{userId}
 use Rattle.types.proofs.AddLaidLaws.{string-counted}
-use Rattle.types.proofs.AddStoreLaws.{Counted, stored-readable, stored-took}
+use Rattle.types.proofs.AddStoreLaws.{Counted}
 use Rattle.types.proofs.DefLaws.{PartFits}
 use Rattle.types.proofs.HandleLaws.{handle-small}
 use Rattle.types.proofs.RegistryLaws.{length-snoc, members-of-snoc, long-snoc, members-long, names-long}
 use Rattle.types.proofs.RegistryLaws.{stands-more}
-use Rattle.types.proofs.RoomLaws.{room-bytes}
 use Rattle.types.proofs.ShownLaws.{Shown, Fits, shown-none, shown-more, view-same, names-inside, ids-small}
 
 -- ---- the ids, one test after the other
@@ -368,30 +363,3 @@ ready-for {ds} b s f r g =
       rows = omega (arith, b .rows);
       bytes = omega (arith, b .long);
     }
-
--- a type's name, parts and row are stored
-module _ (types members names : List ℕ) (u : Used) {name : List ℕ} {parts : List Part} {k l : ℕ}
-    (p : Kept name parts k l) (id size : ℕ) (kind : StructKind) (ready : Ready types members names u k l) where
-  room : true ≡ hasRoom u k l
-  room =
-      sym (le-leb (u .bytes + l) 32768 (ready .bytes)) ∙ room-bytes u k l (ready .few) (ready .rows)
-
-  pub new-readable : Readable (sets members (8 * u .members) (rowsOf (u .bytes + length name) parts))
-      (bareHead u (length name) id size kind k)
-  new-readable =
-      stored-readable types members names u (p (u .types)) id size kind room refl (ready .usable) (ready .members)
-
-  pub new-took : {t′ m′ n′ : List ℕ} {r : Used}
-      → m′ ≡ sets members (8 * u .members) (rowsOf (u .bytes + length name) parts)
-      → n′ ≡ sets (sets names (u .bytes) name) (u .bytes + length name) (namesOf parts)
-      → t′ ≡ sets types (8 * u .types) (typeRow (withHandle (bareHead u (length name) id size kind k)
-      (handleOf (templateIn types m′ n′ (bareHead u (length name) id size kind k)))))
-      → r ≡ usedWith u k l
-      → Took (yes (newDef (viewIn types names u) name id size kind parts)) u types members names t′ m′ n′ (Added r)
-  new-took em en et er =
-      let counted = p (u .types) in
-      let took = stored-took types members names u counted id size kind room refl (ready .usable) (ready .members) 0
-      (ready .names) em en et in
-      let yes-room : true ≡ hasRoom u (length parts) (length (name ++ namesOf parts)) =
-      rw (counted .count, counted .long) room in
-      rw er (rw (fitted-yes types members names u name id size kind parts 0 _ yes-room refl) at took)

@@ -14,7 +14,7 @@ use Rattle.words.proofs.Lists.{getD-sets, getD-beside, part-beside}
 use Rattle.types.specs.declared.member.StructDef.{StructDef}
 use Rattle.types.specs.declared.member.StructKind.the-variants.{Udt}
 use Rattle.types.specs.Book.{listFrom}
-use Rattle.types.specs.Defs.{Def, defOf, Readable, AllReadable}
+use Rattle.types.specs.Defs.{Def, defOf, Readable}
 use Rattle.types.specs.Ids.{idWord}
 use Rattle.types.specs.Laid.{Every}
 use Rattle.types.specs.Lookup.{rowName, NamesInside}
@@ -284,21 +284,17 @@ ids-fit ds s n l = go (decLt n (length ds))
     go (yes h) = rw (s .rows n h .head) (s .rows n h .id)
     go (no h) = omega (arith, s .unused n (omega (arith, h)))
 
--- the rows of every type in use can be read
-row-readable : (ds : List Def) → Shown ds → (i : ℕ) (d : Def) → i < length ds → (r : Row ds i d)
-    → Readable (membersTable ds) (headOf (r .at) (r .row) d)
-row-readable ds s i d l r =
+-- the row of a type can be read
+pub row-readable : (ds : List Def) → Shown ds → (i : ℕ) → i < length ds
+    → Readable (membersTable ds) (typeAt (typesTable ds) i)
+row-readable ds s i l =
+    let d = getD ds i noDef in
+    let r = s .rows i l in
     let long = length-append (d .name) (namesOf (d .parts)) in
-    record {
+    rw (r .head)
+    (record {
       name = omega (arith, r .bytes, s .bytes);
       rows = omega (arith, r .rows, s .members);
       names = λ k o. omega (arith, r .within k o .name, r .bytes, s .bytes);
       types = λ k o. within-fits (omega (arith, s .few)) (r .within k o);
-    }
-
-pub all-readable : (ds : List Def) → Shown ds → AllReadable (typesTable ds) (membersTable ds)
-all-readable ds s i few used = go (decLt i (length ds))
-  where
-    go : Dec (i < length ds) → Readable (membersTable ds) (typeAt (typesTable ds) i)
-    go (yes h) = rw (s .rows i h .head) (row-readable ds s i (getD ds i noDef) h (s .rows i h))
-    go (no h) = absurd (used (s .unused i (omega (arith, h))))
+    })

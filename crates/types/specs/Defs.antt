@@ -1,14 +1,13 @@
 -- A structure with everything that a caller may ask of it, and the structure that the tables hold at a row: its name
 -- and the names of its members as bytes, its members as values.
 use Prim.Native.Nat.{ℕ, zero, suc, _+_, _<_, _≤_}
-use mathlib.Core.Path.{_≡_}
 use mathlib.Core.List.{List, [], _∷_}
 use Rattle.words.specs.Words.{part}
 use Rattle.types.specs.declared.member.Member.{Member}
 use Rattle.types.specs.declared.member.Span.{Span}
 use Rattle.types.specs.declared.member.StructDef.{StructDef}
 use Rattle.types.specs.declared.member.StructKind.{StructKind}
-use Rattle.types.specs.Tables.{TyFits, memberAt, nameAt, typeAt}
+use Rattle.types.specs.Tables.{TyFits, memberAt, nameAt}
 
 -- a member with its name
 pub record Part : Type 0 where
@@ -54,7 +53,3 @@ pub record Readable (members : List ℕ) (d : StructDef) : Type 0 where
   pub rows : d .first + d .count ≤ 2000
   pub names : (k : ℕ) → k < d .count → nameAt members (d .first + k) .at + nameAt members (d .first + k) .long ≤ 32768
   pub types : (k : ℕ) → k < d .count → TyFits (memberAt members (d .first + k) .ty)
-
--- and that of every structure in use
-abbrev pub AllReadable : List ℕ → List ℕ → Type 0
-AllReadable types members = (i : ℕ) → i < 200 → (typeAt types i .id ≡ 0 → ⊥) → Readable members (typeAt types i)

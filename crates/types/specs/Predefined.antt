@@ -1,6 +1,6 @@
 -- The predefined types (document 01, "Layout", Predefined; "Order of building"; "What is ported": their ids): TIMER,
 -- COUNTER, CONTROL and STRING, added one after the other before the book's types, under the ids that the caller gives.
-use Prim.Native.Nat.{ℕ, _+_, _/_, _<_, _≤_}
+use Prim.Native.Nat.{ℕ, _+_, _/_, _≤_}
 use mathlib.Core.Path.{_≡_}
 use mathlib.Core.Bool.{Bool, not, _&&_}
 use mathlib.Core.List.{List, [], _∷_, _++_}
@@ -10,7 +10,7 @@ use Rattle.types.specs.declared.member.StructKind.{StructKind}
 use Rattle.types.specs.declared.member.StructKind.the-variants.{Predefined, Str}
 use Rattle.types.specs.declared.predefined.PredefinedIds.{PredefinedIds}
 use Rattle.types.specs.declared.used.Used.{Used}
-use Rattle.types.specs.Add.{newDef, Usable}
+use Rattle.types.specs.Add.{newDef, Ready}
 use Rattle.types.specs.Defs.{Part, Def}
 use Rattle.types.specs.Registry.{viewOf}
 use Rattle.types.specs.Structs.{namesOf, timerParts, counterParts, controlTypeParts, controlOf, stringParts}
@@ -69,16 +69,7 @@ predefined ids = added (withControl ids) stringName (ids .string) (stringSize 82
 
 -- ---- in the tables
 
--- what a type with so many members and bytes of names asks of the tables
-pub record Ready (t m n : List ℕ) (u : Used) (parts long : ℕ) : Type 0 where
-  pub usable : Usable t n u
-  pub members : length m ≡ 16000
-  pub names : length n ≡ 32768
-  pub few : u .types < 200
-  pub rows : u .members + parts ≤ 2000
-  pub bytes : u .bytes + long ≤ 32768
-
--- and a control type with that name, and those names of its words and its bits
+-- what a control type with that name, and those names of its words and its bits, asks of the tables
 pub record ControlReady (t m n : List ℕ) (u : Used) (name words bits : List ℕ) : Type 0 where
   pub ready : Ready t m n u (3 + length bits / 2) (length name + 9 + length bits)
   pub two : length words ≡ 6

@@ -2,7 +2,7 @@
 // member 2, 8, 9; then its layout, and 13.
 ghost use mathlib.Core.Path.{_≡_};
 ghost use Prim.Native.Nat.{_<_};
-ghost use Rattle.types.specs.Add.{addMembers, addNamed, addFresh, addEntry, isAoi, isString, hasId, stringOk};
+ghost use Rattle.types.specs.Add.{addMembers, addNamed, addEntry, isAoi, isString, hasId, stringOk};
 ghost use Rattle.types.specs.Add.{Took, Addable, AddableEntry};
 ghost use Rattle.types.specs.Entries.{declsFrom};
 ghost use Rattle.types.specs.Registry.{viewIn};
@@ -123,11 +123,10 @@ fn add_named(
         (now (types .entry)) (now (members .entry)) (now (names .entry))
         (now (types .exit)) (now (members .exit)) (now (names .exit)) r ⌝ }
 {
-    let e = w.entry;
     let used = w.used;
-    let string = is_string(e);
-    let count = count_of(e.count);
-    let aoi = is_aoi(e);
+    let string = is_string(w.entry);
+    let count = count_of(w.entry.count);
+    let aoi = is_aoi(w.entry);
     let new = NewType {
         number: w.number,
         at: w.at,
@@ -137,54 +136,16 @@ fn add_named(
         used,
     };
     if string {
-        let ok = string_ok(e);
+        let ok = string_ok(w.entry);
         if ok {
-            return add_string(new, e.string, name, types, members, names);
+            return add_string(new, w.entry.string, name, types, members, names);
         }
         return Turn::Refused(Refusal::StringWrong(w.number));
     }
     add_members(book, tys, new, name, types, members, names)
 }
 
-// A type with a name that is new: it gets an id.
-fn add_fresh(
-    book: &[u8],
-    tys: &[u16],
-    w: Waiting,
-    name: &[u8],
-    types: &mut TypeTable,
-    members: &mut MemberTable,
-    names: &mut NameTable,
-) -> Turn
-    requires { ⌜ Addable (now types) (now members) (now names) (now book) (now tys) (now name)
-        (w .used) (w .at) (w .entry .count) ⌝ }
-    ensures { λ r. ⌜ Took (addFresh (viewIn (now (types .entry)) (now (names .entry)) (w .used)) (now (book .entry))
-        (w .number) (w .at) (w .entry) (now (name .entry))
-        (declsFrom (now (types .entry)) (now (book .entry)) (now (tys .entry)) (w .at) 0 (w .entry .count))) (w .used)
-        (now (types .entry)) (now (members .entry)) (now (names .entry))
-        (now (types .exit)) (now (members .exit)) (now (names .exit)) r ⌝ }
-{
-    let e = w.entry;
-    let u = w.used;
-    let given = has_id(e);
-    let p = pick_id(types, u.types, given, e.id);
-    match p {
-        Picked::Free(id) => {
-            return add_named(book, tys, w, id, name, types, members, names);
-        }
-        Picked::OutsideRange => {
-            return Turn::Refused(Refusal::IdOutsideRange(w.number));
-        }
-        Picked::InUse => {
-            return Turn::Refused(Refusal::IdInUse(w.number));
-        }
-        Picked::NoneFree => {
-            return Turn::Refused(Refusal::NoIdFree(w.number));
-        }
-    }
-}
-
-// A type of the book, with its name.
+// A type of the book, with its name: the name is good and new, then it gets an id.
 pub fn add_entry(
     book: &[u8],
     tys: &[u16],
@@ -204,14 +165,28 @@ pub fn add_entry(
 {
     let good = good_name(name);
     if good {
-        let u = w.used;
-        let found = lookup(types, names, u.types, name);
+        let found = lookup(types, names, w.used.types, name);
         match found {
             FoundTy::Is(_) => {
                 return Turn::Refused(Refusal::NameKnown(w.number));
             }
             FoundTy::Nothing => {
-                return add_fresh(book, tys, w, name, types, members, names);
+                let given = has_id(w.entry);
+                let p = pick_id(types, w.used.types, given, w.entry.id);
+                match p {
+                    Picked::Free(id) => {
+                        return add_named(book, tys, w, id, name, types, members, names);
+                    }
+                    Picked::OutsideRange => {
+                        return Turn::Refused(Refusal::IdOutsideRange(w.number));
+                    }
+                    Picked::InUse => {
+                        return Turn::Refused(Refusal::IdInUse(w.number));
+                    }
+                    Picked::NoneFree => {
+                        return Turn::Refused(Refusal::NoIdFree(w.number));
+                    }
+                }
             }
         }
     }

@@ -153,8 +153,7 @@ fn put_type_name(types: &TypeTable, names: &[u8], ty: Ty, out: &mut [u8], at: us
         }
         Ty::Struct(n) => {
             let d = type_row(types, n);
-            let name = d.name;
-            return put_name(out, at, names, name, b' ');
+            return put_name(out, at, names, d.name, b' ');
         }
     }
 }
@@ -215,11 +214,10 @@ fn type_line(
         (typeAt (now (types .entry)) i)) (now (out .entry)) r (now (out .exit)) ⌝ }
 {
     let d = type_row(types, i);
-    let name = d.name;
     let bytes = template_bytes(types, members, names, d);
     let bits = lost_bits(types, members, d);
     let k1 = put_field(out, 0, b"type", b' ');
-    let k2 = put_name(out, k1, names, name, b' ');
+    let k2 = put_name(out, k1, names, d.name, b' ');
     put_numbers(d, bytes, bits, out, k2)
 }
 

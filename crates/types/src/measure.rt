@@ -25,8 +25,7 @@ fn measure_one(name: &[u8], c: Cursor, names: u32, d: Decl) -> Measured
     requires { ⌜ Near c names d ⌝ }
     ensures { λ r. ⌜ r ≡ measureOne (hostName (now (name .entry))) c names d ⌝ }
 {
-    let span = d.name;
-    let long = span.long;
+    let long = d.name.long;
     let p = place(c, d);
     match p {
         Placed::Hosted(_, _, next) => {

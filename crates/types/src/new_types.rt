@@ -5,7 +5,8 @@ ghost use Prim.Native.Nat.{_+_, _*_, _^_, _-_, _≤_};
 ghost use lib.ListN.{length};
 ghost use lib.Seq.{sets};
 ghost use Rattle.types.specs.declared.member.StructKind.the-variants.{Str};
-ghost use Rattle.types.specs.Add.{addLaid, newDef, fitted, Took, Addable, AddableString};
+ghost use Rattle.types.specs.declared.used.Turn.the-variants.{Added};
+ghost use Rattle.types.specs.Add.{addLaid, newDef, fitted, yes, Took, Ready, Addable, AddableString};
 ghost use Rattle.types.specs.Entries.{declsFrom, Found};
 ghost use Rattle.types.specs.Registry.{viewIn};
 ghost use Rattle.types.specs.Structs.{namesOf, rowsOf, namedIn, laidKind, stringParts, stringSize};
@@ -88,9 +89,8 @@ fn store_type(
 {
     let at = new.at;
     let n = new.count;
-    let u = new.used;
-    let row = u.members;
-    let place = u.bytes + name.len();
+    let row = new.used.members;
+    let place = new.used.bytes + name.len();
     if new.aoi {
         let bools = count_bools(types, book, tys, at, n);
         let h = hosts_for(bools);
@@ -118,7 +118,6 @@ pub fn add_laid(
         (now (types .entry)) (now (members .entry)) (now (names .entry))
         (now (types .exit)) (now (members .exit)) (now (names .exit)) r ⌝ }
 {
-    let u = new.used;
     let m = measure_type(types, book, tys, new, name);
     match m {
         Measured::AccessWrong => {
@@ -128,22 +127,46 @@ pub fn add_laid(
             return Turn::Refused(Refusal::MemberTooFar(new.number));
         }
         Measured::Laid(c, long) => {
-            let count = c.members;
             let bytes = name.len() + wide(long);
-            let room = has_room(u, wide(count), bytes);
+            let room = has_room(new.used, wide(c.members), bytes);
             if room {
                 let size = size_at(c);
                 let kind = laid_kind(new.aoi);
-                put_bytes(names, u.bytes, name);
+                put_bytes(names, new.used.bytes, name);
                 store_type(types, book, tys, new, name, members, names);
-                let head = bare_head(u, name.len(), new.id, size, kind, count);
-                enter(types, members, names, u.types, head);
-                let more = used_more(u, wide(count), bytes);
+                let head = bare_head(new.used, name.len(), new.id, size, kind, c.members);
+                enter(types, members, names, new.used.types, head);
+                let more = used_more(new.used, wide(c.members), bytes);
                 return Turn::Added(more);
             }
             return Turn::Refused(Refusal::TablesFull(new.number));
         }
     }
+}
+
+// The name, the parts and the row of a string type, after what is used; answers how much is used then.
+pub fn store_string(
+    types: &mut TypeTable,
+    members: &mut MemberTable,
+    names: &mut NameTable,
+    u: Used,
+    id: u16,
+    name: &[u8],
+    capacity: u32,
+) -> Used
+    requires { ⌜ Ready (now types) (now members) (now names) u 2 (length (now name) + 7) × (capacity ≤ 2 ^ 26 - 4) ⌝ }
+    ensures { λ r. ⌜ Took (yes (newDef (viewIn (now (types .entry)) (now (names .entry)) u)
+        (now (name .entry)) id (stringSize capacity) Str (stringParts capacity))) u
+        (now (types .entry)) (now (members .entry)) (now (names .entry))
+        (now (types .exit)) (now (members .exit)) (now (names .exit)) (Added r) ⌝ }
+{
+    let long = name.len();
+    let size = string_size(capacity);
+    put_bytes(names, u.bytes, name);
+    put_string(members, u.members, names, u.bytes + long, capacity);
+    let head = bare_head(u, long, id, size, StructKind::Str, 2);
+    enter(types, members, names, u.types, head);
+    used_more(u, 2, long + 7)
 }
 
 // A string: its two parts have seven bytes of names.
@@ -163,17 +186,9 @@ pub fn add_string(
         (now (types .entry)) (now (members .entry)) (now (names .entry))
         (now (types .exit)) (now (members .exit)) (now (names .exit)) r ⌝ }
 {
-    let u = new.used;
-    let bytes = name.len() + 7;
-    let room = has_room(u, 2, bytes);
+    let room = has_room(new.used, 2, name.len() + 7);
     if room {
-        let size = string_size(capacity);
-        let place = u.bytes + name.len();
-        put_bytes(names, u.bytes, name);
-        put_string(members, u.members, names, place, capacity);
-        let head = bare_head(u, name.len(), new.id, size, StructKind::Str, 2);
-        enter(types, members, names, u.types, head);
-        let more = used_more(u, 2, bytes);
+        let more = store_string(types, members, names, new.used, new.id, name, capacity);
         return Turn::Added(more);
     }
     Turn::Refused(Refusal::TablesFull(new.number))

@@ -2,19 +2,18 @@
 // STRING, the first four types of every registry, under the ids that the caller gives (else refusal 22).
 ghost use mathlib.Core.Path.{_≡_};
 ghost use mathlib.Core.Bool.{true};
-ghost use Rattle.types.specs.declared.member.StructKind.the-variants.{Predefined, Str};
+ghost use Rattle.types.specs.declared.member.StructKind.the-variants.{Predefined};
 ghost use Rattle.types.specs.declared.used.Turn.the-variants.{Added};
 ghost use Rattle.types.specs.Add.{Took, yes, newDef};
-ghost use Rattle.types.specs.Predefined.{predefinedId, distinct, predefinedIds, predefined, Ready, ControlReady};
-ghost use Rattle.types.specs.Predefined.{stringName};
+ghost use Rattle.types.specs.Predefined.{predefinedId, distinct, predefinedIds, predefined, ControlReady};
 ghost use Rattle.types.specs.Registry.{viewIn, noTypes, noMembers, noNames, Stands};
-ghost use Rattle.types.specs.Structs.{controlOf, stringParts, stringSize};
+ghost use Rattle.types.specs.Structs.{controlOf};
 use crate::digits::put_bytes;
 use crate::fixed::put_control;
-use crate::fixed::put_string;
 use crate::member::StructKind;
 use crate::new_row::bare_head;
 use crate::new_row::enter;
+use crate::new_types::store_string;
 use crate::tables::MemberTable;
 use crate::tables::NameTable;
 use crate::tables::TypeTable;
@@ -119,27 +118,6 @@ fn put_control_def(
     used_more(u, count, long + 9 + bits.len())
 }
 
-// STRING, after what is used.
-fn put_string_def(
-    types: &mut TypeTable,
-    members: &mut MemberTable,
-    names: &mut NameTable,
-    u: Used,
-    id: u16,
-) -> Used
-    requires { ⌜ Ready (now types) (now members) (now names) u 2 13 ⌝ }
-    ensures { λ r. ⌜ Took (yes (newDef (viewIn (now (types .entry)) (now (names .entry)) u)
-        stringName id (stringSize 82) Str (stringParts 82))) u
-        (now (types .entry)) (now (members .entry)) (now (names .entry))
-        (now (types .exit)) (now (members .exit)) (now (names .exit)) (Added r) ⌝ }
-{
-    put_bytes(names, u.bytes, b"STRING");
-    put_string(members, u.members, names, u.bytes + 6, 82);
-    let head = bare_head(u, 6, id, 88, StructKind::Str, 2);
-    enter(types, members, names, u.types, head);
-    used_more(u, 2, 13)
-}
-
 // All four, in tables of no types.
 pub fn put_predefined(
     types: &mut TypeTable,
@@ -187,5 +165,5 @@ pub fn put_predefined(
         b"LENPOS",
         b"ENEUDNEMERULINFD",
     );
-    put_string_def(types, members, names, three, ids.string)
+    store_string(types, members, names, three, ids.string, b"STRING", 82)
 }

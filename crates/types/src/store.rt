@@ -111,9 +111,8 @@ fn store_one(
     ensures names { λ _. ⌜ now (names .exit) ≡ sets (now (names .entry)) at
         (namesOf (oneParts (now (book .entry)) (now (name .entry)) c d)) ⌝ }
 {
-    let span = d.name;
-    let start = wide(span.at);
-    let long = wide(span.long);
+    let start = wide(d.name.at);
+    let long = wide(d.name.long);
     let end = start + long;
     let p = place(c, d);
     match p {

@@ -4,7 +4,7 @@ ghost use mathlib.Core.Path.{_≡_};
 ghost use Prim.Native.Nat.{_≤_, _<_};
 ghost use lib.ListN.{length};
 ghost use lib.Seq.{sets};
-ghost use Rattle.types.specs.Defs.{Readable, AllReadable};
+ghost use Rattle.types.specs.Defs.{Readable};
 ghost use Rattle.types.specs.Given.{Given, saidBy};
 ghost use Rattle.types.specs.Handle.{handleOf};
 ghost use Rattle.types.specs.Kept.{Kept};
@@ -28,7 +28,6 @@ use crate::sink::Sink;
 use crate::sink::emit;
 use crate::tables::MemberTable;
 use crate::tables::NameTable;
-use crate::tables::TYPES;
 use crate::tables::TypeTable;
 use crate::tables::type_row;
 use words::wide;
@@ -160,35 +159,6 @@ pub fn object_definition_size(n: u32) -> u32
     ((wide(n) + 23 + 3) / 4) as u32
 }
 
-// The template of the structure with a number.
-fn struct_template(
-    types: &TypeTable,
-    members: &MemberTable,
-    names: &NameTable,
-    n: usize,
-    out: &mut [u8],
-) -> Wrote
-    requires { ⌜ AllReadable (now types) (now members) ⌝ }
-    ensures { λ r. ⌜ Given (hasTemplate (now (types .entry)) (Ty.Struct n))
-        (templateFor (now (types .entry)) (now (members .entry)) (now (names .entry)) (Ty.Struct n))
-        (now (out .entry)) r (now (out .exit)) ⌝ }
-{
-    if TYPES <= n {
-        return Wrote::Refused(Refusal::NoSuchType);
-    }
-    let d = type_row(types, n);
-    let id = d.id;
-    if id == 0 {
-        return Wrote::Refused(Refusal::NoSuchType);
-    }
-    let long = template_bytes(types, members, names, d);
-    if out.len() < long as usize {
-        return Wrote::Refused(Refusal::NoRoom);
-    }
-    write_template(types, members, names, d, out);
-    Wrote::Length(long)
-}
-
 // The template of a type, stored from the buffer's start on: its length; or a refusal, and nothing stored.
 pub fn template(
     types: &TypeTable,
@@ -207,7 +177,17 @@ pub fn template(
             return Wrote::Refused(Refusal::NoSuchType);
         }
         Ty::Struct(n) => {
-            return struct_template(types, members, names, n, out);
+            let there = is_there(types, Ty::Struct(n));
+            if there {
+                let d = type_row(types, n);
+                let long = template_bytes(types, members, names, d);
+                if out.len() < long as usize {
+                    return Wrote::Refused(Refusal::NoRoom);
+                }
+                write_template(types, members, names, d, out);
+                return Wrote::Length(long);
+            }
+            return Wrote::Refused(Refusal::NoSuchType);
         }
     }
 }

@@ -63,9 +63,8 @@ pub fn take_turn(
         tried[i] = known as u8;
         return Turn::Waits;
     }
-    let span = e.name;
-    let start = wide(span.at);
-    let end = start + wide(span.long);
+    let start = wide(e.name.at);
+    let end = start + wide(e.name.long);
     let w = Waiting {
         number: i as u32,
         entry: e,

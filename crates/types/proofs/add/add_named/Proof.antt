@@ -21,7 +21,7 @@ string-ok-requires c κs = search needs
 add-string-requires : tie.Need-add-string-requires
 add-string-requires c κs =
     let ok = c .before .before .before .before in
-    let s = ok .before .before .before .before .before .before .before .before .before .before in
+    let s = ok .before .before .before .before .before .before .before .before .before in
     let p = s .pre in (
       record { usable = p .usable; long = p .long; rows = p .rows; bytes = p .bytes },
       string-most (s .args .w .entry) (sym (ok .string-ok .ensures) ∙ c .before .before .before .if2 .taken),
@@ -44,7 +44,7 @@ returns-2 c =
 add-members-requires : tie.Need-add-members-requires
 add-members-requires c κs =
     let n = c .before .before .before .before .before in
-    rw (n .count-of .ensures .0) (n .before .before .before .before .before .before .before .pre)
+    rw (n .count-of .ensures .0) (n .before .before .before .before .before .before .pre)
 
 returns-3 : tie.Need-returns-3
 returns-3 c =

@@ -30,7 +30,7 @@ type-row-requires c κs =
 
 put-name-requires : tie.Need-put-name-requires
 put-name-requires c κs =
-    let at-type = c .before .before in
+    let at-type = c .before in
     let told = at-type .before .before in
     let pre = told .before .before .before .before .pre in
     let named = struct-named (told .ty2 .given .1) (pre .0) in (
@@ -44,7 +44,7 @@ same-length-2 c = search needs
 returns-2 : tie.Need-returns-2
 returns-2 c =
     let at-name = c .before .before in
-    let at-type = at-name .before .before .before in
+    let at-type = at-name .before .before in
     rw (at-type .before .before .ty2 .given .1) (rw (at-type .type-row .ensures) at (at-name .put-name .ensures))
 
 pub put-type-name-spec : {M : Type 1} → statement M

@@ -8,7 +8,7 @@ use Rattle.types.proofs.listing.type_line.Statement.{statement}
 use Rattle.types.proofs.listing.type_line.Tie as tie
 
 abbrev start : tie.After-lost-bits → tie.Start
-start c = c .before .before .before .before .before
+start c = c .before .before .before .before
 
 abbrev names : tie.After-lost-bits → List ℕ
 names c = start c .args .names .now
@@ -16,26 +16,26 @@ names c = start c .args .names .now
 -- the fields as the code has them
 abbrev fields : tie.After-lost-bits → List (List ℕ)
 fields c =
-    typeFields (names c) (c .before .before .before .type-row .result) (c .before .template-bytes .result)
+    typeFields (names c) (c .before .before .type-row .result) (c .before .template-bytes .result)
     (c .lost-bits .result)
 
 known : (c : tie.After-lost-bits)
-    → Listable (start c .args .types .now) (start c .args .members .now) (c .before .before .before .type-row .result)
-known c = listed (c .before .before .before .type-row .ensures) (start c .pre .1 .0)
+    → Listable (start c .args .types .now) (start c .args .members .now) (c .before .before .type-row .result)
+known c = listed (c .before .before .type-row .ensures) (start c .pre .1 .0)
 
 all : (c : tie.After-lost-bits)
     → Left (line (fields c)) 0 (start c .args .out .now) (fields c) 0 (start c .args .out .now)
-all c = type-left (names c) (c .before .before .before .type-row .result) _ _ (known c .name) (start c .pre .1 .1)
+all c = type-left (names c) (c .before .before .type-row .result) _ _ (known c .name) (start c .pre .1 .1)
 
 type-row-requires : tie.Need-type-row-requires
 type-row-requires c κs = search needs
 
 template-bytes-requires : tie.Need-template-bytes-requires
-template-bytes-requires c κs = listed (c .before .type-row .ensures) (c .before .before .before .pre .1 .0) .rows .rows
+template-bytes-requires c κs = listed (c .type-row .ensures) (c .before .before .pre .1 .0) .rows .rows
 
 lost-bits-requires : tie.Need-lost-bits-requires
 lost-bits-requires c κs =
-    listed (c .before .before .type-row .ensures) (c .before .before .before .before .pre .1 .0) .rows
+    listed (c .before .type-row .ensures) (c .before .before .before .pre .1 .0) .rows
 
 slice-aggregate-put-field : tie.Need-slice-aggregate-put-field
 slice-aggregate-put-field c = search needs
@@ -68,7 +68,7 @@ returns c =
     let w = n1 .before .before .before in
     let l1 = left-on (all w) (n1 .put-field .ensures) in
     let l2 = left-on l1 (n2 .put-name .ensures) in
-    let d = w .before .before .before .type-row in
+    let d = w .before .before .type-row in
     let bytes = w .before .template-bytes in
     rw (← d .ensures, ← bytes .ensures, ← w .lost-bits .ensures (names w))
     (type-lined (names w) (d .result) (bytes .result) (w .lost-bits .result) (all w)

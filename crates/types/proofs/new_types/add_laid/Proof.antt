@@ -26,7 +26,7 @@ abbrev measured : tie.After-has-room → tie.After-m
 measured c = c .before .before .before .before
 
 abbrev start : tie.After-has-room → tie.Start
-start c = measured c .before .before .before .before .before .before .before .before
+start c = measured c .before .before .before .before .before .before .before
 
 laid : (c : tie.After-has-room)
     → let m = measured c .m .given .0 in
@@ -55,7 +55,7 @@ counted : (c : tie.After-has-room)
     (a .new .used .types) (m .0 .members) (length (a .name .now) + m .1 .0)
 counted c =
     let s = start c in
-    let known = c .before .before .before .before .before .before .before .before .before in
+    let known = c .before .before .before .before .before .before .before .before in
     laid-counted (s .args .new) (s .pre .usable) (s .pre .declared) _ (laid c) (bytes known)
 
 -- there is room
@@ -67,7 +67,7 @@ fits c = roomy _ _ _ (sym (c .if1 .taken) ∙ room (c .before))
 
 measure-type-requires : tie.Need-measure-type-requires
 measure-type-requires c κs =
-    let p = c .before .before .before .before .before .pre in
+    let p = c .before .before .before .before .pre in
     (declared-found (p .declared) (p .usable .rows .few), p .declared .few)
 
 enum-told : tie.Need-enum-told
@@ -76,7 +76,7 @@ enum-told c = search needs
 returns : tie.Need-returns
 returns c =
     let m = c .before .before in
-    let s = m .before .before .before .before .before .before in
+    let s = m .before .before .before .before .before in
     took-no _ _ _ _ (laid-access _ _ _ (s .args .new) _ (sym (c .enum-told .given .1) ∙ m .measure-type .ensures))
 
 enum-told-2 : tie.Need-enum-told-2
@@ -85,7 +85,7 @@ enum-told-2 c = search needs
 returns-2 : tie.Need-returns-2
 returns-2 c =
     let m = c .before .before in
-    let s = m .before .before .before .before .before .before in
+    let s = m .before .before .before .before .before in
     took-no _ _ _ _ (laid-far _ _ _ (s .args .new) _ (sym (c .enum-told2 .given .1) ∙ m .measure-type .ensures))
 
 enum-known-m : tie.Need-enum-known-m

@@ -18,7 +18,7 @@ store-aoi-requires c κs =
     let hosts = c .before .before in
     let counted = hosts .before in
     let taken = counted .before in
-    storable-aoi (taken .before .before .before .before .before .before .pre) (taken .if1 .taken)
+    storable-aoi (taken .before .before .before .before .before .pre) (taken .if1 .taken)
     (hosts-counted (counted .count-bools .ensures) (hosts .hosts-for .ensures))
 
 returns : tie.Need-returns
@@ -27,7 +27,7 @@ returns c = rw (c .before .before .before .before .before .if1 .taken) (c .store
 store-udt-requires : tie.Need-store-udt-requires
 store-udt-requires c κs =
     let other = c .before .before in
-    storable-udt (other .before .before .before .before .before .before .pre) (other .if1 .left)
+    storable-udt (other .before .before .before .before .before .pre) (other .if1 .left)
 
 returns-2 : tie.Need-returns-2
 returns-2 c = rw (c .before .before .before .if1 .left) (c .store-udt .ensures)

@@ -3,7 +3,8 @@ use borrow.Author.Needs.{needs}
 use native.Mathlib.Omega.{arith}
 use mathlib.Core.Path.{_∙_}
 use Rattle.types.specs.declared.member.StructKind.the-variants.{Predefined}
-use Rattle.types.proofs.PredefinedLaws.{control-counted, new-readable, new-took}
+use Rattle.types.proofs.AddStoreLaws.{new-readable, new-took}
+use Rattle.types.proofs.PredefinedLaws.{control-counted}
 use Rattle.types.proofs.predefined.put_control_def.Statement.{statement}
 use Rattle.types.proofs.predefined.put_control_def.Tie as tie
 
@@ -39,7 +40,7 @@ enter-requires c κs =
     let a = start .args in (
       start .pre .ready .few,
       rw (put .put-control .ensures .0, bare .bare-head .ensures)
-          (new-readable (a .types .now) (a .members .now) (a .names .now) (a .u) (control-counted (start .pre)) (a .id)
+          (new-readable (a .types .now) (a .members .now) (a .names .now) (a .u) (control-counted (start .pre) _) (a .id)
           12 Predefined (start .pre .ready)),
     )
 
@@ -62,7 +63,7 @@ returns c =
     let name = put .before .before .before .before in
     let start = name .before .before .before .before .before in
     let a = start .args in
-    new-took (a .types .now) (a .members .now) (a .names .now) (a .u) (control-counted (start .pre)) (a .id) 12
+    new-took (a .types .now) (a .members .now) (a .names .now) (a .u) (control-counted (start .pre) _) (a .id) 12
     Predefined (start .pre .ready) (put .put-control .ensures .0)
     (put .put-control .ensures .1 ∙ rw (name .put-bytes .ensures)) (row .enter .ensures ∙ rw (bare .bare-head .ensures))
     (c .used-more .ensures)

@@ -89,15 +89,20 @@ put-control-def-requires-3 c κs =
     control-ready
     (ready-for (counter-built _ (good (from-2 second))) (two second) (omega arith) (omega arith) (omega arith))
 
-put-string-def-requires : tie.Need-put-string-def-requires
-put-string-def-requires c κs =
-    let third = c .before .before .before in
-    ready-for (control-built _ (good (from-3 third))) (three third) (omega arith) (omega arith) (omega arith)
+slice-aggregate-store-string : tie.Need-slice-aggregate-store-string
+slice-aggregate-store-string c = search needs
+
+store-string-requires : tie.Need-store-string-requires
+store-string-requires c κs =
+    let third = c .before .before .before .before in (
+      ready-for (control-built _ (good (from-3 third))) (three third) (omega arith) (omega arith) (omega arith),
+      omega arith,
+    )
 
 returns : tie.Need-returns
 returns c =
-    let third = c .before .before .before .before in
-    string-stands _ (good (from-3 third)) (three third) (c .put-string-def .ensures)
+    let third = c .before .before .before .before .before in
+    string-stands _ (good (from-3 third)) (three third) (c .store-string .ensures)
 
 pub put-predefined-spec : {M : Type 1} → statement M
 put-predefined-spec =
@@ -115,5 +120,6 @@ put-predefined-spec =
     slice-aggregate-put-control-def-8
     slice-aggregate-put-control-def-9
     put-control-def-requires-3
-    put-string-def-requires
+    slice-aggregate-store-string
+    store-string-requires
     returns)

@@ -14,36 +14,36 @@ use Rattle.types.proofs.store.store_one.Statement.{statement}
 use Rattle.types.proofs.store.store_one.Tie as tie
 
 two : (c : tie.After-p)
-    → let a = c .before .before .before .before .before .before .before .before .args in
+    → let a = c .before .before .before .before .before .before .before .args in
     TwoFit (a .book .now) (a .name .now) (a .c) (a .d) (a .row) (a .at) (c .p .given .0 .0) (c .p .given .0 .1 .0)
 two c =
-    let start = c .before .before .before .before .before .before .before .before in
+    let start = c .before .before .before .before .before .before .before in
     let a = start .args in
     two-fit (a .book .now) (a .name .now) (a .c) (a .d) (a .row) (a .at) _ (c .before .before .place .ensures)
     (start .pre) (c .p .given .1)
 
 one : (c : tie.After-p2) → let a =
-    c .before .before .before .before .before .before .before .before .args in OneFits (a .d) (a .row) (a .at)
+    c .before .before .before .before .before .before .before .args in OneFits (a .d) (a .row) (a .at)
     (c .p2 .given .0 .0)
 one c =
-    let start = c .before .before .before .before .before .before .before .before in
+    let start = c .before .before .before .before .before .before .before in
     let a = start .args in
     one-fits (a .book .now) (a .name .now) (a .c) (a .d) (a .row) (a .at) _ (c .before .before .place .ensures)
     (start .pre) (c .p2 .given .1)
 
 name : (c : tie.After-place)
-    → let a = c .before .before .before .before .before .before .args in
+    → let a = c .before .before .before .before .before .args in
     let s = c .before .before .wide .result in
     take (s + c .before .wide2 .result - s) (drop s (a .book .now)) ≡ nameIn (a .book .now) (a .d .name)
 name c = lent-name _ _ _ _ (c .before .before .wide .ensures) (c .before .wide2 .ensures)
 
 long : (c : tie.After-place)
-    → let a = c .before .before .before .before .before .before .args in
+    → let a = c .before .before .before .before .before .args in
     let s = c .before .before .wide .result in
     length (take (s + c .before .wide2 .result - s) (drop s (a .book .now))) ≡ a .d .name .long
 long c =
     lent-long _ _ _ _ (c .before .before .wide .ensures) (c .before .wide2 .ensures)
-    (c .before .before .before .before .before .before .pre .name)
+    (c .before .before .before .before .before .pre .name)
 
 wide-requires : tie.Need-wide-requires
 wide-requires c κs = search needs
@@ -63,7 +63,7 @@ enum-known-p c = search needs
 put-host-requires : tie.Need-put-host-requires
 put-host-requires c κs =
     let p = c .before .before .before in
-    let start = p .before .before .before .before .before .before .before .before in
+    let start = p .before .before .before .before .before .before .before in
     (omega (arith, two p .rows), (start .pre .near .few, (omega (arith, two p .names), two p .host)))
 
 add-put-part : tie.Need-add-put-part
@@ -98,11 +98,11 @@ put-part-requires c κs =
       ),
     )
 
-add-t25 : tie.Need-add-t25
-add-t25 c = omega (arith, two (c .before .before .before .before .before .before .before .before) .rows)
+add-t24 : tie.Need-add-t24
+add-t24 c = omega (arith, two (c .before .before .before .before .before .before .before .before) .rows)
 
-add-t29 : tie.Need-add-t29
-add-t29 c =
+add-t28 : tie.Need-add-t28
+add-t28 c =
     omega (
       arith,
       two (c .before .before .before .before .before .before .before .before) .names,
@@ -110,8 +110,8 @@ add-t29 c =
           .before .before .put-host .ensures .0,
     )
 
-add-t27 : tie.Need-add-t27
-add-t27 c =
+add-t26 : tie.Need-add-t26
+add-t26 c =
     omega (
       arith,
       two (c .before .before .before .before .before .before .before .before) .names,
@@ -138,11 +138,11 @@ put-part-requires-2 c κs =
     let p = c .before .before .before .before in
     (omega (arith, one p .rows), (omega (arith, one p .names, long (p .before .before)), one p .member))
 
-add-t36 : tie.Need-add-t36
-add-t36 c = search needs
+add-t35 : tie.Need-add-t35
+add-t35 c = search needs
 
-add-t39 : tie.Need-add-t39
-add-t39 c = search needs
+add-t38 : tie.Need-add-t38
+add-t38 c = search needs
 
 enum-told : tie.Need-enum-told
 enum-told c = search needs
@@ -155,7 +155,7 @@ returns c =
     let host = c .before .before .before .before in
     let p = host .before .before .before .before in
     let placed = p .before .before in
-    let a = placed .before .before .before .before .before .before .args in
+    let a = placed .before .before .before .before .before .args in
     let e = placed .place .ensures in
     let k = host .put-host .ensures .0 in (
       rw (placed .before .wide2 .ensures)
@@ -174,7 +174,7 @@ returns-2 : tie.Need-returns-2
 returns-2 c =
     let p = c .before .before .before .before .before in
     let placed = p .before .before in
-    let a = placed .before .before .before .before .before .before .args in
+    let a = placed .before .before .before .before .before .args in
     let e = placed .place .ensures in (
       rw (placed .before .wide2 .ensures)
           (next-alone (a .book .now) (a .name .now) (a .c) (a .d) (a .row) (a .at) _ e (p .p2 .given .1)),
@@ -191,7 +191,7 @@ returns-2 c =
 returns-3 : tie.Need-returns-3
 returns-3 c =
     let placed = c .before .before in
-    let a = placed .before .before .before .before .before .before .args in
+    let a = placed .before .before .before .before .before .args in
     let e = placed .place .ensures in
     let q = c .enum-told .given .1 in (
       stop-access (a .book .now) (a .name .now) (a .c) (a .d) (a .row) (a .at) _ e q,
@@ -204,7 +204,7 @@ returns-3 c =
 returns-4 : tie.Need-returns-4
 returns-4 c =
     let placed = c .before .before in
-    let a = placed .before .before .before .before .before .before .args in
+    let a = placed .before .before .before .before .before .args in
     let e = placed .place .ensures in
     let q = c .enum-told2 .given .1 in (
       stop-far (a .book .now) (a .name .now) (a .c) (a .d) (a .row) (a .at) _ e q,
@@ -230,16 +230,16 @@ store-one-spec =
     part-put-part-start
     part-put-part-end
     put-part-requires
-    add-t25
-    add-t29
-    add-t27
+    add-t24
+    add-t28
+    add-t26
     enum-known-p-2
     sub-put-part-2
     part-put-part-start-2
     part-put-part-end-2
     put-part-requires-2
-    add-t36
-    add-t39
+    add-t35
+    add-t38
     enum-told
     enum-told-2
     returns

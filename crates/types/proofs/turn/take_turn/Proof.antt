@@ -123,8 +123,8 @@ wide-requires-3 c κs = search needs
 add-end : tie.Need-add-end
 add-end c = search needs
 
-cast-t25 : tie.Need-cast-t25
-cast-t25 c = omega (arith, begun-2 (c .before .before .before .before .before .before) .pre .small)
+cast-t24 : tie.Need-cast-t24
+cast-t24 c = omega (arith, begun-2 (c .before .before .before .before .before) .pre .small)
 
 sub-add-entry : tie.Need-sub-add-entry
 sub-add-entry c = search needs
@@ -135,9 +135,9 @@ part-add-entry-start c = search needs
 -- the type's name lies in the book
 end : (c : tie.After-wide3)
     → c .before .wide2 .result + c .wide3 .result
-    ≤ length (begun-2 (c .before .before .before .before .before .before) .args .book .now)
+    ≤ length (begun-2 (c .before .before .before .before .before) .args .book .now)
 end c =
-    let entry = c .before .before .before .before .before .before .before .before .before .before .before .before in
+    let entry = c .before .before .before .before .before .before .before .before .before .before .before in
     rw (c .before .wide2 .ensures, c .wide3 .ensures, entry .type-entry .ensures)
     (begun (entry .before .before) .pre .named)
 
@@ -146,7 +146,7 @@ part-add-entry-end c = omega (arith, end (c .before))
 
 add-entry-requires : tie.Need-add-entry-requires
 add-entry-requires c κs =
-    let more = c .before .before .before .before .before .before .before .before in
+    let more = c .before .before .before .before .before .before .before in
     let resolved = more .before .before .before in
     let n = resolved .before .before .before .before .before in
     let s = begun (n .before .before .before) in
@@ -168,7 +168,7 @@ same-length-5 c = search needs
 returns-3 : tie.Need-returns-3
 returns-3 c =
     let wide = c .before .before .before .before .before .before in
-    let more = wide .before .before .before in
+    let more = wide .before .before in
     let resolved = more .before .before .before in
     let n = resolved .before .before .before .before .before in
     let entry = n .before in
@@ -213,7 +213,7 @@ take-turn-spec =
     wide-requires-2
     wide-requires-3
     add-end
-    cast-t25
+    cast-t24
     sub-add-entry
     part-add-entry-start
     part-add-entry-end
