@@ -166,7 +166,8 @@ module _ (types members names : List ℕ) (u : Used) {name : List ℕ} {parts : 
 
 -- a type for which the tables are ready is stored: its name, parts and row
 module _ (types members names : List ℕ) (u : Used) {name : List ℕ} {parts : List Part} {k l : ℕ}
-    (p : Counted name parts (u .types) k l) (id size : ℕ) (kind : StructKind) (ready : Ready types members names u k l) where
+    (p : Counted name parts (u .types) k l) (id size : ℕ) (kind : StructKind)
+    (ready : Ready types members names u k l) where
   ready-room : true ≡ hasRoom u k l
   ready-room =
       sym (le-leb (u .bytes + l) 32768 (ready .bytes)) ∙ room-bytes u k l (ready .few) (ready .rows)
@@ -186,9 +187,7 @@ module _ (types members names : List ℕ) (u : Used) {name : List ℕ} {parts : 
   new-took em en et er =
       let took = stored-took types members names u p id size kind ready-room refl (ready .usable) (ready .members) 0
       (ready .names) em en et in
-      let yes-room : true ≡ hasRoom u (length parts) (length (name ++ namesOf parts)) =
-      rw (p .count, p .long) ready-room in
-      rw er (rw (fitted-yes types members names u name id size kind parts 0 _ yes-room refl) at took)
+      rw er (rw (stored-yes types members names u p id size kind ready-room refl 0) at took)
 
 -- a refusal was answered, and nothing stored
 pub took-no : {s : Verdict} {u : Used} (r : Refusal) (types members names : List ℕ) → s ≡ no (whyOf r)

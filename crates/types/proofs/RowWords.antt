@@ -1,5 +1,5 @@
--- What a row of the tables says, in words (document 01, "What promises shut out"): a structure or a member that was read
--- says its row's words, and no other one does.
+-- What a row of the tables says, in words (document 01, "What promises shut out"): a structure or a member that was
+-- read says its row's words, and no other one does.
 use Prim.Native.Nat.{ℕ, zero, suc, _+_, _-_, _/_, _%_, _<_, _≤_}
 use native.Mathlib.Decide.{decLt}
 use native.Mathlib.Nat.{add-zero}

@@ -40,8 +40,8 @@ enter-requires c κs =
     let a = start .args in (
       start .pre .ready .few,
       rw (put .put-control .ensures .0, bare .bare-head .ensures)
-          (new-readable (a .types .now) (a .members .now) (a .names .now) (a .u) (control-counted (start .pre) _) (a .id)
-          12 Predefined (start .pre .ready)),
+          (new-readable (a .types .now) (a .members .now) (a .names .now) (a .u) (control-counted (start .pre) _)
+          (a .id) 12 Predefined (start .pre .ready)),
     )
 
 add-used-more : tie.Need-add-used-more
