@@ -148,7 +148,7 @@ status-fit n i [] = tt
 status-fit n i (b ∷ bits) =
     (record { bit = omega arith; access = omega arith; earlier = tt }, status-fit n (i + 1) bits)
 
-pub control-fits : (n : ℕ) (one two : List ℕ) (bits : List (List ℕ)) → Every (PartFits n) (controlParts one two bits)
+control-fits : (n : ℕ) (one two : List ℕ) (bits : List (List ℕ)) → Every (PartFits n) (controlParts one two bits)
 unfolding controlParts Every
 control-fits n one two bits = (
   record { bit = tt; access = omega arith; earlier = tt },
@@ -171,20 +171,20 @@ unfolding controlTypeParts
 control-type-fits n = control-fits n _ _ _
 
 -- their parts and names counted, after any number of types
-abbrev pub Kept : List ℕ → List Part → ℕ → ℕ → Type 0
-Kept name parts k l = (n : ℕ) → Counted name parts n k l
+abbrev pub Counts : List ℕ → List Part → ℕ → ℕ → Type 0
+Counts name parts k l = (n : ℕ) → Counted name parts n k l
 
-pub timer-kept : Kept timerName timerParts 6 20
+timer-counts : Counts timerName timerParts 6 20
 unfolding timerParts controlParts statusParts namesOf
-timer-kept n = record { count = refl; long = refl; fit = timer-fits n }
+timer-counts n = record { count = refl; long = refl; fit = timer-fits n }
 
-pub counter-kept : Kept counterName counterParts 8 26
+counter-counts : Counts counterName counterParts 8 26
 unfolding counterParts controlParts statusParts namesOf
-counter-kept n = record { count = refl; long = refl; fit = counter-fits n }
+counter-counts n = record { count = refl; long = refl; fit = counter-fits n }
 
-pub control-kept : Kept controlName controlTypeParts 11 32
+control-counts : Counts controlName controlTypeParts 11 32
 unfolding controlTypeParts controlParts statusParts namesOf
-control-kept n = record { count = refl; long = refl; fit = control-type-fits n }
+control-counts n = record { count = refl; long = refl; fit = control-type-fits n }
 
 -- the code's byte strings: the names of the two words, three bytes each, and those of the bits, two bytes each
 abbrev preAcc : List ℕ
@@ -217,11 +217,11 @@ module _ {t m n : List ℕ} {u : Used} where
 
 -- any control type's parts and names are counted
 pub control-counted : {t m n name words bits : List ℕ} {u : Used} → ControlReady t m n u name words bits
-    → Kept name (controlOf words bits) (3 + length bits / 2) (length name + 9 + length bits)
+    → Counts name (controlOf words bits) (3 + length bits / 2) (length name + 9 + length bits)
 control-counted r n = record { count = r .parts; long = r .long; fit = control-fits n _ _ _ }
 
-pub string-kept : Kept stringName (stringParts 82) 2 13
-string-kept n = string-counted stringName 82 n
+string-counts : Counts stringName (stringParts 82) 2 13
+string-counts n = string-counted stringName 82 n
 
 -- ---- a type with a predefined id, added to the earlier ones
 
@@ -251,7 +251,7 @@ module _ (ds : List Def) (name : List ℕ) (id size : ℕ) (kind : StructKind) (
         handle = handle-small _;
       }
 
-  pub built-more : {t m b k l : ℕ} → Kept name parts k l → Built ds t m b → predefinedId id ≡ true → t < 200
+  built-more : {t m b k l : ℕ} → Counts name parts k l → Built ds t m b → predefinedId id ≡ true → t < 200
       → m + k ≤ 2000 → b + l ≤ 32768 → Built (added ds name id size kind parts) (t + 1) (m + k) (b + l)
   unfolding newDef
   built-more p u i f r b =
@@ -267,7 +267,7 @@ module _ (ds : List Def) (name : List ℕ) (id size : ℕ) (kind : StructKind) (
       }
 
   -- and the tables that stand for it
-  pub added-stands : {t m n t′ m′ n′ : List ℕ} {u r : Used} → Shown ds → Stands ds t m n u
+  added-stands : {t m n t′ m′ n′ : List ℕ} {u r : Used} → Shown ds → Stands ds t m n u
       → Took (yes (newDef (viewIn t n u) name id size kind parts)) u t m n t′ m′ n′ (Added r)
       → Stands (added ds name id size kind parts) t′ m′ n′ r
   added-stands {t} {n = n} {u = u} s k took =
@@ -284,25 +284,25 @@ module _ (ids : PredefinedIds) (good : Allowed ids) where
   pub timer-built : Built (withTimer ids) 1 6 20
   unfolding withTimer
   timer-built =
-      built-more [] _ (ids .timer) _ _ _ timer-kept none-built (good .timer) (omega arith) (omega arith) (omega arith)
+      built-more [] _ (ids .timer) _ _ _ timer-counts none-built (good .timer) (omega arith) (omega arith) (omega arith)
 
   pub counter-built : Built (withCounter ids) 2 14 46
   unfolding withCounter
   counter-built =
-      built-more (withTimer ids) _ (ids .counter) _ _ _ counter-kept timer-built (good .counter) (omega arith)
+      built-more (withTimer ids) _ (ids .counter) _ _ _ counter-counts timer-built (good .counter) (omega arith)
       (omega arith) (omega arith)
 
   pub control-built : Built (withControl ids) 3 25 78
   unfolding withControl
   control-built =
-      built-more (withCounter ids) _ (ids .control) _ _ _ control-kept counter-built (good .control) (omega arith)
+      built-more (withCounter ids) _ (ids .control) _ _ _ control-counts counter-built (good .control) (omega arith)
       (omega arith) (omega arith)
 
   -- 4 types, 27 members and 91 bytes of names, which their tables show
   pub predefined-built : Built (predefined ids) 4 27 91
   unfolding predefined
   predefined-built =
-      built-more (withControl ids) _ (ids .string) _ _ _ string-kept control-built (good .string) (omega arith)
+      built-more (withControl ids) _ (ids .string) _ _ _ string-counts control-built (good .string) (omega arith)
       (omega arith) (omega arith)
 
 pub predefined-shown : (ids : PredefinedIds) → predefinedIds ids ≡ true → Shown (predefined ids)

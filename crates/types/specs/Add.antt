@@ -184,16 +184,7 @@ pub record Usable (types names : List ℕ) (u : Used) : Type 0 where
   pub bytes : u .bytes ≤ 32768
   pub ids : (k : ℕ) → k < u .types → idWord types k < 65536
 
--- and room for a type with so many members and bytes of names
-pub record Ready (t m n : List ℕ) (u : Used) (parts long : ℕ) : Type 0 where
-  pub usable : Usable t n u
-  pub members : length m ≡ 16000
-  pub names : length n ≡ 32768
-  pub few : u .types < 200
-  pub rows : u .members + parts ≤ 2000
-  pub bytes : u .bytes + long ≤ 32768
-
--- the declared members of a type, resolved: their entries and names lie in the book, their types are earlier ones
+-- and the declared members of a type, resolved: their entries and names lie in the book, their types are earlier ones
 pub record Declared (book tys : List ℕ) (known at n : ℕ) : Type 0 where
   pub inside : EntriesInside book at n
   pub few : n ≤ 65536
@@ -221,3 +212,12 @@ pub record Addable (types members names book tys name : List ℕ) (u : Used) (at
   pub long : length name ≤ 40
   pub rows : length members ≡ 16000
   pub bytes : length names ≡ 32768
+
+-- what our own calls leave, with room for a type of so many members and bytes of names
+pub record Ready (t m n : List ℕ) (u : Used) (parts long : ℕ) : Type 0 where
+  pub usable : Usable t n u
+  pub members : length m ≡ 16000
+  pub names : length n ≡ 32768
+  pub few : u .types < 200
+  pub rows : u .members + parts ≤ 2000
+  pub bytes : u .bytes + long ≤ 32768

@@ -144,7 +144,8 @@ pub fn add_laid(
     }
 }
 
-// The name, the parts and the row of a string type, after what is used; answers how much is used then.
+// The name, the parts and the row of a string type, the book's or STRING, after what is used; answers how much is used
+// then.
 pub fn store_string(
     types: &mut TypeTable,
     members: &mut MemberTable,
