@@ -1,6 +1,6 @@
 // The program `answers`: the public calls behind questions and answers in frames on standard input and output. The
 // library `replies` says what each question is answered with. The tables live for the run.
-ghost use Rattle.types.specs.Kept.{Kept};
+ghost use Rattle.types.specs.tables.Kept.{Kept};
 use frames::Frame;
 use frames::START;
 use frames::answer_room;

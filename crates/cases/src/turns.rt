@@ -1,6 +1,6 @@
 // One turn: the next case of the input, its question answered and compared.
 ghost use Prim.Native.Nat.{_≤_};
-ghost use Rattle.types.specs.Kept.{Kept};
+ghost use Rattle.types.specs.tables.Kept.{Kept};
 use crate::expected::agrees;
 use crate::lines::say_differs;
 use frames::Frame;

@@ -2,7 +2,7 @@
 // "Reference cases"). A place in the buffer says how much of it is gathered.
 ghost use Prim.Native.Nat.{_≤_};
 ghost use lib.ListN.{length};
-ghost use Rattle.types.specs.Kept.{Kept};
+ghost use Rattle.types.specs.tables.Kept.{Kept};
 use types::MemberTable;
 use types::NameTable;
 use types::TypeTable;

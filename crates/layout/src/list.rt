@@ -2,7 +2,7 @@
 // lines, after the four predefined types.
 ghost use Prim.Native.Nat.{_≤_};
 ghost use lib.ListN.{length};
-ghost use Rattle.types.specs.Kept.{Kept};
+ghost use Rattle.types.specs.tables.Kept.{Kept};
 use crate::lines::add_member;
 use crate::lines::add_type;
 use types::MemberTable;

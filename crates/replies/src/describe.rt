@@ -1,5 +1,5 @@
 // Kind 2: a type of the tables, whole, with its members.
-ghost use Rattle.types.specs.Kept.{Kept};
+ghost use Rattle.types.specs.tables.Kept.{Kept};
 use crate::puts::accept;
 use crate::puts::malformed;
 use crate::puts::put_count;

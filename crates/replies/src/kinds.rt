@@ -1,7 +1,7 @@
 // What each kind of question is answered with: the place where the answer ends in the output buffer.
 ghost use Prim.Native.Nat.{_≤_};
 ghost use lib.ListN.{length};
-ghost use Rattle.types.specs.Kept.{Kept};
+ghost use Rattle.types.specs.tables.Kept.{Kept};
 use crate::describe::describe;
 use crate::normals::tell_normal;
 use crate::puts::BODY;

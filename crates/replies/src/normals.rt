@@ -1,5 +1,5 @@
 // Questions for the normal image of a tag's bytes.
-ghost use Rattle.types.specs.Kept.{Kept};
+ghost use Rattle.types.specs.tables.Kept.{Kept};
 use crate::puts::BODY;
 use crate::puts::accept;
 use crate::puts::has_room;

@@ -1,5 +1,5 @@
 // Kind 4: the shape of a tag.
-ghost use Rattle.types.specs.Kept.{Kept};
+ghost use Rattle.types.specs.tables.Kept.{Kept};
 use crate::puts::accept;
 use crate::puts::malformed;
 use crate::puts::put8;

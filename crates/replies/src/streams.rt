@@ -1,5 +1,5 @@
 // Questions about a tag's bytes: their value stream, and the stored text of a string.
-ghost use Rattle.types.specs.Kept.{Kept};
+ghost use Rattle.types.specs.tables.Kept.{Kept};
 use crate::puts::BODY;
 use crate::puts::MOST_ROOM;
 use crate::puts::accept;

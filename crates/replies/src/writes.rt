@@ -2,7 +2,7 @@
 // that one can see that nothing changed.
 ghost use Prim.Native.Nat.{_+_, _≤_};
 ghost use lib.ListN.{length};
-ghost use Rattle.types.specs.Kept.{Kept};
+ghost use Rattle.types.specs.tables.Kept.{Kept};
 use crate::puts::BODY;
 use crate::puts::accept;
 use crate::puts::has_room;

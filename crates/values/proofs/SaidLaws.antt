@@ -3,19 +3,19 @@
 use Prim.Native.Nat.{ℕ, _+_}
 use mathlib.Core.Path.{_≡_, refl, sym, ap, ap₂, _∙_}
 use mathlib.Core.List.{List}
-use Rattle.types.proofs.SaidLaws.{why-same}
-use Rattle.types.specs.declared.member.Ty.{Ty}
-use Rattle.values.specs.Entry.{LoadedFits, entryAt, saidBy as loadedSays}
-use Rattle.values.specs.Normalised.{MadeNormal}
-use Rattle.values.specs.Reading.{Answered, saidBy as streamedSays}
-use Rattle.values.specs.Texts.{Address, Stored, textStart}
-use Rattle.values.specs.Written.{Done, saidBy as takenSays}
-use Rattle.values.specs.declared.entries.Loaded.{Loaded}
-use Rattle.values.specs.declared.reading.Streamed.{Streamed}
-use Rattle.values.specs.declared.reading.Streamed.the-variants as streamed
-use Rattle.values.specs.declared.writing.Taken.{Taken}
-use Rattle.values.specs.declared.writing.Taken.the-variants as taken
-use Rattle.values.proofs.EntryLaws.{loaded-same}
+use Rattle.types.specs.declared.tables.member.Ty.{Ty}
+use Rattle.types.proofs.Face.{why-same}
+use Rattle.values.specs.normal_image.Normalised.{MadeNormal}
+use Rattle.values.specs.reading.Read.{Answered, saidBy as streamedSays}
+use Rattle.values.specs.reading.Texts.{Address, Stored, textStart}
+use Rattle.values.specs.stream.Entry.{LoadedFits, entryAt, saidBy as loadedSays}
+use Rattle.values.specs.writing.Written.{Done, saidBy as takenSays}
+use Rattle.values.specs.declared.reading.read.Streamed.{Streamed}
+use Rattle.values.specs.declared.reading.read.Streamed.the-variants as streamed
+use Rattle.values.specs.declared.stream.entry.Loaded.{Loaded}
+use Rattle.values.specs.declared.writing.write.Taken.{Taken}
+use Rattle.values.specs.declared.writing.write.Taken.the-variants as taken
+use Rattle.values.proofs.stream.EntryLaws.{loaded-same}
 
 -- two answers of a reading that say the same are the same, and so are two of a writing
 pub streamed-same : (r s : Streamed) → streamedSays r ≡ streamedSays s → r ≡ s

@@ -1,33 +1,8 @@
--- What a value stream is, what reading gives, what writing does, the normal image, and the steps that the code makes.
-pub mod Stream
-pub mod Entry
-pub mod Form
-pub mod Steps
-pub mod Decode
-pub mod Leaf
-pub mod Tree
-pub mod Trees
-pub mod Walk
-pub mod Walkable
-pub mod Numbers
-pub mod Counting
-pub mod Laying
-pub mod Reading
-pub mod Effects
-pub mod Writing
-pub mod Limits
-pub mod Passes
-pub mod Bools
-pub mod Rows
-pub mod Written
-pub mod Normal
-pub mod InPlace
-pub mod Placed
-pub mod Normalised
-pub mod Texts
-pub mod CaseTables
-pub mod ReadingCases
-pub mod WritingCases
-pub mod NormalCases
-pub mod ValueCases
-pub mod Reference
+-- What a value stream is, what reading gives, what writing does, the normal image: a folder for each paragraph of
+-- document 01. What no promise of a public call stands on is under `inside`.
+pub mod cases
+pub mod inside
+pub mod normal_image
+pub mod reading
+pub mod stream
+pub mod writing

@@ -3,3 +3,4 @@ pub mod Lists
 pub mod WordLaws
 pub mod BitLaws
 pub mod Copying
+pub mod TestLaws

@@ -1,6 +1,6 @@
 -- `answers::main` is safe and ends: tables of zeros are kept.
 use borrow.Author.Needs.{needs}
-use Rattle.types.proofs.KeptLaws.{none-kept}
+use Rattle.types.proofs.Face.{none-kept}
 use Rattle.answers.proofs.main.Statement.{statement}
 use Rattle.answers.proofs.main.Tie as tie
 

@@ -2,7 +2,7 @@
 use borrow.Author.Needs.{needs}
 use mathlib.Core.Path.{_≡_}
 use lib.ListN.{length}
-use Rattle.types.specs.Kept.{Kept}
+use Rattle.types.specs.tables.Kept.{Kept}
 use Rattle.answers.proofs.serve.Statement.{statement}
 use Rattle.answers.proofs.serve.Tie as tie
 

@@ -4,7 +4,7 @@ use borrow.Author.Needs.{needs}
 use Prim.Native.Nat.{_-_, _^_, _≤_}
 use mathlib.Core.Path.{_≡_}
 use lib.ListN.{length}
-use Rattle.types.specs.Kept.{Kept}
+use Rattle.types.specs.tables.Kept.{Kept}
 use Rattle.cases.proofs.replay_all.Statement.{statement}
 use Rattle.cases.proofs.replay_all.Tie as tie
 

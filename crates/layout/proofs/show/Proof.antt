@@ -1,7 +1,7 @@
 -- `layout::show` meets its contract: what a build leaves in the tables is kept.
 use borrow.Author.Needs.{needs}
 use Rattle.words.specs.Words.{Bytes}
-use Rattle.types.proofs.KeptLaws.{build-kept}
+use Rattle.types.proofs.Face.{build-kept}
 use Rattle.layout.proofs.show.Statement.{statement}
 use Rattle.layout.proofs.show.Tie as tie
 

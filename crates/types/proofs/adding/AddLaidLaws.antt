@@ -7,21 +7,24 @@ use mathlib.Core.Bool.{true, false}
 use mathlib.Core.List.{List}
 use lib.ListN.{length, length-append}
 use Rattle.words.specs.Words.{Bytes}
-use Rattle.types.specs.declared.layout.Cursor.{Cursor}
-use Rattle.types.specs.declared.layout.Decl.{Decl}
-use Rattle.types.specs.declared.measure.Measured.the-variants.{Laid, AccessWrong, TooFar}
-use Rattle.types.specs.declared.new_types.NewType.{NewType}
-use Rattle.types.specs.Add.{Verdict, no, newDef, fitted, addLaid, Usable, Declared}
-use Rattle.types.specs.Defs.{Part}
-use Rattle.types.specs.Entries.{declsFrom}
-use Rattle.types.specs.Layout.{alignUp}
-use Rattle.types.specs.Passes.{udtParts, partsOf, measuredOf, StorableType, StorableAoi, Storable, BoolsCounted}
-use Rattle.types.specs.Registry.{View}
-use Rattle.types.specs.Structs.{namesOf, namedIn, sizeAt, udtStart, aoiHosts, laidKind, stringParts}
-use Rattle.types.proofs.AddLaws.{type-fits, string-fits}
-use Rattle.types.proofs.AddStoreLaws.{declared-found, decls-able, decl-inside, decls-named, Roomy, Counted}
-use Rattle.types.proofs.BoundLaws.{type-count, type-names, type-most}
-use Rattle.types.proofs.LaidOutLaws.{laid-passes}
+use Rattle.types.specs.adding.Add.{Verdict, no, newDef, fitted, addLaid}
+use Rattle.types.specs.inside.adding.Add.{Usable, Declared}
+use Rattle.types.specs.inside.book.Decls.{declsFrom}
+use Rattle.types.specs.inside.layout.Passes.{udtParts, partsOf, measuredOf, StorableType, StorableAoi, Storable}
+use Rattle.types.specs.inside.layout.Passes.{BoolsCounted}
+use Rattle.types.specs.layout.Placing.{alignUp}
+use Rattle.types.specs.layout.Structs.{namesOf, namedIn, roundedSize, udtStart, aoiHosts, laidKind, stringParts}
+use Rattle.types.specs.tables.Defs.{Part}
+use Rattle.types.specs.tables.Registry.{View}
+use Rattle.types.specs.declared.adding.new_types.NewType.{NewType}
+use Rattle.types.specs.declared.layout.measure.Measured.the-variants.{Laid, AccessWrong, TooFar}
+use Rattle.types.specs.declared.layout.placing.Cursor.{Cursor}
+use Rattle.types.specs.declared.layout.placing.Decl.{Decl}
+use Rattle.types.proofs.adding.AddLaws.{type-fits, string-fits}
+use Rattle.types.proofs.adding.AddStoreLaws.{declared-found, decls-able, decl-inside, decls-named, Roomy}
+use Rattle.types.proofs.adding.AddStoreLaws.{Counted}
+use Rattle.types.proofs.layout.BoundLaws.{type-count, type-names, type-most}
+use Rattle.types.proofs.layout.LaidOutLaws.{laid-passes}
 
 -- ---- strings
 
@@ -49,7 +52,7 @@ module _ (v : View) (book name : List ℕ) (new : NewType) (ds : List Decl) wher
   pub laid-fitted : {c : Cursor} {long : ℕ} → Laid c long ≡ measuredOf (new .aoi) name ds
       → verdict
       ≡ fitted v (new .number)
-      (newDef v name (new .id) (sizeAt c) (laidKind (new .aoi)) (partsOf (new .aoi) (namedIn book) name ds))
+      (newDef v name (new .id) (roundedSize c) (laidKind (new .aoi)) (partsOf (new .aoi) (namedIn book) name ds))
   unfolding addLaid
   laid-fitted q = rw (laid-passes (new .aoi) (namedIn book) name ds, ← q)
 

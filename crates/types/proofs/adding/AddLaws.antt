@@ -7,27 +7,30 @@ use mathlib.Core.Bool.{Bool, true, false}
 use mathlib.Core.List.{List, [], _∷_, _++_}
 use lib.ListN.{length, getD}
 use lib.Seq.{sets}
-use Rattle.types.specs.declared.layout.Cursor.{Cursor}
-use Rattle.types.specs.declared.layout.Decl.{Decl}
-use Rattle.types.specs.declared.member.StructKind.{StructKind}
-use Rattle.types.specs.declared.used.Used.{Used}
-use Rattle.types.specs.Add.{no, yes, hasRoom, usedIn, newDef, fitted, Usable}
-use Rattle.types.specs.Defs.{Part, Def}
-use Rattle.types.specs.Digits.{hostName}
-use Rattle.types.specs.Handle.{handleOf}
-use Rattle.types.specs.Ids.{idWord}
-use Rattle.types.specs.Laid.{Earlier, Every}
-use Rattle.types.specs.Layout.{opened, nextBit}
-use Rattle.types.specs.Lookup.{rowName}
-use Rattle.types.specs.Registry.{View, idAt, viewIn, headOf, withHandle}
-use Rattle.types.specs.Passes.{thenParts, partsFrom, udtParts, aoiParts, partsOf}
-use Rattle.types.specs.Structs.{namesOf, rowsOf, hostParts, aoiHosts, aoiStart}
-use Rattle.types.specs.Structs.{udtStart, stringParts}
-use Rattle.types.specs.Tables.{typeAt}
-use Rattle.types.specs.Template.{idsIn, templateIn, templateOf}
-use Rattle.types.proofs.AgreeLaws.{template-same, length-list, getD-list}
-use Rattle.types.proofs.DefLaws.{PartFits, def-back}
-use Rattle.types.proofs.PlaceLaws.{place-cases}
+use Rattle.types.specs.adding.Add.{no, yes, hasRoom, usedIn, newDef, fitted}
+use Rattle.types.specs.adding.Ids.{idWord}
+use Rattle.types.specs.atomics.Lookup.{rowName}
+use Rattle.types.specs.inside.adding.Add.{Usable}
+use Rattle.types.specs.inside.layout.Passes.{thenParts, partsFrom, udtParts, aoiParts, partsOf}
+use Rattle.types.specs.inside.tables.Registry.{viewIn, withHandle}
+use Rattle.types.specs.layout.HostNames.{hostName}
+use Rattle.types.specs.layout.Laid.{Earlier, Every}
+use Rattle.types.specs.layout.Placing.{opened, nextBit}
+use Rattle.types.specs.layout.Structs.{namesOf, rowsOf, hostParts, aoiHosts, aoiStart}
+use Rattle.types.specs.layout.Structs.{udtStart, stringParts}
+use Rattle.types.specs.tables.Defs.{Part, Def}
+use Rattle.types.specs.tables.Lent.{typeAt}
+use Rattle.types.specs.tables.Registry.{View, idAt, headOf}
+use Rattle.types.specs.tables.TypeWord.{idsIn}
+use Rattle.types.specs.templates.Handle.{handleOf}
+use Rattle.types.specs.templates.Template.{templateIn, templateOf}
+use Rattle.types.specs.declared.adding.used.Used.{Used}
+use Rattle.types.specs.declared.layout.placing.Cursor.{Cursor}
+use Rattle.types.specs.declared.layout.placing.Decl.{Decl}
+use Rattle.types.specs.declared.tables.member.StructKind.{StructKind}
+use Rattle.types.proofs.layout.PlaceLaws.{place-cases}
+use Rattle.types.proofs.tables.AgreeLaws.{template-same, length-list, getD-list}
+use Rattle.types.proofs.tables.DefLaws.{PartFits, def-back}
 
 -- ---- the parts of every layout can be stored and read back
 

@@ -9,31 +9,35 @@ use borrow.Author.Tests.{ltb-true, leb-true, le-leb}
 use lib.Dec.{leb, ltb}
 use lib.ListN.{length, getD}
 use lib.Seq.{sets}
-use Rattle.types.specs.Said.{whyOf}
 use Rattle.words.specs.Words.{Bytes}
 use Rattle.words.proofs.Lists.{sets-append}
+use Rattle.words.proofs.TestLaws.{and-left, and-right}
 use Rattle.words.proofs.WordLaws.{word-below}
-use Rattle.types.specs.declared.member.StructDef.{StructDef}
-use Rattle.types.specs.declared.member.StructKind.{StructKind}
-use Rattle.types.specs.declared.refusal.Refusal.{Refusal}
-use Rattle.types.specs.declared.refusal.Refusal.the-variants.{TablesFull}
-use Rattle.types.specs.declared.used.Turn.{Turn}
-use Rattle.types.specs.declared.used.Turn.the-variants.{Refused, Added}
-use Rattle.types.specs.declared.used.Used.{Used}
-use Rattle.types.specs.Add.{Verdict, no, yes, hasRoom, newDef, fitted, Took, Usable, Ready, Declared}
-use Rattle.types.specs.Defs.{Part, Def, Readable}
-use Rattle.types.specs.Entries.{declAt, declsFrom, resolved, Found}
-use Rattle.types.specs.Handle.{handleOf}
-use Rattle.types.specs.Laid.{Every}
-use Rattle.types.specs.Registry.{viewIn, headOf, bareHead, withHandle, usedWith}
-use Rattle.types.specs.Structs.{namesOf, rowsOf, namedIn}
-use Rattle.types.specs.Tables.{tyOf, typeRow}
-use Rattle.types.specs.Template.{templateIn}
-use Rattle.types.proofs.AddLaws.{Able, row-same, fitted-no, fitted-yes}
-use Rattle.types.proofs.DefLaws.{PartFits, earlier-fits, head-readable}
-use Rattle.types.proofs.FoundLaws.{decl-resolved, all-named}
-use Rattle.types.proofs.RoomLaws.{room-bytes}
-use Rattle.types.proofs.TestLaws.{and-left, and-right}
+use Rattle.types.specs.adding.Add.{Verdict, no, yes, hasRoom, newDef, fitted}
+use Rattle.types.specs.book.Decls.{resolved}
+use Rattle.types.specs.inside.adding.Add.{Took, Usable, Ready, Declared}
+use Rattle.types.specs.inside.book.Decls.{declAt, declsFrom, Found}
+use Rattle.types.specs.inside.tables.Defs.{Readable}
+use Rattle.types.specs.inside.tables.Registry.{viewIn, bareHead, withHandle, usedWith}
+use Rattle.types.specs.layout.Laid.{Every}
+use Rattle.types.specs.layout.Structs.{namesOf, rowsOf, namedIn}
+use Rattle.types.specs.refusals.Said.{whyOf}
+use Rattle.types.specs.tables.Defs.{Part, Def}
+use Rattle.types.specs.tables.Lent.{tyOf, typeRow}
+use Rattle.types.specs.tables.Registry.{headOf}
+use Rattle.types.specs.templates.Handle.{handleOf}
+use Rattle.types.specs.templates.Template.{templateIn}
+use Rattle.types.specs.declared.adding.progress.Progress.{Progress}
+use Rattle.types.specs.declared.adding.progress.Progress.the-variants.{Refused, Added}
+use Rattle.types.specs.declared.adding.used.Used.{Used}
+use Rattle.types.specs.declared.refusals.refusal.Refusal.{Refusal}
+use Rattle.types.specs.declared.refusals.refusal.Refusal.the-variants.{TablesFull}
+use Rattle.types.specs.declared.tables.member.StructDef.{StructDef}
+use Rattle.types.specs.declared.tables.member.StructKind.{StructKind}
+use Rattle.types.proofs.adding.AddLaws.{Able, row-same, fitted-no, fitted-yes}
+use Rattle.types.proofs.adding.RoomLaws.{room-bytes}
+use Rattle.types.proofs.layout.FoundLaws.{decl-resolved, all-named}
+use Rattle.types.proofs.tables.DefLaws.{PartFits, earlier-fits, head-readable}
 
 -- ---- the declared members
 
@@ -195,7 +199,7 @@ pub took-no : {s : Verdict} {u : Used} (r : Refusal) (types members names : List
 took-no r types members names e = rw e (record { is = refl; types = refl; members = refl; names = refl })
 
 -- a verdict was carried out that is the one asked for
-pub took-so : {s s′ : Verdict} {u : Used} {t₀ m₀ n₀ t m n : List ℕ} {r : Turn}
+pub took-so : {s s′ : Verdict} {u : Used} {t₀ m₀ n₀ t m n : List ℕ} {r : Progress}
     → s ≡ s′ → Took s′ u t₀ m₀ n₀ t m n r → Took s u t₀ m₀ n₀ t m n r
 took-so e t = rw e t
 

@@ -5,25 +5,26 @@ use mathlib.Core.Bool.{Bool, true, false, not, _&&_}
 use mathlib.Core.List.{List, []}
 use borrow.Author.Tests.{eq-eqb, ne-eqb, le-leb, lt-leb, leb-true}
 use lib.Dec.{eqb, leb}
-use Rattle.types.specs.declared.book.TypeEntry.{TypeEntry}
-use Rattle.types.specs.declared.checks.Checked.{Checked}
-use Rattle.types.specs.declared.checks.Checked.the-variants.{Good, NameWrong, Twice, LocalOutside}
-use Rattle.types.specs.declared.ids.Picked.{Picked}
-use Rattle.types.specs.declared.ids.Picked.the-variants.{Free, OutsideRange, InUse, NoneFree}
-use Rattle.types.specs.declared.layout.Decl.{Decl}
-use Rattle.types.specs.declared.lookups.FoundTy.{FoundTy}
-use Rattle.types.specs.declared.lookups.FoundTy.the-variants.{Is, Nothing}
-use Rattle.types.specs.declared.member.StructKind.the-variants.{Str}
-use Rattle.types.specs.declared.member.Ty.{Ty}
-use Rattle.types.specs.Add.{no, addLaid, addMembers, addString, addNamed, addFresh, addEntry}
-use Rattle.types.specs.Add.{isAoi, isString, hasId, stringOk, newDef, fitted}
-use Rattle.types.specs.Checks.{checked, entriesFrom}
-use Rattle.types.specs.Ids.{idFor}
-use Rattle.types.specs.Lookup.{typeAmong}
-use Rattle.types.specs.Names.{goodName}
-use Rattle.types.specs.Registry.{View}
-use Rattle.types.specs.Structs.{stringParts, stringSize}
-use Rattle.types.proofs.TestLaws.{and-left, and-right}
+use Rattle.words.proofs.TestLaws.{and-left, and-right}
+use Rattle.types.specs.adding.Add.{no, addLaid, addMembers, addString, addNamed, addFresh, addEntry}
+use Rattle.types.specs.adding.Add.{stringOk, newDef, fitted}
+use Rattle.types.specs.adding.Checks.{checked, entriesFrom}
+use Rattle.types.specs.adding.Ids.{idFor}
+use Rattle.types.specs.atomics.Lookup.{typeAmong}
+use Rattle.types.specs.book.Contents.{isAoi, isString, hasId}
+use Rattle.types.specs.book.Names.{goodName}
+use Rattle.types.specs.layout.Structs.{stringParts, stringSize}
+use Rattle.types.specs.tables.Registry.{View}
+use Rattle.types.specs.declared.adding.checks.Checked.{Checked}
+use Rattle.types.specs.declared.adding.checks.Checked.the-variants.{Good, NameWrong, Twice, LocalOutside}
+use Rattle.types.specs.declared.adding.ids.Picked.{Picked}
+use Rattle.types.specs.declared.adding.ids.Picked.the-variants.{Free, OutsideRange, InUse, NoneFree}
+use Rattle.types.specs.declared.atomics.lookup.FoundTy.{FoundTy}
+use Rattle.types.specs.declared.atomics.lookup.FoundTy.the-variants.{Is, Nothing}
+use Rattle.types.specs.declared.book.contents.TypeEntry.{TypeEntry}
+use Rattle.types.specs.declared.layout.placing.Decl.{Decl}
+use Rattle.types.specs.declared.tables.member.StructKind.the-variants.{Str}
+use Rattle.types.specs.declared.tables.member.Ty.{Ty}
 
 -- ---- per member 2, 8, 9
 

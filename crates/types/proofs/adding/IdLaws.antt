@@ -8,11 +8,12 @@ use mathlib.Core.Bool.{Bool, true, false, cond, _&&_, _||_, and-eq-true-iff}
 use mathlib.Core.List.{List}
 use borrow.Author.Tests.{eq-eqb, ne-eqb, eqb-true, le-leb, lt-leb, leb-true}
 use lib.Dec.{eqb, leb}
-use Rattle.types.specs.declared.ids.Picked.{Picked}
-use Rattle.types.specs.declared.ids.Picked.the-variants.{Free, OutsideRange, InUse, NoneFree}
-use Rattle.types.specs.Book.{listFrom}
-use Rattle.types.specs.Ids.{idWord, Held, Lowest, inUse, lowestFrom, lowestFree, idFor}
-use Rattle.types.proofs.TestLaws.{or-right, clash}
+use Rattle.words.proofs.TestLaws.{or-right, clash}
+use Rattle.types.specs.adding.Ids.{idWord, inUse, lowestFrom, lowestFree, idFor}
+use Rattle.types.specs.book.Contents.{listFrom}
+use Rattle.types.specs.inside.adding.Ids.{Held, Lowest}
+use Rattle.types.specs.declared.adding.ids.Picked.{Picked}
+use Rattle.types.specs.declared.adding.ids.Picked.the-variants.{Free, OutsideRange, InUse, NoneFree}
 
 pub held-more : (t : List ℕ) (n r i : ℕ) → ((k : ℕ) → 0x100 ≤ k → k < r → Held t n k) → i < n → idWord t i ≡ r
     → (k : ℕ) → 0x100 ≤ k → k < r + 1 → Held t n k

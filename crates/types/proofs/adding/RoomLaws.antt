@@ -4,8 +4,8 @@ use mathlib.Core.Path.{_≡_, _∙_}
 use mathlib.Core.Bool.{false}
 use borrow.Author.Tests.{lt-ltb, le-ltb, le-leb, lt-leb}
 use lib.Dec.{leb}
-use Rattle.types.specs.declared.used.Used.{Used}
-use Rattle.types.specs.Add.{hasRoom}
+use Rattle.types.specs.adding.Add.{hasRoom}
+use Rattle.types.specs.declared.adding.used.Used.{Used}
 
 module _ (u : Used) (members bytes : ℕ) where
   pub room-types : 200 ≤ u .types → false ≡ hasRoom u members bytes

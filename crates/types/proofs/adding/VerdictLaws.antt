@@ -7,58 +7,60 @@ use mathlib.Core.Path.{_≡_, refl, sym}
 use mathlib.Core.Bool.{Bool, true, false}
 use mathlib.Core.List.{List, [], _∷_}
 use lib.ListN.{length, length-map}
-use Rattle.types.specs.Turns.{stuckAt}
 use Rattle.words.specs.Words.{Bytes}
 use Rattle.words.proofs.WordLaws.{word-below}
-use Rattle.types.specs.declared.book.MemberEntry.{MemberEntry}
-use Rattle.types.specs.declared.book.TypeEntry.{TypeEntry}
-use Rattle.types.specs.declared.checks.Checked.{Checked}
-use Rattle.types.specs.declared.checks.Checked.the-variants.{Good, NameWrong, Twice, LocalOutside}
-use Rattle.types.specs.declared.ids.Picked.{Picked}
-use Rattle.types.specs.declared.ids.Picked.the-variants.{Free, OutsideRange, InUse, NoneFree}
-use Rattle.types.specs.declared.layout.Cursor.{Cursor}
-use Rattle.types.specs.declared.layout.Decl.{Decl}
-use Rattle.types.specs.declared.lookups.FoundTy.{FoundTy}
-use Rattle.types.specs.declared.lookups.FoundTy.the-variants.{Is, Nothing}
-use Rattle.types.specs.declared.measure.Measured.{Measured}
-use Rattle.types.specs.declared.measure.Measured.the-variants.{Laid, AccessWrong as accessWrong, TooFar as tooFar}
-use Rattle.types.specs.declared.member.StructKind.{StructKind}
-use Rattle.types.specs.declared.member.StructKind.the-variants.{Predefined, Str}
-use Rattle.types.specs.declared.member.Ty.{Ty}
-use Rattle.types.specs.Add.{Verdict, no, yes, hasRoom, usedIn, newDef, fitted, onLaid, addLaid}
-use Rattle.types.specs.Add.{onChecked, isAoi, isString, hasId, addMembers, stringOk, addString, addNamed, onId}
-use Rattle.types.specs.Add.{addFresh, addEntry}
-use Rattle.types.specs.Book.{listFrom, typeEntry}
-use Rattle.types.specs.Checks.{checked, entriesFrom}
-use Rattle.types.specs.Defs.{Part, Def, nameIn}
-use Rattle.types.specs.Entries.{storedTy, resolved, declared}
-use Rattle.types.specs.Ids.{inUse, idFor}
-use Rattle.types.specs.Laid.{Laid as Lies, Resolved, Every}
-use Rattle.types.specs.Lookup.{typeAmong}
-use Rattle.types.specs.Names.{goodName}
-use Rattle.types.specs.Registry.{View, sizeAt, ownNames, viewOf}
-use Rattle.types.specs.Resolve.{isFound}
-use Rattle.types.specs.Passes.{partsOf, measuredOf}
-use Rattle.types.specs.Structs.{namedIn, laidKind, sizeAt as sizeOf}
-use Rattle.types.specs.Turns.{entriesAt, countOf, thenDecl, declsOf, verdictOn}
-use Rattle.types.proofs.AddLaws.{Able, type-fits, string-fits}
-use Rattle.types.proofs.AddStoreLaws.{Roomy, roomy}
-use Rattle.types.proofs.AddTypeLaws.{string-least, string-most as string-room}
-use Rattle.types.proofs.BoundLaws.{type-count, type-most, string-most}
-use Rattle.types.proofs.DefLaws.{PartFits}
-use Rattle.types.proofs.EntryLaws.{align-fair}
-use Rattle.types.proofs.FoundLaws.{stored-earlier}
-use Rattle.types.proofs.HandleLaws.{handle-small}
-use Rattle.types.proofs.IdLaws.{InRange, picked-range, Unheld, picked-unheld}
-use Rattle.types.proofs.LaidLaws.{type-laid, string-laid}
-use Rattle.types.proofs.LaidOutLaws.{both, laid-passes}
-use Rattle.types.proofs.PartLaws.{PartFormed, NamedDecls, NamedEntries, type-formed, string-formed}
-use Rattle.types.proofs.PartLaws.{checked-named}
-use Rattle.types.proofs.ProperLaws.{Proper, user-inside, not-predefined, declared-kind}
-use Rattle.types.proofs.ResolveLaws.{found-earlier}
-use Rattle.types.proofs.RoundLaws.{either}
-use Rattle.types.proofs.ShownLaws.{Shown, Fits}
-use Rattle.types.proofs.StringLaws.{IsString, string-is, other-kind, no-string}
+use Rattle.types.specs.adding.Add.{Verdict, no, yes, hasRoom, usedIn, newDef, fitted, onLaid, addLaid}
+use Rattle.types.specs.adding.Add.{onChecked, addMembers, stringOk, addString, addNamed, onId}
+use Rattle.types.specs.adding.Add.{addFresh, addEntry}
+use Rattle.types.specs.adding.Checks.{checked, entriesFrom}
+use Rattle.types.specs.adding.Ids.{inUse, idFor}
+use Rattle.types.specs.atomics.Lookup.{typeAmong}
+use Rattle.types.specs.book.Contents.{isAoi, isString, hasId}
+use Rattle.types.specs.book.Contents.{listFrom, typeEntry}
+use Rattle.types.specs.book.Decls.{storedTy, resolved, declared}
+use Rattle.types.specs.book.Names.{goodName}
+use Rattle.types.specs.inside.layout.Passes.{partsOf, measuredOf}
+use Rattle.types.specs.layout.Laid.{Laid as Lies, Resolved, Every}
+use Rattle.types.specs.layout.Structs.{namedIn, laidKind, roundedSize as sizeOf}
+use Rattle.types.specs.rounds.Resolve.{isFound}
+use Rattle.types.specs.rounds.Turns.{stuckAt}
+use Rattle.types.specs.rounds.Turns.{entriesAt, countOf, thenDecl, declsOf, verdictOn}
+use Rattle.types.specs.tables.Defs.{Part, Def, nameIn}
+use Rattle.types.specs.tables.Registry.{View, sizeAt, ownNames, viewOf}
+use Rattle.types.specs.declared.adding.checks.Checked.{Checked}
+use Rattle.types.specs.declared.adding.checks.Checked.the-variants.{Good, NameWrong, Twice, LocalOutside}
+use Rattle.types.specs.declared.adding.ids.Picked.{Picked}
+use Rattle.types.specs.declared.adding.ids.Picked.the-variants.{Free, OutsideRange, InUse, NoneFree}
+use Rattle.types.specs.declared.atomics.lookup.FoundTy.{FoundTy}
+use Rattle.types.specs.declared.atomics.lookup.FoundTy.the-variants.{Is, Nothing}
+use Rattle.types.specs.declared.book.contents.MemberEntry.{MemberEntry}
+use Rattle.types.specs.declared.book.contents.TypeEntry.{TypeEntry}
+use Rattle.types.specs.declared.layout.measure.Measured.{Measured}
+use Rattle.types.specs.declared.layout.measure.Measured.the-variants.{Laid, AccessWrong as accessWrong}
+use Rattle.types.specs.declared.layout.measure.Measured.the-variants.{TooFar as tooFar}
+use Rattle.types.specs.declared.layout.placing.Cursor.{Cursor}
+use Rattle.types.specs.declared.layout.placing.Decl.{Decl}
+use Rattle.types.specs.declared.tables.member.StructKind.{StructKind}
+use Rattle.types.specs.declared.tables.member.StructKind.the-variants.{Predefined, Str}
+use Rattle.types.specs.declared.tables.member.Ty.{Ty}
+use Rattle.types.proofs.adding.AddLaws.{Able, type-fits, string-fits}
+use Rattle.types.proofs.adding.AddStoreLaws.{Roomy, roomy}
+use Rattle.types.proofs.adding.AddTypeLaws.{string-least, string-most as string-room}
+use Rattle.types.proofs.adding.IdLaws.{InRange, picked-range, Unheld, picked-unheld}
+use Rattle.types.proofs.book.DeclLaws.{align-fair}
+use Rattle.types.proofs.layout.BoundLaws.{type-count, type-most, string-most}
+use Rattle.types.proofs.layout.FoundLaws.{stored-earlier}
+use Rattle.types.proofs.layout.LaidLaws.{type-laid, string-laid}
+use Rattle.types.proofs.layout.LaidOutLaws.{both, laid-passes}
+use Rattle.types.proofs.layout.PartLaws.{PartFormed, NamedDecls, NamedEntries, type-formed, string-formed}
+use Rattle.types.proofs.layout.PartLaws.{checked-named}
+use Rattle.types.proofs.layout.StringLaws.{IsString, string-is, other-kind, no-string}
+use Rattle.types.proofs.rounds.ResolveLaws.{found-earlier}
+use Rattle.types.proofs.rounds.RoundLaws.{either}
+use Rattle.types.proofs.tables.DefLaws.{PartFits}
+use Rattle.types.proofs.tables.ProperLaws.{Proper, user-inside, not-predefined, declared-kind}
+use Rattle.types.proofs.tables.ShownLaws.{Shown, Fits}
+use Rattle.types.proofs.templates.HandleLaws.{handle-small}
 
 -- ---- the ways out of adding
 

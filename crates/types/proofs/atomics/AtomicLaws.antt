@@ -11,17 +11,19 @@ use lib.Arith.{lt-of-le-ne}
 use lib.Dec.{lit<, ltb}
 use lib.ListN.{length, getD, take, drop, length-append, List·getD-eq-default, List·getD-map}
 use lib.Seq.{drop-cons, take-append-seam}
-use Rattle.types.specs.declared.atomic.Atomic.{Atomic}
-use Rattle.types.specs.declared.atomic.Atomic.the-variants.{Bool as BOOL, SInt, Int, DInt, LInt, USInt, UInt}
-use Rattle.types.specs.declared.atomic.Atomic.the-variants.{UDInt}
-use Rattle.types.specs.declared.atomic.Atomic.the-variants.{ULInt, Real, LReal, Byte, Word, DWord, LWord}
-use Rattle.types.specs.declared.atomic.AtomicRow.{AtomicRow}
-use Rattle.types.specs.declared.atomic.FoundAtomic.{FoundAtomic}
-use Rattle.types.specs.declared.atomic.FoundAtomic.the-variants.{Is, Nothing}
-use Rattle.types.specs.Atomic.{atomics, atomicAt, codeOf, numOf, nameOf, rowOf, rowsOf, firstOf, atomicNamed}
-use Rattle.types.specs.Atomic.{codeAt, codeNamed, firstCode, saidBy}
-use Rattle.types.specs.Names.{sameName}
-use Rattle.types.specs.Said.{done}
+use Rattle.types.specs.atomics.Atomic.{atomics, atomicAt, codeOf, numOf, nameOf, rowOf, firstOf, atomicNamed}
+use Rattle.types.specs.atomics.Atomic.{codeAt, codeNamed, firstCode, saidBy}
+use Rattle.types.specs.book.Names.{sameName}
+use Rattle.types.specs.inside.atomics.Atomic.{tableRows}
+use Rattle.types.specs.refusals.Said.{done}
+use Rattle.types.specs.declared.atomics.atomic.Atomic.{Atomic}
+use Rattle.types.specs.declared.atomics.atomic.Atomic.the-variants.{Bool as BOOL, SInt, Int, DInt, LInt, USInt}
+use Rattle.types.specs.declared.atomics.atomic.Atomic.the-variants.{UInt}
+use Rattle.types.specs.declared.atomics.atomic.Atomic.the-variants.{UDInt}
+use Rattle.types.specs.declared.atomics.atomic.Atomic.the-variants.{ULInt, Real, LReal, Byte, Word, DWord, LWord}
+use Rattle.types.specs.declared.atomics.atomic.AtomicRow.{AtomicRow}
+use Rattle.types.specs.declared.atomics.atomic.FoundAtomic.{FoundAtomic}
+use Rattle.types.specs.declared.atomics.atomic.FoundAtomic.the-variants.{Is, Nothing}
 
 -- the atomic at its own place
 pub at-num : (a : Atomic) → atomicAt (numOf a) ≡ a
@@ -52,10 +54,10 @@ getD-rows (a ∷ l) zero d h = refl
 getD-rows (a ∷ l) (suc i) d h = getD-rows l i d (le-of-suc-le-suc h)
 
 -- a table that is the definition's rows has, at each place, that atomic's row
-pub table-row : (t : List AtomicRow) (i : ℕ) (d : AtomicRow) → t ≡ rowsOf atomics → i < 15
+pub table-row : (t : List AtomicRow) (i : ℕ) (d : AtomicRow) → t ≡ tableRows atomics → i < 15
     → getD t i d ≡ rowOf (atomicAt i)
-unfolding atomicAt rowsOf
-table-row t i d e h = rw (e, rowsOf) (getD-rows atomics i d h)
+unfolding atomicAt tableRows
+table-row t i d e h = rw (e, tableRows) (getD-rows atomics i d h)
 
 -- the name that stands in a row
 pub row-name : (a : Atomic) (r : AtomicRow) → r ≡ rowOf a → take (r .2) (r .3) ≡ nameOf a

@@ -8,11 +8,12 @@ use mathlib.Core.List.{List, [], _∷_}
 use borrow.Author.Tests.{eq-eqb, ne-eqb, le-leb, lt-leb}
 use lib.Dec.{eqb, leb}
 use lib.ListN.{length}
-use Rattle.types.specs.declared.book.MemberEntry.{MemberEntry}
-use Rattle.types.specs.declared.book.TypeEntry.{TypeEntry}
-use Rattle.types.specs.declared.member.Span.{Span}
-use Rattle.types.specs.Book.{typeEntry, inBodies, typeOk, memberOk, listFrom, every, sumCounts, CountsSum}
-use Rattle.types.specs.Book.{membersIn, bodiesAt, typeEntries, memberEntries, bookOk}
+use Rattle.types.specs.book.Contents.{typeEntry, inBodies, typeOk, memberOk, listFrom, every, sumCounts}
+use Rattle.types.specs.book.Contents.{membersIn, bodiesAt, typeEntries, memberEntries, bookOk}
+use Rattle.types.specs.inside.book.Contents.{CountsSum}
+use Rattle.types.specs.declared.book.contents.MemberEntry.{MemberEntry}
+use Rattle.types.specs.declared.book.contents.TypeEntry.{TypeEntry}
+use Rattle.types.specs.declared.tables.member.Span.{Span}
 
 -- ---- entries one after the other
 

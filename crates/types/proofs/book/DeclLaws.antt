@@ -9,19 +9,22 @@ use lib.Dec.{lit≤}
 use lib.ListN.{getD}
 use Rattle.words.specs.Words.{Bytes, wordAt}
 use Rattle.words.proofs.WordLaws.{word-below}
-use Rattle.types.specs.declared.atomic.Atomic.{Atomic as Kind}
-use Rattle.types.specs.declared.atomic.Atomic.the-variants.{Bool as BOOL, SInt, Int, DInt, LInt, USInt, UInt}
-use Rattle.types.specs.declared.atomic.Atomic.the-variants.{UDInt}
-use Rattle.types.specs.declared.atomic.Atomic.the-variants.{ULInt, Real, LReal, Byte, Word, DWord, LWord}
-use Rattle.types.specs.declared.member.Span.{Span}
-use Rattle.types.specs.declared.member.Ty.{Ty}
-use Rattle.types.specs.declared.member.Ty.the-variants.{Atomic, Struct}
-use Rattle.types.specs.Atomic.{sizeOf}
-use Rattle.types.specs.Layout.{isBool}
-use Rattle.types.specs.Passes.{Fair}
-use Rattle.types.specs.Tables.{TyFits, tyOf}
-use Rattle.types.specs.Entries.{boolArray, storedTy, storedCount, alignIn, plain, resolved, declAt, declsFrom}
-use Rattle.types.specs.Entries.{Found}
+use Rattle.types.specs.atomics.Atomic.{sizeOf}
+use Rattle.types.specs.book.Decls.{boolArray, storedTy, storedCount, alignIn, plain, resolved}
+use Rattle.types.specs.inside.book.Decls.{declAt, declsFrom}
+use Rattle.types.specs.inside.book.Decls.{Found}
+use Rattle.types.specs.inside.layout.Passes.{Fair}
+use Rattle.types.specs.inside.tables.Lent.{TyFits}
+use Rattle.types.specs.layout.Placing.{isBool}
+use Rattle.types.specs.tables.Lent.{tyOf}
+use Rattle.types.specs.declared.atomics.atomic.Atomic.{Atomic as Kind}
+use Rattle.types.specs.declared.atomics.atomic.Atomic.the-variants.{Bool as BOOL, SInt, Int, DInt, LInt, USInt}
+use Rattle.types.specs.declared.atomics.atomic.Atomic.the-variants.{UInt}
+use Rattle.types.specs.declared.atomics.atomic.Atomic.the-variants.{UDInt}
+use Rattle.types.specs.declared.atomics.atomic.Atomic.the-variants.{ULInt, Real, LReal, Byte, Word, DWord, LWord}
+use Rattle.types.specs.declared.tables.member.Span.{Span}
+use Rattle.types.specs.declared.tables.member.Ty.{Ty}
+use Rattle.types.specs.declared.tables.member.Ty.the-variants.{Atomic, Struct}
 
 module _ (sizes : ℕ → ℕ) (ty : Ty) (dim : ℕ) (name : Span) (local : Bool) (access : ℕ) where
   pub one-bool : isBool ty ≡ true → dim ≡ 0

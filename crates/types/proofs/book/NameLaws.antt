@@ -10,8 +10,8 @@ use borrow.Author.Tests.{eq-eqb, ne-eqb, eqb-true, le-leb, lt-leb, leb-true}
 use lib.Dec.{eqb, leb}
 use lib.ListN.{length, getD, drop, drop-of-length-le}
 use lib.Seq.{drop-cons}
-use Rattle.types.specs.Names.{lowerOf, sameName, nameByte, nameBytes, goodName}
-use Rattle.types.proofs.TestLaws.{and-left, and-right}
+use Rattle.words.proofs.TestLaws.{and-left, and-right}
+use Rattle.types.specs.book.Names.{lowerOf, sameName, nameByte, nameBytes, goodName}
 
 -- ---- small letters
 

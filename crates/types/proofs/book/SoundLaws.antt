@@ -10,13 +10,15 @@ use mathlib.Core.List.{List}
 use borrow.Author.Tests.{leb-true, eqb-true}
 use lib.Dec.{eqb, leb}
 use lib.ListN.{length}
-use Rattle.types.specs.declared.book.MemberEntry.{MemberEntry}
-use Rattle.types.specs.declared.book.TypeEntry.{TypeEntry}
-use Rattle.types.specs.declared.member.Span.{Span}
-use Rattle.types.specs.Book.{typesIn, membersIn, typeEntry, memberEntry, bodiesAt, inBodies, typeOk, memberOk}
-use Rattle.types.specs.Book.{listFrom, every, sumCounts, typeEntries, memberEntries, bookOk}
-use Rattle.types.specs.Checks.{entryOf, EntriesInside}
-use Rattle.types.specs.Turns.{firstOf, entriesAt, countOf}
+use Rattle.types.specs.adding.Checks.{entryOf}
+use Rattle.types.specs.book.Contents.{typesIn, membersIn, typeEntry, memberEntry, bodiesAt, inBodies, typeOk}
+use Rattle.types.specs.book.Contents.{memberOk}
+use Rattle.types.specs.book.Contents.{listFrom, every, sumCounts, typeEntries, memberEntries, bookOk}
+use Rattle.types.specs.inside.adding.Checks.{EntriesInside}
+use Rattle.types.specs.rounds.Turns.{firstMember, entriesAt, countOf}
+use Rattle.types.specs.declared.book.contents.MemberEntry.{MemberEntry}
+use Rattle.types.specs.declared.book.contents.TypeEntry.{TypeEntry}
+use Rattle.types.specs.declared.tables.member.Span.{Span}
 
 -- ---- each of a list
 
@@ -104,12 +106,12 @@ sum-add book j (suc a) b =
     let e : j + suc a ≡ j + 1 + a = omega arith in
     rw (suc-add, e) (omega (arith, sum-add book (j + 1) a b))
 
-first-next : (book : List ℕ) (i : ℕ) → firstOf book (i + 1) ≡ firstOf book i + countOf book i
-unfolding firstOf sumCounts listFrom
+first-next : (book : List ℕ) (i : ℕ) → firstMember book (i + 1) ≡ firstMember book i + countOf book i
+unfolding firstMember sumCounts listFrom
 first-next book i = sum-add book 0 i 1 ∙ rw (zero-add, add-zero)
 
 pub entries-first : (book : List ℕ) → 4 + 16 * typesIn book ≡ entriesAt book 0
-unfolding entriesAt firstOf sumCounts listFrom
+unfolding entriesAt firstMember sumCounts listFrom
 entries-first book = omega arith
 
 pub entries-next : (book : List ℕ) (i : ℕ) → entriesAt book i + 16 * countOf book i ≡ entriesAt book (i + 1)
@@ -118,8 +120,8 @@ entries-next book i = omega (arith, first-next book i)
 
 module _ {book : List ℕ} (s : Sound book) {i : ℕ} (l : i < typesIn book) where
   -- the members of the i-th type are among all
-  pub among-all : firstOf book i + countOf book i ≤ membersIn book
-  unfolding firstOf
+  pub among-all : firstMember book i + countOf book i ≤ membersIn book
+  unfolding firstMember
   among-all =
       let t = typesIn book in
       let e : i + 1 + (t - (i + 1)) ≡ t = omega arith in
@@ -128,7 +130,7 @@ module _ {book : List ℕ} (s : Sound book) {i : ℕ} (l : i < typesIn book) whe
   pub type-inside : 20 + 16 * i ≤ length book
   type-inside = omega (arith, s .room)
 
-  entry-same : (k : ℕ) → entriesAt book i + 16 * k ≡ 4 + 16 * typesIn book + 16 * (firstOf book i + k)
+  entry-same : (k : ℕ) → entriesAt book i + 16 * k ≡ 4 + 16 * typesIn book + 16 * (firstMember book i + k)
   unfolding entriesAt
   entry-same k = omega arith
 
@@ -136,9 +138,9 @@ module _ {book : List ℕ} (s : Sound book) {i : ℕ} (l : i < typesIn book) whe
   entries-inside =
       record {
         inside = omega (arith, entry-same (countOf book i), among-all, s .room);
-        names = λ k h. rw (entry-same k) (s .names (firstOf book i + k) (omega (arith, among-all)));
+        names = λ k h. rw (entry-same k) (s .names (firstMember book i + k) (omega (arith, among-all)));
       }
 
   pub entries-uses : (k : ℕ) → k < countOf book i
       → entryOf book (entriesAt book i) k .ty .at + entryOf book (entriesAt book i) k .ty .long ≤ length book
-  entries-uses k h = rw (entry-same k) (s .uses (firstOf book i + k) (omega (arith, among-all)))
+  entries-uses k h = rw (entry-same k) (s .uses (firstMember book i + k) (omega (arith, among-all)))

@@ -6,22 +6,23 @@ use mathlib.Core.Path.{_≡_, refl, ap}
 use mathlib.Core.Bool.{Bool, true, false}
 use mathlib.Core.List.{List, [], _∷_}
 use lib.ListN.{length, length-append}
-use Rattle.types.specs.declared.layout.Cursor.{Cursor}
-use Rattle.types.specs.declared.layout.Decl.{Decl}
-use Rattle.types.specs.declared.layout.Host.{Host}
-use Rattle.types.specs.declared.layout.Host.the-variants.{Closed, Open, Shared}
-use Rattle.types.specs.declared.layout.Placed.{Placed}
-use Rattle.types.specs.declared.measure.Measured.the-variants.{Laid}
-use Rattle.types.specs.Defs.{Part}
-use Rattle.types.specs.Digits.{hostName}
-use Rattle.types.specs.Laid.{Every}
-use Rattle.types.specs.Layout.{most, alignUp, opened, nextBit}
-use Rattle.types.specs.Passes.{thenParts, partsFrom, measured, udtParts, aoiParts, partsOf, measuredAoi}
-use Rattle.types.specs.Passes.{measuredOf}
-use Rattle.types.specs.Structs.{namesOf, sizeAt, udtStart}
-use Rattle.types.specs.Structs.{aoiHosts, hostParts, aoiStart, stringSize}
-use Rattle.types.proofs.StoreLaws.{names-append}
-use Rattle.types.proofs.PlaceLaws.{Full, place-cases, Ends, no-access, no-far}
+use Rattle.types.specs.inside.layout.Passes.{thenParts, partsFrom, measured, udtParts, aoiParts, partsOf}
+use Rattle.types.specs.inside.layout.Passes.{measuredAoi}
+use Rattle.types.specs.inside.layout.Passes.{measuredOf}
+use Rattle.types.specs.layout.HostNames.{hostName}
+use Rattle.types.specs.layout.Laid.{Every}
+use Rattle.types.specs.layout.Placing.{most, alignUp, opened, nextBit}
+use Rattle.types.specs.layout.Structs.{namesOf, roundedSize, udtStart}
+use Rattle.types.specs.layout.Structs.{aoiHosts, hostParts, aoiStart, stringSize}
+use Rattle.types.specs.tables.Defs.{Part}
+use Rattle.types.specs.declared.layout.measure.Measured.the-variants.{Laid}
+use Rattle.types.specs.declared.layout.placing.Cursor.{Cursor}
+use Rattle.types.specs.declared.layout.placing.Decl.{Decl}
+use Rattle.types.specs.declared.layout.placing.Host.{Host}
+use Rattle.types.specs.declared.layout.placing.Host.the-variants.{Closed, Open, Shared}
+use Rattle.types.specs.declared.layout.placing.Placed.{Placed}
+use Rattle.types.proofs.layout.PlaceLaws.{Full, place-cases, Ends, no-access, no-far}
+use Rattle.types.proofs.layout.StoreLaws.{names-append}
 
 -- ---- the counts
 
@@ -148,22 +149,22 @@ module _ (host : ℕ → List ℕ) (e : Cursor) (n′ : ℕ) where
 
   -- 2,000 members are at most 222 hosts of nine and one of two past 2^26
   size-most : (c : Cursor) (n : ℕ) (ds : List Decl) → Near c → measured host c n ds ≡ Laid e n′ → e .members ≤ 2000
-      → sizeAt e ≤ 2 ^ 26 + 224
+      → roundedSize e ≤ 2 ^ 26 + 224
   unfolding alignUp
   size-most c n ds k q l = omega (arith, near c n ds k q, spare-most (e .host))
 
 -- the hosts of an AOI are members too
 module _ (host : ℕ → List ℕ) (n₀ : ℕ) (ds : List Decl) (c : Cursor) (n : ℕ) where
-  udt-most : measured host udtStart n₀ ds ≡ Laid c n → c .members ≤ 2000 → sizeAt c ≤ 2 ^ 26 + 224
+  udt-most : measured host udtStart n₀ ds ≡ Laid c n → c .members ≤ 2000 → roundedSize c ≤ 2 ^ 26 + 224
   udt-most q l = size-most host c n udtStart n₀ ds (omega arith) q l
 
-  aoi-most : (h : ℕ) → measured host (aoiStart h) n₀ ds ≡ Laid c n → c .members ≤ 2000 → sizeAt c ≤ 2 ^ 26 + 224
+  aoi-most : (h : ℕ) → measured host (aoiStart h) n₀ ds ≡ Laid c n → c .members ≤ 2000 → roundedSize c ≤ 2 ^ 26 + 224
   aoi-most h q l =
       let few = parts-count (λ d. []) host c n (aoiStart h) n₀ ds q in
       size-most host c n (aoiStart h) n₀ ds (omega arith) q l
 
 pub type-most : (aoi : Bool) (type : List ℕ) (ds : List Decl) (c : Cursor) (n : ℕ)
-    → measuredOf aoi type ds ≡ Laid c n → c .members ≤ 2000 → sizeAt c ≤ 2 ^ 26 + 224
+    → measuredOf aoi type ds ≡ Laid c n → c .members ≤ 2000 → roundedSize c ≤ 2 ^ 26 + 224
 unfolding measuredAoi
 type-most true type ds c n q l = aoi-most (hostName type) _ ds c n (aoiHosts ds) q l
 type-most false type ds c n q l = udt-most (hostName type) 0 ds c n q l

@@ -9,8 +9,9 @@ use lib.Dec.{ltb}
 use lib.ListN.{length, take, length-append, length-take}
 use lib.Seq.{sets, length-take-le}
 use Rattle.words.proofs.Lists.{sets-append, take-least}
-use Rattle.types.specs.declared.digits.Digits.{Digits}
-use Rattle.types.specs.Digits.{digitsIn, digits, tenZ, hostName, bitHost, bitHostName, Spelled, TwoDigits}
+use Rattle.types.specs.inside.layout.HostNames.{Spelled, TwoDigits}
+use Rattle.types.specs.layout.HostNames.{digitsIn, digits, tenZ, hostName, bitHost, bitHostName}
+use Rattle.types.specs.declared.layout.host_names.Digits.{Digits}
 
 abbrev pub digitOf : ℕ → ℕ
 digitOf x = 48 + x % 10

@@ -9,15 +9,16 @@ use mathlib.Core.List.{List}
 use lib.ListN.{length, getD}
 use Rattle.words.specs.Words.{wordAt}
 use Rattle.words.proofs.Lists.{length-part}
-use Rattle.types.specs.declared.atomic.Atomic.the-variants.{DWord}
-use Rattle.types.specs.declared.member.Ty.{Ty}
-use Rattle.types.specs.declared.member.Ty.the-variants.{Atomic}
-use Rattle.types.specs.Entries.{boolArray, storedTy, resolved, declAt, declsFrom}
-use Rattle.types.specs.Laid.{Earlier, Resolved, Every}
-use Rattle.types.specs.Structs.{namedIn}
-use Rattle.types.specs.Tables.{tyOf}
-use Rattle.types.specs.Waste.{sizesIn}
-use Rattle.types.proofs.EntryLaws.{align-fair}
+use Rattle.types.specs.book.Decls.{boolArray, storedTy, resolved}
+use Rattle.types.specs.inside.book.Decls.{declAt, declsFrom}
+use Rattle.types.specs.layout.Laid.{Earlier, Resolved, Every}
+use Rattle.types.specs.layout.Structs.{namedIn}
+use Rattle.types.specs.tables.Lent.{tyOf}
+use Rattle.types.specs.tables.Sizes.{sizesIn}
+use Rattle.types.specs.declared.atomics.atomic.Atomic.the-variants.{DWord}
+use Rattle.types.specs.declared.tables.member.Ty.{Ty}
+use Rattle.types.specs.declared.tables.member.Ty.the-variants.{Atomic}
+use Rattle.types.proofs.book.DeclLaws.{align-fair}
 
 pub stored-earlier : (i : ℕ) (t : Ty) (dim : ℕ) → Earlier i t → Earlier i (storedTy t dim)
 unfolding storedTy

@@ -7,21 +7,21 @@ use mathlib.Core.Path.{_≡_, refl, sym, ap, _∙_}
 use mathlib.Core.Bool.{true, false, true≢false}
 use mathlib.Core.List.{List, _∷_}
 use mathlib.Core.Logic.{_⊎_, inl, inr, ⊎-map}
-use Rattle.types.specs.declared.layout.Cursor.{Cursor}
-use Rattle.types.specs.declared.layout.Decl.{Decl}
-use Rattle.types.specs.declared.layout.Host.{Host}
-use Rattle.types.specs.declared.layout.Host.the-variants.{Closed, Open, Shared}
-use Rattle.types.specs.declared.layout.Placed.{Placed}
-use Rattle.types.specs.declared.layout.Placed.the-variants.{Hosted, One, AccessWrong, TooFar}
-use Rattle.types.specs.declared.member.Bit.the-variants.{At}
-use Rattle.types.specs.declared.member.Member.{Member}
-use Rattle.types.specs.Atomic.{sizeOf}
-use Rattle.types.specs.Laid.{firstBit, pastBit, Apart, Earlier, hasBit, Plain, Resolved}
-use Rattle.types.specs.Layout.{times, isBool, alignUp, otherAt, opened, nextBit, closed, startOf, placed}
-use Rattle.types.specs.Layout.{sharedBits}
-use Rattle.types.specs.Structs.{bools}
-use Rattle.types.specs.Waste.{sizeIn}
-use Rattle.types.proofs.PlaceLaws.{endOf, pastOther, place-cases}
+use Rattle.types.specs.atomics.Atomic.{sizeOf}
+use Rattle.types.specs.inside.layout.Placing.{sharedBits}
+use Rattle.types.specs.layout.Laid.{firstBit, pastBit, Apart, Earlier, hasBit, Plain, Resolved}
+use Rattle.types.specs.layout.Placing.{times, isBool, alignUp, otherAt, opened, nextBit, closed, startOf, placed}
+use Rattle.types.specs.layout.Structs.{bools}
+use Rattle.types.specs.tables.Sizes.{sizeIn}
+use Rattle.types.specs.declared.layout.placing.Cursor.{Cursor}
+use Rattle.types.specs.declared.layout.placing.Decl.{Decl}
+use Rattle.types.specs.declared.layout.placing.Host.{Host}
+use Rattle.types.specs.declared.layout.placing.Host.the-variants.{Closed, Open, Shared}
+use Rattle.types.specs.declared.layout.placing.Placed.{Placed}
+use Rattle.types.specs.declared.layout.placing.Placed.the-variants.{Hosted, One, AccessWrong, TooFar}
+use Rattle.types.specs.declared.tables.member.Bit.the-variants.{At}
+use Rattle.types.specs.declared.tables.member.Member.{Member}
+use Rattle.types.proofs.layout.PlaceLaws.{endOf, pastOther, place-cases}
 
 -- ---- free and used bits
 

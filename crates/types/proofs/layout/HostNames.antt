@@ -8,12 +8,12 @@ use mathlib.Core.List.{List, [], _∷_, _++_}
 use borrow.Author.Tests.{ne-eqb, ltb-true}
 use lib.Dec.{ltb}
 use lib.ListN.{take, length-append}
-use Rattle.types.specs.Digits.{digitsIn, digits, tenZ, hostName, bitHost, bitHostName}
-use Rattle.types.specs.Names.{nameByte, nameBytes, goodName}
-use Rattle.types.proofs.DigitLaws.{digits-most, host-most}
-use Rattle.types.proofs.NameLaws.{byte-within, name-rule, rule-good}
-use Rattle.types.proofs.RoundLaws.{either}
-use Rattle.types.proofs.TestLaws.{and-left, and-right}
+use Rattle.words.proofs.TestLaws.{and-left, and-right}
+use Rattle.types.specs.book.Names.{nameByte, nameBytes, goodName}
+use Rattle.types.specs.layout.HostNames.{digitsIn, digits, tenZ, hostName, bitHost, bitHostName}
+use Rattle.types.proofs.book.NameLaws.{byte-within, name-rule, rule-good}
+use Rattle.types.proofs.layout.DigitLaws.{digits-most, host-most}
+use Rattle.types.proofs.rounds.RoundLaws.{either}
 
 bytes-append : (s t : List ℕ) → nameBytes s ≡ true → nameBytes t ≡ true → nameBytes (s ++ t) ≡ true
 unfolding nameBytes

@@ -8,27 +8,28 @@ use mathlib.Core.Bool.{Bool, true, false, true≢false}
 use mathlib.Core.List.{List, [], _∷_, _++_}
 use mathlib.Core.Logic.{inl, inr}
 use lib.ListN.{length, getD, drop}
-use Rattle.types.specs.declared.layout.Cursor.{Cursor}
-use Rattle.types.specs.declared.layout.Decl.{Decl}
-use Rattle.types.specs.declared.layout.Placed.{Placed}
-use Rattle.types.specs.declared.layout.Placed.the-variants.{Hosted, One, AccessWrong, TooFar}
-use Rattle.types.specs.declared.measure.Measured.the-variants.{Laid as Ended}
-use Rattle.types.specs.declared.member.Bit.the-variants.{At}
-use Rattle.types.specs.declared.member.Member.{Member}
-use Rattle.types.specs.Atomic.{sizeOf}
-use Rattle.types.specs.Defs.{Part}
-use Rattle.types.specs.Digits.{hostName}
-use Rattle.types.specs.Laid.{firstBit, pastBit, Apart, Clear, Plain, Rising, Lies, Laid, Resolved, Every}
-use Rattle.types.specs.Layout.{times, alignUp, placed}
-use Rattle.types.specs.Passes.{thenParts, partsFrom, measured, udtParts, aoiParts, partsOf, measuredAoi}
-use Rattle.types.specs.Passes.{measuredOf}
-use Rattle.types.specs.Structs.{named, sizeAt, udtStart}
-use Rattle.types.specs.Structs.{bools, aoiHosts, bitHostAt, hostParts, enableAt, enableOut, aoiStart}
-use Rattle.types.specs.Structs.{stringParts, stringSize, dataOf, dintAt, statusAt, statusParts, ctlAt}
-use Rattle.types.specs.Structs.{controlParts}
-use Rattle.types.proofs.FreeLaws.{Ready, Taken, Step, HostStep, Stepped, not-plain, steps}
-use Rattle.types.proofs.LayoutLaws.{times-one, times-same}
-use Rattle.types.proofs.PlaceLaws.{Ends, no-access, no-far}
+use Rattle.types.specs.atomics.Atomic.{sizeOf}
+use Rattle.types.specs.inside.layout.Passes.{thenParts, partsFrom, measured, udtParts, aoiParts, partsOf}
+use Rattle.types.specs.inside.layout.Passes.{measuredAoi}
+use Rattle.types.specs.inside.layout.Passes.{measuredOf}
+use Rattle.types.specs.layout.HostNames.{hostName}
+use Rattle.types.specs.layout.Laid.{firstBit, pastBit, Apart, Clear, Plain, Rising, Lies, Laid, Resolved, Every}
+use Rattle.types.specs.layout.Placing.{times, alignUp, placed}
+use Rattle.types.specs.layout.Structs.{named, roundedSize, udtStart}
+use Rattle.types.specs.layout.Structs.{bools, aoiHosts, bitHostAt, hostParts, enableAt, enableOut, aoiStart}
+use Rattle.types.specs.layout.Structs.{stringParts, stringSize, dataOf, dintAt, statusAt, statusParts, ctlAt}
+use Rattle.types.specs.layout.Structs.{controlParts}
+use Rattle.types.specs.tables.Defs.{Part}
+use Rattle.types.specs.declared.layout.measure.Measured.the-variants.{Laid as Ended}
+use Rattle.types.specs.declared.layout.placing.Cursor.{Cursor}
+use Rattle.types.specs.declared.layout.placing.Decl.{Decl}
+use Rattle.types.specs.declared.layout.placing.Placed.{Placed}
+use Rattle.types.specs.declared.layout.placing.Placed.the-variants.{Hosted, One, AccessWrong, TooFar}
+use Rattle.types.specs.declared.tables.member.Bit.the-variants.{At}
+use Rattle.types.specs.declared.tables.member.Member.{Member}
+use Rattle.types.proofs.layout.FreeLaws.{Ready, Taken, Step, HostStep, Stepped, not-plain, steps}
+use Rattle.types.proofs.layout.LayoutLaws.{times-one, times-same}
+use Rattle.types.proofs.layout.PlaceLaws.{Ends, no-access, no-far}
 
 -- ---- declared members, one after the other
 
@@ -124,7 +125,7 @@ module _ (sizes : ℕ → ℕ) (limit i size : ℕ) (name : Decl → List ℕ) (
   rest (d ∷ ds) (r, rs) l c n₀ k q = rest-then c d n₀ ds (rest ds rs l) (placed c d) (steps k r) q
 
 -- the size is not below the offset that it is rounded from
-size-room : (c : Cursor) → c .offset ≤ sizeAt c
+size-room : (c : Cursor) → c .offset ≤ roundedSize c
 unfolding alignUp
 size-room c = omega arith
 
@@ -133,10 +134,10 @@ module _ (sizes : ℕ → ℕ) (i : ℕ) where
 
   udt-laid : (name : Decl → List ℕ) (type : List ℕ) (ds : List Decl) (n₀ : ℕ) (c : Cursor) (n : ℕ)
       → Every (Resolved sizes i) ds → measured (hostName type) udtStart n₀ ds ≡ Ended c n
-      → Laid sizes i (sizeAt c) (udtParts name type ds)
+      → Laid sizes i (roundedSize c) (udtParts name type ds)
   unfolding udtParts
   udt-laid name type ds n₀ c n rs q =
-      rest sizes (bools ds) i (sizeAt c) name (hostName type) c n ds rs (size-room c) udtStart n₀ (omega arith) q .laid
+      rest sizes (bools ds) i (roundedSize c) name (hostName type) c n ds rs (size-room c) udtStart n₀ (omega arith) q .laid
 
   -- ---- AOI
 
@@ -159,30 +160,30 @@ module _ (sizes : ℕ → ℕ) (i : ℕ) where
   -- EnableIn and EnableOut have bits 0 and 1, and all BOOLs to come fit into the hosts
   aoi-laid : (name : Decl → List ℕ) (type : List ℕ) (ds : List Decl) (n₀ : ℕ) (c : Cursor) (n : ℕ)
       → Every (Resolved sizes i) ds → measured (hostName type) (aoiStart (aoiHosts ds)) n₀ ds ≡ Ended c n
-      → Laid sizes i (sizeAt c) (aoiParts name type ds)
+      → Laid sizes i (roundedSize c) (aoiParts name type ds)
   unfolding aoiParts aoiHosts Laid Clear
   aoi-laid name type ds n₀ c n rs q =
       let h = aoiHosts ds in
       let start = aoiStart h in
-      let r = rest sizes (32 * h) i (sizeAt c) name (hostName type) c n ds rs (size-room c) start n₀ (omega arith) q in
-      let room : 4 * h ≤ sizeAt c = r .room in
+      let r = rest sizes (32 * h) i (roundedSize c) name (hostName type) c n ds rs (size-room c) start n₀ (omega arith) q in
+      let room : 4 * h ≤ roundedSize c = r .room in
       let others = partsFrom name (hostName type) start ds in
       let clear : (bit : ℕ) → bit < 2 → Clear sizes (enableAt bit) others =
       λ bit b. r .clear (enableAt bit) (record { before = omega arith; beside = inl (omega arith) }) in
       let unordered : (bit : ℕ) (ps : List Part) → Rising sizes (enableAt bit) ps =
       λ bit ps. bool-rising sizes (enableAt bit) bit refl ps in
-      let out : Laid sizes i (sizeAt c) (named enableOut (enableAt 1) ∷ others) = (
+      let out : Laid sizes i (roundedSize c) (named enableOut (enableAt 1) ∷ others) = (
         record { earlier = tt; inside = omega arith; clear = clear 1 (omega arith); rising = unordered 1 others },
         r .laid,
       ) in
       let apart : Clear sizes (enableAt 0) (named enableOut (enableAt 1) ∷ others) =
       (λ v w. inl (omega arith), clear 0 (omega arith)) in
-      hosts-laid (sizeAt c) 0 h _ (omega arith)
+      hosts-laid (roundedSize c) 0 h _ (omega arith)
       (record { earlier = tt; inside = omega arith; clear = apart; rising = unordered 0 _ }, out)
 
   pub type-laid : (aoi : Bool) (name : Decl → List ℕ) (type : List ℕ) (ds : List Decl) (c : Cursor) (n : ℕ)
       → Every (Resolved sizes i) ds → measuredOf aoi type ds ≡ Ended c n
-      → Laid sizes i (sizeAt c) (partsOf aoi name type ds)
+      → Laid sizes i (roundedSize c) (partsOf aoi name type ds)
   unfolding measuredAoi
   type-laid true name type ds c n rs q = aoi-laid name type ds _ c n rs q
   type-laid false name type ds c n rs q = udt-laid name type ds 0 c n rs q

@@ -5,20 +5,22 @@ use mathlib.Core.Path.{_≡_, refl, ap, _∙_}
 use mathlib.Core.Bool.{Bool, true, false}
 use mathlib.Core.List.{List, [], _∷_, _++_}
 use lib.ListN.{length}
-use Rattle.types.specs.declared.layout.Cursor.{Cursor}
-use Rattle.types.specs.declared.layout.Decl.{Decl}
-use Rattle.types.specs.declared.layout.Placed.{Placed}
-use Rattle.types.specs.declared.layout.Placed.the-variants.{Hosted, One, AccessWrong, TooFar}
-use Rattle.types.specs.declared.measure.Measured.{Measured}
-use Rattle.types.specs.declared.measure.Measured.the-variants.{Laid, AccessWrong as accessWrong, TooFar as tooFar}
-use Rattle.types.specs.Defs.{Part}
-use Rattle.types.specs.Digits.{hostName}
-use Rattle.types.specs.Layout.{placed}
-use Rattle.types.specs.Passes.{thenParts, partsFrom, thenMeasure, measured, udtParts, aoiParts, partsOf}
-use Rattle.types.specs.Passes.{measuredAoi, measuredOf}
-use Rattle.types.specs.Structs.{namesOf, named, LaidOut, laid, stopped, after, thenLaid, layoutFrom}
-use Rattle.types.specs.Structs.{udtStart, udtLayout}
-use Rattle.types.specs.Structs.{aoiHosts, hostParts, aoiStart, enableParts, aoiLayout, layoutOf}
+use Rattle.types.specs.inside.layout.Passes.{thenParts, partsFrom, thenMeasure, measured, udtParts, aoiParts}
+use Rattle.types.specs.inside.layout.Passes.{partsOf}
+use Rattle.types.specs.inside.layout.Passes.{measuredAoi, measuredOf}
+use Rattle.types.specs.layout.HostNames.{hostName}
+use Rattle.types.specs.layout.Placing.{placed}
+use Rattle.types.specs.layout.Structs.{namesOf, named, LaidOut, laid, stopped, after, thenLaid, layoutFrom}
+use Rattle.types.specs.layout.Structs.{udtStart, udtLayout}
+use Rattle.types.specs.layout.Structs.{aoiHosts, hostParts, aoiStart, enableParts, aoiLayout, layoutOf}
+use Rattle.types.specs.tables.Defs.{Part}
+use Rattle.types.specs.declared.layout.measure.Measured.{Measured}
+use Rattle.types.specs.declared.layout.measure.Measured.the-variants.{Laid, AccessWrong as accessWrong}
+use Rattle.types.specs.declared.layout.measure.Measured.the-variants.{TooFar as tooFar}
+use Rattle.types.specs.declared.layout.placing.Cursor.{Cursor}
+use Rattle.types.specs.declared.layout.placing.Decl.{Decl}
+use Rattle.types.specs.declared.layout.placing.Placed.{Placed}
+use Rattle.types.specs.declared.layout.placing.Placed.the-variants.{Hosted, One, AccessWrong, TooFar}
 
 -- parts, and how far they come, as one
 abbrev pub both : List Part → Measured → LaidOut

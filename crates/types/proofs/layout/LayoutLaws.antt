@@ -6,15 +6,15 @@ use mathlib.Core.Path.{_≡_, sym}
 use mathlib.Core.Bool.{true, false}
 use borrow.Author.Tests.{eq-eqb, ne-eqb, le-leb, lt-leb}
 use lib.Dec.{eqb}
-use Rattle.types.specs.declared.layout.Cursor.{Cursor}
-use Rattle.types.specs.declared.layout.Decl.{Decl}
-use Rattle.types.specs.declared.layout.End.{End}
-use Rattle.types.specs.declared.layout.End.the-variants.{At, Over}
-use Rattle.types.specs.declared.layout.Host.{Host}
-use Rattle.types.specs.declared.layout.Placed.the-variants.{One, AccessWrong, TooFar}
-use Rattle.types.specs.Layout.{most, times, memberEnd, accessOk, isBool, otherAt, closed, startOf}
-use Rattle.types.specs.Layout.{saidBy, placeBool, placeOther, placed}
-use Rattle.types.specs.Said.{done, refused}
+use Rattle.types.specs.layout.Placing.{most, times, memberEnd, accessOk, isBool, otherAt, closed, startOf}
+use Rattle.types.specs.layout.Placing.{saidBy, placeBool, placeOther, placed}
+use Rattle.types.specs.refusals.Said.{done, refused}
+use Rattle.types.specs.declared.layout.placing.Cursor.{Cursor}
+use Rattle.types.specs.declared.layout.placing.Decl.{Decl}
+use Rattle.types.specs.declared.layout.placing.End.{End}
+use Rattle.types.specs.declared.layout.placing.End.the-variants.{At, Over}
+use Rattle.types.specs.declared.layout.placing.Host.{Host}
+use Rattle.types.specs.declared.layout.placing.Placed.the-variants.{One, AccessWrong, TooFar}
 
 pub times-one : (n : ℕ) → n ≡ 0 → 1 ≡ times n
 unfolding times

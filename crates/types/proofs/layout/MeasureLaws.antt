@@ -6,18 +6,20 @@ use mathlib.Core.Path.{_≡_, refl}
 use mathlib.Core.Bool.{true, false, true≢false}
 use mathlib.Core.List.{List, [], _∷_}
 use lib.ListN.{length}
-use Rattle.types.specs.declared.layout.Cursor.{Cursor}
-use Rattle.types.specs.declared.layout.Decl.{Decl}
-use Rattle.types.specs.declared.layout.Host.{Host}
-use Rattle.types.specs.declared.layout.Host.the-variants.{Closed, Open, Shared}
-use Rattle.types.specs.declared.layout.Placed.{Placed}
-use Rattle.types.specs.declared.layout.Placed.the-variants.{Hosted, One, AccessWrong, TooFar}
-use Rattle.types.specs.declared.measure.Measured.{Measured}
-use Rattle.types.specs.declared.measure.Measured.the-variants.{Laid, AccessWrong as accessWrong, TooFar as tooFar}
-use Rattle.types.specs.declared.member.Member.{Member}
-use Rattle.types.specs.Layout.{placed, opened, nextBit, closed, sharedBits}
-use Rattle.types.specs.Passes.{thenMeasure, measureOne, measured, Fair, Far, Near}
-use Rattle.types.proofs.PlaceLaws.{place-cases}
+use Rattle.types.specs.inside.layout.Passes.{thenMeasure, measureOne, measured, Fair, Far, Near}
+use Rattle.types.specs.inside.layout.Placing.{sharedBits}
+use Rattle.types.specs.layout.Placing.{placed, opened, nextBit, closed}
+use Rattle.types.specs.declared.layout.measure.Measured.{Measured}
+use Rattle.types.specs.declared.layout.measure.Measured.the-variants.{Laid, AccessWrong as accessWrong}
+use Rattle.types.specs.declared.layout.measure.Measured.the-variants.{TooFar as tooFar}
+use Rattle.types.specs.declared.layout.placing.Cursor.{Cursor}
+use Rattle.types.specs.declared.layout.placing.Decl.{Decl}
+use Rattle.types.specs.declared.layout.placing.Host.{Host}
+use Rattle.types.specs.declared.layout.placing.Host.the-variants.{Closed, Open, Shared}
+use Rattle.types.specs.declared.layout.placing.Placed.{Placed}
+use Rattle.types.specs.declared.layout.placing.Placed.the-variants.{Hosted, One, AccessWrong, TooFar}
+use Rattle.types.specs.declared.tables.member.Member.{Member}
+use Rattle.types.proofs.layout.PlaceLaws.{place-cases}
 
 module _ (host : ℕ → List ℕ) (c : Cursor) (n : ℕ) (d : Decl) (p : Placed) (e : p ≡ placed c d) where
   pub one-hosted : {h m : Member} {c′ : Cursor} (long : ℕ) → p ≡ Hosted h m c′ → long ≡ length (host (c .members))

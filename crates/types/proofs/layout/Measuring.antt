@@ -5,16 +5,17 @@ use native.Mathlib.Omega.{arith}
 use mathlib.Core.Path.{_≡_, sym, ap, _∙_}
 use mathlib.Core.List.{List, _∷_}
 use Rattle.words.specs.Words.{Bytes}
-use Rattle.types.specs.declared.layout.Cursor.{Cursor}
-use Rattle.types.specs.declared.measure.Measured.{Measured}
-use Rattle.types.specs.declared.measure.Measured.the-variants.{Laid, AccessWrong, TooFar}
-use Rattle.types.specs.Digits.{hostName}
-use Rattle.types.specs.Entries.{declAt, declsFrom, Found}
-use Rattle.types.specs.Passes.{measureOne, measured, Far, Near, Measurable}
-use Rattle.types.specs.Structs.{udtStart, aoiStart}
-use Rattle.types.proofs.DigitLaws.{host-most}
-use Rattle.types.proofs.EntryLaws.{decls-cons, decls-none, found-first, decl-fair}
-use Rattle.types.proofs.MeasureLaws.{measured-on, measured-access, measured-far, measured-done, far-on, near}
+use Rattle.types.specs.inside.book.Decls.{declAt, declsFrom, Found}
+use Rattle.types.specs.inside.layout.Passes.{measureOne, measured, Far, Near, Measurable}
+use Rattle.types.specs.layout.HostNames.{hostName}
+use Rattle.types.specs.layout.Structs.{udtStart, aoiStart}
+use Rattle.types.specs.declared.layout.measure.Measured.{Measured}
+use Rattle.types.specs.declared.layout.measure.Measured.the-variants.{Laid, AccessWrong, TooFar}
+use Rattle.types.specs.declared.layout.placing.Cursor.{Cursor}
+use Rattle.types.proofs.book.DeclLaws.{decls-cons, decls-none, found-first, decl-fair}
+use Rattle.types.proofs.layout.DigitLaws.{host-most}
+use Rattle.types.proofs.layout.MeasureLaws.{measured-on, measured-access, measured-far, measured-done, far-on}
+use Rattle.types.proofs.layout.MeasureLaws.{near}
 
 pub record Measuring (types book tys name : List ℕ) (at n : ℕ) (c₀ : Cursor) (n₀ : ℕ) (c : Cursor) (names j : ℕ) :
     Type 0 where

@@ -7,28 +7,28 @@ use mathlib.Core.Path.{_≡_, refl}
 use mathlib.Core.Bool.{Bool, true, false, cond, not, _&&_}
 use mathlib.Core.List.{List, [], _∷_}
 use lib.Dec.{eqb}
-use Rattle.types.specs.declared.book.MemberEntry.{MemberEntry}
-use Rattle.types.specs.declared.checks.Checked.{Checked}
-use Rattle.types.specs.declared.checks.Checked.the-variants.{Good, NameWrong, Twice, LocalOutside}
-use Rattle.types.specs.declared.layout.Cursor.{Cursor}
-use Rattle.types.specs.declared.layout.Decl.{Decl}
-use Rattle.types.specs.declared.member.Bit.the-variants.{None, At}
-use Rattle.types.specs.declared.member.Member.{Member}
-use Rattle.types.specs.Book.{every}
-use Rattle.types.specs.Checks.{among, checked}
-use Rattle.types.specs.Defs.{Part, nameIn}
-use Rattle.types.specs.Digits.{hostName}
-use Rattle.types.specs.Laid.{Every}
-use Rattle.types.specs.Layout.{isBool, opened, nextBit}
-use Rattle.types.specs.Names.{nameByte, nameBytes, goodName}
-use Rattle.types.specs.Passes.{thenParts, partsFrom, udtParts, aoiParts, partsOf}
-use Rattle.types.specs.Structs.{namedIn, hostParts, aoiHosts, aoiStart, udtStart}
-use Rattle.types.specs.Structs.{stringParts, statusParts, controlParts}
-use Rattle.types.specs.Structs.{bitHostAt, enableAt, dintAt, dataOf, statusAt, ctlAt}
-use Rattle.types.proofs.AddLaws.{every-append}
-use Rattle.types.proofs.HostNames.{host-good, bit-host-good}
-use Rattle.types.proofs.PlaceLaws.{place-cases}
-use Rattle.types.proofs.TestLaws.{and-left, and-right, clash}
+use Rattle.words.proofs.TestLaws.{and-left, and-right, clash}
+use Rattle.types.specs.adding.Checks.{among, checked}
+use Rattle.types.specs.book.Contents.{every}
+use Rattle.types.specs.book.Names.{nameByte, nameBytes, goodName}
+use Rattle.types.specs.inside.layout.Passes.{thenParts, partsFrom, udtParts, aoiParts, partsOf}
+use Rattle.types.specs.layout.HostNames.{hostName}
+use Rattle.types.specs.layout.Laid.{Every}
+use Rattle.types.specs.layout.Placing.{isBool, opened, nextBit}
+use Rattle.types.specs.layout.Structs.{namedIn, hostParts, aoiHosts, aoiStart, udtStart}
+use Rattle.types.specs.layout.Structs.{stringParts, statusParts, controlParts}
+use Rattle.types.specs.layout.Structs.{bitHostAt, enableAt, dintAt, dataOf, statusAt, ctlAt}
+use Rattle.types.specs.tables.Defs.{Part, nameIn}
+use Rattle.types.specs.declared.adding.checks.Checked.{Checked}
+use Rattle.types.specs.declared.adding.checks.Checked.the-variants.{Good, NameWrong, Twice, LocalOutside}
+use Rattle.types.specs.declared.book.contents.MemberEntry.{MemberEntry}
+use Rattle.types.specs.declared.layout.placing.Cursor.{Cursor}
+use Rattle.types.specs.declared.layout.placing.Decl.{Decl}
+use Rattle.types.specs.declared.tables.member.Bit.the-variants.{None, At}
+use Rattle.types.specs.declared.tables.member.Member.{Member}
+use Rattle.types.proofs.adding.AddLaws.{every-append}
+use Rattle.types.proofs.layout.HostNames.{host-good, bit-host-good}
+use Rattle.types.proofs.layout.PlaceLaws.{place-cases}
 
 -- ---- one member
 

@@ -7,20 +7,22 @@ use mathlib.Core.List.{List, [], _∷_}
 use borrow.Author.Tests.{ltb-true, ltb-false, leb-true, leb-false}
 use lib.Dec.{leb, ltb}
 use lib.ListN.{length}
-use Rattle.types.specs.declared.layout.Cursor.{Cursor}
-use Rattle.types.specs.declared.layout.Decl.{Decl}
-use Rattle.types.specs.declared.layout.Host.{Host}
-use Rattle.types.specs.declared.layout.Host.the-variants.{Closed, Open, Shared}
-use Rattle.types.specs.declared.layout.Placed.{Placed}
-use Rattle.types.specs.declared.layout.Placed.the-variants.{One, AccessWrong, TooFar}
-use Rattle.types.specs.declared.measure.Measured.the-variants.{Laid, AccessWrong as accessWrong, TooFar as tooFar}
-use Rattle.types.specs.declared.member.Member.{Member}
-use Rattle.types.specs.Layout.{most, accessOk, isBool, otherAt, opened, nextBit, placeBool, closed}
-use Rattle.types.specs.Layout.{times, memberEnd, startOf, onEnd, placeOther, placed, InUdt, Shut}
-use Rattle.types.specs.Passes.{thenMeasure, measured}
-use Rattle.types.specs.Said.{done, refused}
-use Rattle.types.specs.Structs.{udtStart}
-use Rattle.types.proofs.LayoutLaws.{placed-bool}
+use Rattle.types.specs.inside.layout.Passes.{thenMeasure, measured}
+use Rattle.types.specs.inside.layout.Placing.{InUdt, Shut}
+use Rattle.types.specs.layout.Placing.{most, accessOk, isBool, otherAt, opened, nextBit, placeBool, closed}
+use Rattle.types.specs.layout.Placing.{times, memberEnd, startOf, onEnd, placeOther, placed}
+use Rattle.types.specs.layout.Structs.{udtStart}
+use Rattle.types.specs.refusals.Said.{done, refused}
+use Rattle.types.specs.declared.layout.measure.Measured.the-variants.{Laid, AccessWrong as accessWrong}
+use Rattle.types.specs.declared.layout.measure.Measured.the-variants.{TooFar as tooFar}
+use Rattle.types.specs.declared.layout.placing.Cursor.{Cursor}
+use Rattle.types.specs.declared.layout.placing.Decl.{Decl}
+use Rattle.types.specs.declared.layout.placing.Host.{Host}
+use Rattle.types.specs.declared.layout.placing.Host.the-variants.{Closed, Open, Shared}
+use Rattle.types.specs.declared.layout.placing.Placed.{Placed}
+use Rattle.types.specs.declared.layout.placing.Placed.the-variants.{One, AccessWrong, TooFar}
+use Rattle.types.specs.declared.tables.member.Member.{Member}
+use Rattle.types.proofs.layout.LayoutLaws.{placed-bool}
 
 -- a UDT's host has no bit left, or there is none
 abbrev pub Full : Host → Type 0

@@ -9,30 +9,36 @@ use borrow.Author.Tests.{le-leb, lt-leb, leb-true, eq-eqb, ne-eqb}
 use lib.Dec.{eqb, leb}
 use lib.ListN.{length}
 use Rattle.words.specs.Words.{part}
-use Rattle.types.specs.declared.member.StructKind.{StructKind}
-use Rattle.types.specs.declared.member.StructKind.the-variants.{Predefined, Str}
-use Rattle.types.specs.declared.predefined.PredefinedIds.{PredefinedIds}
-use Rattle.types.specs.declared.used.Turn.the-variants.{Added}
-use Rattle.types.specs.declared.used.Used.{Used}
-use Rattle.types.specs.Add.{yes, newDef, Took, Ready}
-use Rattle.types.specs.Defs.{Part, Def}
-use Rattle.types.specs.Laid.{Every}
-use Rattle.types.specs.Predefined.{predefinedId, distinct, predefinedIds, added, ControlReady}
-use Rattle.types.specs.Predefined.{withTimer, withCounter, withControl, predefined}
-use Rattle.types.specs.Predefined.{timerName, counterName, controlName, stringName}
-use Rattle.types.specs.Registry.{viewIn, viewOf, membersOf, bytesOf}
-use Rattle.types.specs.Registry.{noTypes, noMembers, noNames, typeRows, memberRows, Stands}
-use Rattle.types.specs.Registry.{typesTable, membersTable, namesTable}
-use Rattle.types.specs.Structs.{namesOf, statusParts, controlParts, stringParts, stringSize}
-use Rattle.types.specs.Structs.{timerParts, counterParts, controlTypeParts, controlOf, pairs}
-use Rattle.types.specs.Template.{userId}
-use Rattle.types.proofs.AddLaidLaws.{string-counted}
-use Rattle.types.proofs.AddStoreLaws.{Counted}
-use Rattle.types.proofs.DefLaws.{PartFits}
-use Rattle.types.proofs.HandleLaws.{handle-small}
-use Rattle.types.proofs.RegistryLaws.{length-snoc, members-of-snoc, long-snoc, members-long, names-long}
-use Rattle.types.proofs.RegistryLaws.{stands-more}
-use Rattle.types.proofs.ShownLaws.{Shown, Fits, shown-none, shown-more, view-same, names-inside, ids-small}
+use Rattle.types.specs.adding.Add.{yes, newDef}
+use Rattle.types.specs.inside.adding.Add.{Took, Ready}
+use Rattle.types.specs.inside.layout.Predefined.{ControlReady}
+use Rattle.types.specs.inside.layout.Structs.{controlOf, pairs}
+use Rattle.types.specs.inside.tables.Registry.{viewIn}
+use Rattle.types.specs.inside.tables.Registry.{Stands}
+use Rattle.types.specs.layout.Laid.{Every}
+use Rattle.types.specs.layout.Predefined.{predefinedId, distinct, predefinedIds, withOne}
+use Rattle.types.specs.layout.Predefined.{withTimer, withCounter, withControl, predefined}
+use Rattle.types.specs.layout.Predefined.{timerName, counterName, controlName, stringName}
+use Rattle.types.specs.layout.Structs.{namesOf, statusParts, controlParts, stringParts, stringSize}
+use Rattle.types.specs.layout.Structs.{timerParts, counterParts, controlTypeParts}
+use Rattle.types.specs.tables.Defs.{Part, Def}
+use Rattle.types.specs.tables.Registry.{viewOf, membersOf, nameBytesOf}
+use Rattle.types.specs.tables.Registry.{noTypes, noMembers, noNames, typeRows, memberRows}
+use Rattle.types.specs.tables.Registry.{typesTable, membersTable, namesTable}
+use Rattle.types.specs.templates.Template.{userId}
+use Rattle.types.specs.declared.adding.progress.Progress.the-variants.{Added}
+use Rattle.types.specs.declared.adding.used.Used.{Used}
+use Rattle.types.specs.declared.layout.predefined.PredefinedIds.{PredefinedIds}
+use Rattle.types.specs.declared.tables.member.StructKind.{StructKind}
+use Rattle.types.specs.declared.tables.member.StructKind.the-variants.{Predefined, Str}
+use Rattle.types.proofs.adding.AddLaidLaws.{string-counted}
+use Rattle.types.proofs.adding.AddStoreLaws.{Counted}
+use Rattle.types.proofs.tables.DefLaws.{PartFits}
+use Rattle.types.proofs.tables.RegistryLaws.{length-snoc, members-of-snoc, long-snoc, members-long, names-long}
+use Rattle.types.proofs.tables.RegistryLaws.{stands-more}
+use Rattle.types.proofs.tables.ShownLaws.{Shown, Fits, shown-none, shown-more, view-same, names-inside}
+use Rattle.types.proofs.tables.ShownLaws.{ids-small}
+use Rattle.types.proofs.templates.HandleLaws.{handle-small}
 
 -- ---- the ids, one test after the other
 
@@ -230,14 +236,14 @@ pub record Built (ds : List Def) (types members bytes : ℕ) : Type 0 where
   pub shown : Shown ds
   pub few : length ds ≡ types
   pub rows : membersOf ds ≡ members
-  pub long : length (bytesOf ds) ≡ bytes
+  pub long : length (nameBytesOf ds) ≡ bytes
 
 module _ (ds : List Def) (name : List ℕ) (id size : ℕ) (kind : StructKind) (parts : List Part) where
   abbrev new : Def
   new = newDef (viewOf ds) name id size kind parts
 
   new-fits : length ds < 200 → membersOf ds + length parts ≤ 2000
-      → length (bytesOf ds) + length (name ++ namesOf parts) ≤ 32768 → Every (PartFits (length ds)) parts → Id id
+      → length (nameBytesOf ds) + length (name ++ namesOf parts) ≤ 32768 → Every (PartFits (length ds)) parts → Id id
       → Fits ds new
   unfolding newDef
   new-fits f r b p i =
@@ -252,7 +258,7 @@ module _ (ds : List Def) (name : List ℕ) (id size : ℕ) (kind : StructKind) (
       }
 
   built-more : {t m b k l : ℕ} → Counts name parts k l → Built ds t m b → predefinedId id ≡ true → t < 200
-      → m + k ≤ 2000 → b + l ≤ 32768 → Built (added ds name id size kind parts) (t + 1) (m + k) (b + l)
+      → m + k ≤ 2000 → b + l ≤ 32768 → Built (withOne ds name id size kind parts) (t + 1) (m + k) (b + l)
   unfolding newDef
   built-more p u i f r b =
       let c = p (length ds) in
@@ -269,7 +275,7 @@ module _ (ds : List Def) (name : List ℕ) (id size : ℕ) (kind : StructKind) (
   -- and the tables that stand for it
   added-stands : {t m n t′ m′ n′ : List ℕ} {u r : Used} → Shown ds → Stands ds t m n u
       → Took (yes (newDef (viewIn t n u) name id size kind parts)) u t m n t′ m′ n′ (Added r)
-      → Stands (added ds name id size kind parts) t′ m′ n′ r
+      → Stands (withOne ds name id size kind parts) t′ m′ n′ r
   added-stands {t} {n = n} {u = u} s k took =
       let view : viewIn t n u ≡ viewOf ds = rw (k .types, k .names, k .used) (view-same ds s) in
       stands-more new k (rw view at took)
@@ -277,7 +283,7 @@ module _ (ds : List Def) (name : List ℕ) (id size : ℕ) (kind : StructKind) (
 -- ---- the four
 
 pub none-built : Built [] 0 0 0
-unfolding membersOf bytesOf
+unfolding membersOf nameBytesOf
 none-built = record { shown = shown-none; few = refl; rows = refl; long = refl }
 
 module _ (ids : PredefinedIds) (good : Allowed ids) where
@@ -312,7 +318,7 @@ predefined-shown ids e = predefined-built ids (ids-allowed ids e) .shown
 
 pub none-stands : {t m n : List ℕ} → t ≡ noTypes → m ≡ noMembers → n ≡ noNames
     → Stands [] t m n (record { types = 0; members = 0; bytes = 0 })
-unfolding typesTable typeRows membersTable memberRows namesTable bytesOf membersOf
+unfolding typesTable typeRows membersTable memberRows namesTable nameBytesOf membersOf
 none-stands e f g = record { types = e; members = f; names = g; used = refl }
 
 module _ (ids : PredefinedIds) {t m n t′ m′ n′ : List ℕ} {u r : Used} where

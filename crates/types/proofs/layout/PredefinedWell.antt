@@ -2,15 +2,15 @@
 use native.Mathlib.Omega.{arith}
 use mathlib.Core.Path.{refl}
 use mathlib.Core.List.{[]}
-use Rattle.types.specs.declared.member.StructKind.the-variants.{Predefined}
-use Rattle.types.specs.declared.predefined.PredefinedIds.{PredefinedIds}
-use Rattle.types.specs.Add.{newDef}
-use Rattle.types.specs.Layout.{alignUp}
-use Rattle.types.specs.Predefined.{withTimer, withCounter, withControl, predefined}
-use Rattle.types.specs.Structs.{timerParts, counterParts, controlTypeParts, stringSize}
-use Rattle.types.proofs.LaidLaws.{control-laid, string-laid}
-use Rattle.types.proofs.StringLaws.{string-is, other-kind}
-use Rattle.types.proofs.WellLaws.{Well, sizesOf, well-none, well-more}
+use Rattle.types.specs.adding.Add.{newDef}
+use Rattle.types.specs.layout.Placing.{alignUp}
+use Rattle.types.specs.layout.Predefined.{withTimer, withCounter, withControl, predefined}
+use Rattle.types.specs.layout.Structs.{timerParts, counterParts, controlTypeParts, stringSize}
+use Rattle.types.specs.declared.layout.predefined.PredefinedIds.{PredefinedIds}
+use Rattle.types.specs.declared.tables.member.StructKind.the-variants.{Predefined}
+use Rattle.types.proofs.layout.LaidLaws.{control-laid, string-laid}
+use Rattle.types.proofs.layout.StringLaws.{string-is, other-kind}
+use Rattle.types.proofs.tables.WellLaws.{Well, sizesOf, well-none, well-more}
 
 module _ (ids : PredefinedIds) where
   timer-well : Well (withTimer ids)

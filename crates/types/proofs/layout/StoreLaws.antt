@@ -7,10 +7,10 @@ use mathlib.Core.List.{List, [], _∷_, _++_, append-nil, append-assoc}
 use lib.ListN.{length, length-append}
 use lib.Seq.{sets}
 use Rattle.words.proofs.Lists.{sets-append}
-use Rattle.types.specs.declared.member.Member.{Member}
-use Rattle.types.specs.Defs.{Part}
-use Rattle.types.specs.Structs.{named, namesOf, rowsOf}
-use Rattle.types.specs.Tables.{memberRow}
+use Rattle.types.specs.layout.Structs.{named, namesOf, rowsOf}
+use Rattle.types.specs.tables.Defs.{Part}
+use Rattle.types.specs.tables.Lent.{memberRow}
+use Rattle.types.specs.declared.tables.member.Member.{Member}
 
 pub one-row : (at : ℕ) (n : List ℕ) (m : Member)
     → memberRow (record { at = at; long = length n }) m ≡ rowsOf at (named n m ∷ [])

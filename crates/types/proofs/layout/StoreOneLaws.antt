@@ -9,21 +9,21 @@ use lib.ListN.{length, take, drop, length-append}
 use lib.Seq.{sets}
 use Rattle.words.specs.Words.{part}
 use Rattle.words.proofs.Lists.{length-part}
-use Rattle.types.specs.declared.layout.Cursor.{Cursor}
-use Rattle.types.specs.declared.layout.Decl.{Decl}
-use Rattle.types.specs.declared.layout.Placed.{Placed}
-use Rattle.types.specs.declared.layout.Placed.the-variants.{Hosted, One, AccessWrong, TooFar}
-use Rattle.types.specs.declared.member.Member.{Member}
-use Rattle.types.specs.declared.member.Span.{Span}
-use Rattle.types.specs.declared.store.Stored.the-variants.{Next, Stop}
-use Rattle.types.specs.Defs.{nameIn}
-use Rattle.types.specs.Digits.{hostName}
-use Rattle.types.specs.Layout.{placed, opened, nextBit}
-use Rattle.types.specs.Passes.{oneParts, storedOne, Fits}
-use Rattle.types.specs.Structs.{named, namesOf, rowsOf}
-use Rattle.types.specs.Tables.{TyFits}
-use Rattle.types.proofs.PlaceLaws.{place-cases}
-use Rattle.types.proofs.StoreLaws.{one-name, rows-then, names-then}
+use Rattle.types.specs.inside.layout.Passes.{oneParts, storedOne, StepFits}
+use Rattle.types.specs.inside.tables.Lent.{TyFits}
+use Rattle.types.specs.layout.HostNames.{hostName}
+use Rattle.types.specs.layout.Placing.{placed, opened, nextBit}
+use Rattle.types.specs.layout.Structs.{named, namesOf, rowsOf}
+use Rattle.types.specs.tables.Defs.{nameIn}
+use Rattle.types.specs.declared.layout.placing.Cursor.{Cursor}
+use Rattle.types.specs.declared.layout.placing.Decl.{Decl}
+use Rattle.types.specs.declared.layout.placing.Placed.{Placed}
+use Rattle.types.specs.declared.layout.placing.Placed.the-variants.{Hosted, One, AccessWrong, TooFar}
+use Rattle.types.specs.declared.layout.store.Stored.the-variants.{Next, Stop}
+use Rattle.types.specs.declared.tables.member.Member.{Member}
+use Rattle.types.specs.declared.tables.member.Span.{Span}
+use Rattle.types.proofs.layout.PlaceLaws.{place-cases}
+use Rattle.types.proofs.layout.StoreLaws.{one-name, rows-then, names-then}
 
 -- the part of the book that is lent for a name
 pub lent-name : (book : List ℕ) (s : Span) (start long : ℕ) → start ≡ s .at → long ≡ s .long
@@ -78,7 +78,7 @@ module _ (book type : List ℕ) (c : Cursor) (d : Decl) (row at : ℕ) (p : Plac
   unfolding oneParts
   alone q = rw (← e, q)
 
-  module _ (f : Fits book type c d row at) where
+  module _ (f : StepFits book type c d row at) where
     long : length name ≡ d .name .long
     long = length-part book (d .name .at) (d .name .long) (f .name)
 

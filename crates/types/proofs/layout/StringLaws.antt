@@ -6,13 +6,13 @@ use mathlib.Core.Path.{_≡_, refl, sym, ap, _∙_}
 use mathlib.Core.Bool.{Bool, true, false, true≢false}
 use mathlib.Core.List.{List}
 use lib.Dec.{eqb}
-use Rattle.types.specs.declared.member.StructDef.{StructDef}
-use Rattle.types.specs.declared.member.StructKind.{StructKind}
-use Rattle.types.specs.declared.member.StructKind.the-variants.{Str}
-use Rattle.types.specs.Defs.{Part}
-use Rattle.types.specs.Layout.{alignUp}
-use Rattle.types.specs.Structs.{laidKind, dintAt, dataOf, stringParts, stringSize}
-use Rattle.types.specs.Tables.{kindWord, memberAt}
+use Rattle.types.specs.layout.Placing.{alignUp}
+use Rattle.types.specs.layout.Structs.{laidKind, dintAt, dataOf, stringParts, stringSize}
+use Rattle.types.specs.tables.Defs.{Part}
+use Rattle.types.specs.tables.Lent.{kindWord, memberAt}
+use Rattle.types.specs.declared.tables.member.StructDef.{StructDef}
+use Rattle.types.specs.declared.tables.member.StructKind.{StructKind}
+use Rattle.types.specs.declared.tables.member.StructKind.the-variants.{Str}
 
 -- a size and parts that are those of a string
 pub record IsString (size : ℕ) (parts : List Part) : Type 0 where

@@ -7,11 +7,11 @@ use mathlib.Core.List.{List}
 use borrow.Author.Tests.{le-leb, lt-leb}
 use lib.ListN.{length, take}
 use lib.Seq.{sets, sets-eq, take-at, length-sets}
-use Rattle.types.specs.declared.given.Wrote.{Wrote}
-use Rattle.types.specs.declared.given.Wrote.the-variants.{Length, Refused}
-use Rattle.types.specs.declared.refusal.Refusal.the-variants.{NoRoom, NoSuchType}
-use Rattle.types.specs.Given.{Given, bufferLeft, lengthGiven}
-use Rattle.types.specs.Listing.{Lined}
+use Rattle.types.specs.inside.listing.Lines.{Lined}
+use Rattle.types.specs.refusals.Given.{Given, bufferLeft, lengthGiven}
+use Rattle.types.specs.declared.refusals.given.Wrote.{Wrote}
+use Rattle.types.specs.declared.refusals.given.Wrote.the-variants.{Length, Refused}
+use Rattle.types.specs.declared.refusals.refusal.Refusal.the-variants.{NoRoom, NoSuchType}
 
 -- ---- the ways out
 

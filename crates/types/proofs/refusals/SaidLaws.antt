@@ -5,38 +5,39 @@ use native.Mathlib.Omega.{arith}
 use mathlib.Core.Path.{_≡_, refl, sym, ap, ap₂, _∙_}
 use mathlib.Core.List.{List, [], _∷_}
 use lib.ListN.{getD}
-use Rattle.types.specs.Refusal.{numberOf, placeOf}
-use Rattle.types.specs.Said.{why}
-use Rattle.types.specs.Given.{saidBy}
-use Rattle.types.specs.Layout.{saidBy as endSays}
-use Rattle.types.specs.declared.refusal.Refusal.{Refusal}
-use Rattle.types.specs.declared.refusal.Refusal.the-variants as refusal
-use Rattle.types.specs.Shape.{fitSays, saidBy as shapedSays}
-use Rattle.types.specs.declared.layout.End.{End}
-use Rattle.types.specs.declared.layout.End.the-variants as ends
-use Rattle.types.specs.declared.shape.Fit.{Fit}
-use Rattle.types.specs.declared.shape.Fit.the-variants as fit
-use Rattle.types.specs.declared.shape.Shaped.{Shaped}
-use Rattle.types.specs.Build.{saidBy as builtSays}
-use Rattle.types.specs.Header.{saidBy as headedSays}
-use Rattle.types.specs.Lookup.{wordOf, saidBy as foundSays}
-use Rattle.types.specs.Shape.{symbolSays}
-use Rattle.types.specs.Waste.{saidBy as wastedSays}
-use Rattle.types.specs.declared.header.Headed.{Headed}
-use Rattle.types.specs.declared.lookups.FoundTy.{FoundTy}
-use Rattle.types.specs.declared.lookups.FoundTy.the-variants as found
-use Rattle.types.specs.declared.member.Ty.{Ty}
-use Rattle.types.specs.declared.member.Ty.the-variants.{Atomic, Struct}
-use Rattle.types.specs.declared.shape.Symbol.{Symbol}
-use Rattle.types.specs.declared.shape.Symbol.the-variants as symbol
-use Rattle.types.specs.declared.waste_bits.Wasted.{Wasted}
-use Rattle.types.specs.declared.waste_bits.Wasted.the-variants as wasted
-use Rattle.types.proofs.AtomicLaws.{code-same}
-use Rattle.types.proofs.ShapeLaws.{code-below}
-use Rattle.types.specs.declared.building.Built.{Built}
-use Rattle.types.specs.declared.building.Built.the-variants as built
-use Rattle.types.specs.declared.given.Wrote.{Wrote}
-use Rattle.types.specs.declared.given.Wrote.the-variants as wrote
+use Rattle.types.specs.atomics.Header.{saidBy as headedSays}
+use Rattle.types.specs.atomics.Lookup.{wordOf, saidBy as foundSays}
+use Rattle.types.specs.layout.Placing.{saidBy as endSays}
+use Rattle.types.specs.refusals.Fit.{fitSays}
+use Rattle.types.specs.refusals.Given.{saidBy}
+use Rattle.types.specs.refusals.Refusal.{numberOf, placeOf}
+use Rattle.types.specs.refusals.Said.{why}
+use Rattle.types.specs.rounds.Build.{saidBy as builtSays}
+use Rattle.types.specs.shape.Tags.{saidBy as shapedSays}
+use Rattle.types.specs.shape.Tags.{symbolSays}
+use Rattle.types.specs.templates.Waste.{saidBy as wastedSays}
+use Rattle.types.specs.declared.atomics.header.Headed.{Headed}
+use Rattle.types.specs.declared.atomics.lookup.FoundTy.{FoundTy}
+use Rattle.types.specs.declared.atomics.lookup.FoundTy.the-variants as found
+use Rattle.types.specs.declared.layout.placing.End.{End}
+use Rattle.types.specs.declared.layout.placing.End.the-variants as ends
+use Rattle.types.specs.declared.refusals.fit.Fit.{Fit}
+use Rattle.types.specs.declared.refusals.fit.Fit.the-variants as fit
+use Rattle.types.specs.declared.refusals.given.Wrote.{Wrote}
+use Rattle.types.specs.declared.refusals.given.Wrote.the-variants as wrote
+use Rattle.types.specs.declared.refusals.refusal.Refusal.{Refusal}
+use Rattle.types.specs.declared.refusals.refusal.Refusal.the-variants as refusal
+use Rattle.types.specs.declared.rounds.build.Built.{Built}
+use Rattle.types.specs.declared.rounds.build.Built.the-variants as built
+use Rattle.types.specs.declared.shape.tags.Shaped.{Shaped}
+use Rattle.types.specs.declared.shape.tags.Symbol.{Symbol}
+use Rattle.types.specs.declared.shape.tags.Symbol.the-variants as symbol
+use Rattle.types.specs.declared.tables.member.Ty.{Ty}
+use Rattle.types.specs.declared.tables.member.Ty.the-variants.{Atomic, Struct}
+use Rattle.types.specs.declared.templates.waste.Wasted.{Wasted}
+use Rattle.types.specs.declared.templates.waste.Wasted.the-variants as wasted
+use Rattle.types.proofs.atomics.AtomicLaws.{code-same}
+use Rattle.types.proofs.shape.ShapeLaws.{code-below}
 
 -- the refusals with a place, from number 1 on
 abbrev refusals : ℕ → List Refusal

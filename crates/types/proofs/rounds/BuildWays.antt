@@ -5,14 +5,14 @@ use native.Mathlib.Omega.{arith}
 use mathlib.Core.Path.{_≡_, refl, ap}
 use mathlib.Core.Bool.{Bool, true, false, cond}
 use mathlib.Core.List.{List}
-use Rattle.types.specs.declared.predefined.PredefinedIds.{PredefinedIds}
-use Rattle.types.specs.Book.{bookOk}
-use Rattle.types.specs.Build.{buildOf}
-use Rattle.types.specs.Defs.{Def}
-use Rattle.types.specs.Predefined.{predefinedIds, predefined}
-use Rattle.types.specs.Rounds.{Answer, refused, accepted}
-use Rattle.types.specs.Said.{Why}
-use Rattle.types.specs.Turns.{roundsFrom, stuckAt}
+use Rattle.types.specs.book.Contents.{bookOk}
+use Rattle.types.specs.layout.Predefined.{predefinedIds, predefined}
+use Rattle.types.specs.refusals.Said.{Why}
+use Rattle.types.specs.rounds.Build.{buildOf}
+use Rattle.types.specs.rounds.Rounds.{Answer, refused, accepted}
+use Rattle.types.specs.rounds.Turns.{roundsFrom, stuckAt}
+use Rattle.types.specs.tables.Defs.{Def}
+use Rattle.types.specs.declared.layout.predefined.PredefinedIds.{PredefinedIds}
 
 passed : (p b : Bool) (a : Answer (List Def) Why) (ds : List Def)
     → cond p (cond b a (refused (1, 0))) (refused (22, 0)) ≡ accepted ds → (p ≡ true) × (a ≡ accepted ds)

@@ -6,36 +6,39 @@ use mathlib.Core.Path.{_≡_, refl, ap, _∙_}
 use mathlib.Core.Bool.{true}
 use mathlib.Core.List.{List, [], _∷_, _++_}
 use lib.ListN.{length, getD, set, length-set}
-use Rattle.types.specs.Said.{Why, whyOf}
-use Rattle.types.specs.Turns.{stuckAt}
 use Rattle.words.specs.Words.{Bytes}
 use Rattle.words.proofs.WordLaws.{word-below}
-use Rattle.types.specs.declared.refusal.Refusal.{Refusal}
-use Rattle.types.specs.declared.round.Round.the-variants.{Refused, Went}
-use Rattle.types.specs.declared.used.Turn.{Turn}
-use Rattle.types.specs.declared.used.Turn.the-variants.{Waits, Refused as Against, Added}
-use Rattle.types.specs.declared.used.Used.{Used}
-use Rattle.types.specs.Add.{no as against, yes as for, addTo}
-use Rattle.types.specs.Book.{typesIn, membersIn, bookOk}
-use Rattle.types.specs.Checks.{entriesFrom}
-use Rattle.types.specs.Defs.{Def}
-use Rattle.types.specs.Lookup.{rowNames}
-use Rattle.types.specs.OneRound.{roundIn, Reached, first, more, RoundIn, RoundMade}
-use Rattle.types.specs.Registry.{viewIn, viewOf, Stands}
-use Rattle.types.specs.Order.{allKnown}
-use Rattle.types.specs.Resolve.{typeNames, hasName}
-use Rattle.types.specs.Rounds.{no, ok, went}
-use Rattle.types.specs.Turns.{entriesAt, countOf, declsOf, readyIn, verdictOn, addIn, TurnIn, Turned, Tries}
-use Rattle.types.proofs.RegistryLaws.{stands-more}
-use Rattle.types.proofs.RoundLaws.{round-keep}
-use Rattle.types.proofs.RoundsKeep.{Begun, keeps, predefined-begun}
-use Rattle.types.proofs.RunLaws.{Inner, inner-start, inner-past, inner-wait, inner-no, inner-yes, inner-end}
-use Rattle.types.proofs.ShownLaws.{Shown, shown-more}
-use Rattle.types.proofs.SoundLaws.{Sound, sound, among-all}
-use Rattle.types.proofs.StandLaws.{turn-in, turn-same, turn-waits, turn-refused, turn-added}
-use Rattle.types.proofs.StandLaws.{AddedBy, tries-stand}
-use Rattle.types.proofs.VerdictLaws.{verdict-fits}
-use Rattle.types.proofs.WaitLaws.{waits-on}
+use Rattle.types.specs.adding.Add.{no as against, yes as for, addTo}
+use Rattle.types.specs.adding.Checks.{entriesFrom}
+use Rattle.types.specs.atomics.Lookup.{rowNames}
+use Rattle.types.specs.book.Contents.{typesIn, membersIn, bookOk}
+use Rattle.types.specs.inside.rounds.OneRound.{roundIn, Reached, first, more, RoundIn, RoundMade}
+use Rattle.types.specs.inside.rounds.Turns.{TurnIn, Turned, Tries}
+use Rattle.types.specs.inside.tables.Registry.{viewIn, Stands}
+use Rattle.types.specs.refusals.Said.{Why, whyOf}
+use Rattle.types.specs.rounds.Order.{allKnown}
+use Rattle.types.specs.rounds.Resolve.{typeNames, hasName}
+use Rattle.types.specs.rounds.Rounds.{no, ok, went}
+use Rattle.types.specs.rounds.Turns.{stuckAt}
+use Rattle.types.specs.rounds.Turns.{entriesAt, countOf, declsOf, readyIn, verdictOn, addIn}
+use Rattle.types.specs.tables.Defs.{Def}
+use Rattle.types.specs.tables.Registry.{viewOf}
+use Rattle.types.specs.declared.adding.progress.Progress.{Progress}
+use Rattle.types.specs.declared.adding.progress.Progress.the-variants.{Waits, Refused as Against, Added}
+use Rattle.types.specs.declared.adding.used.Used.{Used}
+use Rattle.types.specs.declared.refusals.refusal.Refusal.{Refusal}
+use Rattle.types.specs.declared.rounds.round.Round.the-variants.{Refused, Went}
+use Rattle.types.proofs.adding.VerdictLaws.{verdict-fits}
+use Rattle.types.proofs.book.SoundLaws.{Sound, sound, among-all}
+use Rattle.types.proofs.rounds.RoundLaws.{round-keep}
+use Rattle.types.proofs.rounds.RoundsKeep.{Begun, keeps, predefined-begun}
+use Rattle.types.proofs.rounds.RunLaws.{Inner, inner-start, inner-past, inner-wait, inner-no, inner-yes}
+use Rattle.types.proofs.rounds.RunLaws.{inner-end}
+use Rattle.types.proofs.rounds.StandLaws.{turn-in, turn-same, turn-waits, turn-refused, turn-added}
+use Rattle.types.proofs.rounds.StandLaws.{AddedBy, tries-stand}
+use Rattle.types.proofs.rounds.WaitLaws.{waits-on}
+use Rattle.types.proofs.tables.RegistryLaws.{stands-more}
+use Rattle.types.proofs.tables.ShownLaws.{Shown, shown-more}
 
 -- ---- registries that rounds reach
 
@@ -179,7 +182,7 @@ module _ {book t₀ m₀ n₀ tys₀ f₀ k₀ r₀ t m n tys f k r : List ℕ} 
           rows = w .rows;
         }
 
-    module _ {t′ m′ n′ : List ℕ} {x : Turn} (h : Turned
+    module _ {t′ m′ n′ : List ℕ} {x : Progress} (h : Turned
         (allKnown hasName (rowNames t n (u .types)) (typeNames book at 0 (countOf book i)))
         (addTo (viewIn t n u) book i at (declsOf (viewIn t n u) book (entriesFrom book at 0 (countOf book i)))) u
         t m n t′ m′ n′ x) (o : getD f i 0 ≡ 0) where

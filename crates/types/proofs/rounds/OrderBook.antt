@@ -7,33 +7,33 @@ use mathlib.Core.Bool.{Bool, true, false, cond, _||_, true≢false}
 use mathlib.Core.List.{List, [], _∷_, _++_, map, map-append}
 use mathlib.Core.Logic.{_⊎_, inl, inr, ⊎-elim}
 use lib.ListN.{length}
-use Rattle.types.specs.Turns.{stuckAt}
-use Rattle.types.specs.declared.atomic.Atomic.{Atomic as Kind}
-use Rattle.types.specs.declared.atomic.FoundAtomic.{FoundAtomic}
-use Rattle.types.specs.declared.atomic.FoundAtomic.the-variants.{Is as found, Nothing as none-found}
-use Rattle.types.specs.declared.lookups.FoundTy.the-variants.{Is, Nothing}
-use Rattle.types.specs.declared.member.Ty.the-variants.{Struct}
-use Rattle.types.specs.declared.predefined.PredefinedIds.{PredefinedIds}
-use Rattle.types.specs.Add.{Verdict, no as against, yes as for, newDef}
-use Rattle.types.specs.Atomic.{atomics, nameOf, firstOf, atomicNamed}
-use Rattle.types.specs.Book.{typesIn}
-use Rattle.types.specs.Build.{buildOf}
-use Rattle.types.specs.Defs.{Def}
-use Rattle.types.specs.Lookup.{namedAmong, atomicOr, typeAmong}
-use Rattle.types.specs.Names.{sameName, lowerOf}
-use Rattle.types.specs.Order.{Known}
-use Rattle.types.specs.Ordering.{typeNamed, Ordering}
-use Rattle.types.specs.Predefined.{withTimer, withCounter, withControl, predefined}
-use Rattle.types.specs.Predefined.{timerName, counterName, controlName, stringName}
-use Rattle.types.specs.Registry.{viewOf}
-use Rattle.types.specs.Resolve.{isFound, hasName}
-use Rattle.types.specs.Rounds.{no, ok, accepted, refused}
-use Rattle.types.specs.Turns.{usesOf, readyIn, verdictOn, stepOf, addIn, upFrom, roundsFrom}
-use Rattle.types.proofs.BuildWays.{accepted-both, refused-rounds}
-use Rattle.types.proofs.NameLaws.{same-lower, lower-same}
-use Rattle.types.proofs.OrderLaws.{Ties, shown, none}
-use Rattle.types.proofs.VerdictLaws.{verdict-name, verdict-never}
-use Rattle.types.proofs.TestLaws.{or-right}
+use Rattle.words.proofs.TestLaws.{or-right}
+use Rattle.types.specs.adding.Add.{Verdict, no as against, yes as for, newDef}
+use Rattle.types.specs.atomics.Atomic.{atomics, nameOf, firstOf, atomicNamed}
+use Rattle.types.specs.atomics.Lookup.{namedAmong, atomicOr, typeAmong}
+use Rattle.types.specs.book.Contents.{typesIn}
+use Rattle.types.specs.book.Names.{sameName, lowerOf}
+use Rattle.types.specs.layout.Predefined.{withTimer, withCounter, withControl, predefined}
+use Rattle.types.specs.layout.Predefined.{timerName, counterName, controlName, stringName}
+use Rattle.types.specs.rounds.Build.{buildOf}
+use Rattle.types.specs.rounds.Order.{Known}
+use Rattle.types.specs.rounds.Ordering.{typeNamed, Ordering}
+use Rattle.types.specs.rounds.Resolve.{isFound, hasName}
+use Rattle.types.specs.rounds.Rounds.{no, ok, accepted, refused}
+use Rattle.types.specs.rounds.Turns.{stuckAt}
+use Rattle.types.specs.rounds.Turns.{usesOf, readyIn, verdictOn, stepOf, addIn, upFrom, roundsFrom}
+use Rattle.types.specs.tables.Defs.{Def}
+use Rattle.types.specs.tables.Registry.{viewOf}
+use Rattle.types.specs.declared.atomics.atomic.Atomic.{Atomic as Kind}
+use Rattle.types.specs.declared.atomics.atomic.FoundAtomic.{FoundAtomic}
+use Rattle.types.specs.declared.atomics.atomic.FoundAtomic.the-variants.{Is as found, Nothing as none-found}
+use Rattle.types.specs.declared.atomics.lookup.FoundTy.the-variants.{Is, Nothing}
+use Rattle.types.specs.declared.layout.predefined.PredefinedIds.{PredefinedIds}
+use Rattle.types.specs.declared.tables.member.Ty.the-variants.{Struct}
+use Rattle.types.proofs.adding.VerdictLaws.{verdict-name, verdict-never}
+use Rattle.types.proofs.book.NameLaws.{same-lower, lower-same}
+use Rattle.types.proofs.rounds.BuildWays.{accepted-both, refused-rounds}
+use Rattle.types.proofs.rounds.OrderLaws.{Ties, shown, none}
 
 -- ---- a name is found as any other that is the same without case
 

@@ -10,10 +10,10 @@ use mathlib.Core.List.{List·Memᴰ, List·Memᴰ·head, List·Memᴰ·tail, Lis
 use mathlib.Core.List.{Memᴰ·append-left, Memᴰ·append-right, List·Memᴰ·append-cases}
 use mathlib.Core.Logic.{_⊎_, inl, inr, ⊎-elim}
 use lib.ListN.{length, length-append}
-use Rattle.types.specs.Book.{every}
-use Rattle.types.specs.Order.{allKnown, Within, Known, Ordered, Same, Shown}
-use Rattle.types.specs.Rounds.{Step, no, ok, stop, went, accepted, refused, round, rounds}
-use Rattle.types.proofs.RoundLaws.{RoundWays, round-cases, rounds-cases}
+use Rattle.types.specs.book.Contents.{every}
+use Rattle.types.specs.rounds.Order.{allKnown, Within, Known, Ordered, Same, Shown}
+use Rattle.types.specs.rounds.Rounds.{Step, no, ok, stop, went, accepted, refused, round, rounds}
+use Rattle.types.proofs.rounds.RoundLaws.{RoundWays, round-cases, rounds-cases}
 
 -- ---- the same numbers
 

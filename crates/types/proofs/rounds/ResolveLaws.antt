@@ -8,19 +8,20 @@ use mathlib.Core.Bool.{Bool, true, false, cond}
 use mathlib.Core.List.{List, [], _∷_}
 use lib.ListN.{length, set, length-set}
 use lib.Seq.{sets}
-use Rattle.types.specs.declared.atomic.FoundAtomic.{FoundAtomic}
-use Rattle.types.specs.declared.atomic.FoundAtomic.the-variants.{Is as found, Nothing as none}
-use Rattle.types.specs.declared.lookups.FoundTy.{FoundTy}
-use Rattle.types.specs.declared.lookups.FoundTy.the-variants.{Is, Nothing}
-use Rattle.types.specs.declared.member.Ty.{Ty}
-use Rattle.types.specs.declared.member.Ty.the-variants.{Atomic, Struct}
-use Rattle.types.specs.Atomic.{atomicNamed}
-use Rattle.types.specs.Laid.{Earlier}
-use Rattle.types.specs.Lookup.{namedAmong, typeAmong, atomicOr}
-use Rattle.types.specs.Names.{sameName}
-use Rattle.types.specs.Resolve.{typeName, typeNames, foundWords, Resolves}
-use Rattle.types.specs.Tables.{tyWord}
-use Rattle.types.proofs.BookLaws.{from-cons, from-none}
+use Rattle.types.specs.atomics.Atomic.{atomicNamed}
+use Rattle.types.specs.atomics.Lookup.{namedAmong, typeAmong, atomicOr}
+use Rattle.types.specs.book.Names.{sameName}
+use Rattle.types.specs.inside.rounds.Resolve.{foundWords, Resolves}
+use Rattle.types.specs.layout.Laid.{Earlier}
+use Rattle.types.specs.rounds.Resolve.{typeName, typeNames}
+use Rattle.types.specs.tables.Lent.{tyWord}
+use Rattle.types.specs.declared.atomics.atomic.FoundAtomic.{FoundAtomic}
+use Rattle.types.specs.declared.atomics.atomic.FoundAtomic.the-variants.{Is as found, Nothing as none}
+use Rattle.types.specs.declared.atomics.lookup.FoundTy.{FoundTy}
+use Rattle.types.specs.declared.atomics.lookup.FoundTy.the-variants.{Is, Nothing}
+use Rattle.types.specs.declared.tables.member.Ty.{Ty}
+use Rattle.types.specs.declared.tables.member.Ty.the-variants.{Atomic, Struct}
+use Rattle.types.proofs.book.BookLaws.{from-cons, from-none}
 
 -- ---- what is found
 

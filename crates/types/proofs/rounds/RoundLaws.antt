@@ -8,8 +8,8 @@ use mathlib.Core.List.{List, [], _∷_}
 use borrow.Author.Tests.{eqb-true, eqb-false}
 use lib.Dec.{eqb}
 use lib.ListN.{length, getD}
-use Rattle.types.specs.Rounds.{Step, no, ok, Out, stop, went, Answer, refused, accepted}
-use Rattle.types.specs.Rounds.{keep, onStep, onRound, round, rounds}
+use Rattle.types.specs.rounds.Rounds.{Step, no, ok, Out, stop, went, Answer, refused, accepted}
+use Rattle.types.specs.rounds.Rounds.{keep, onStep, onRound, round, rounds}
 
 -- what holds of both answers of a test holds of the picked one
 pub either : {A : Type 0} (P : A → Type 0) (t : Bool) (x y : A) → (t ≡ true → P x) → (t ≡ false → P y) → P (cond t x y)

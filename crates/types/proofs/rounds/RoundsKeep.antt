@@ -6,27 +6,27 @@ use mathlib.Core.Path.{_≡_, refl}
 use mathlib.Core.Bool.{true}
 use mathlib.Core.List.{List, [], _∷_, _++_}
 use lib.ListN.{length}
-use Rattle.types.specs.declared.predefined.PredefinedIds.{PredefinedIds}
-use Rattle.types.specs.Said.{Why}
-use Rattle.types.specs.Turns.{stuckAt}
 use Rattle.words.specs.Words.{Bytes}
-use Rattle.types.specs.Add.{Verdict, no as against, yes as for}
-use Rattle.types.specs.Book.{typesIn}
-use Rattle.types.specs.Defs.{Def}
-use Rattle.types.specs.Predefined.{predefinedIds, predefined}
-use Rattle.types.specs.Registry.{viewOf}
-use Rattle.types.specs.Rounds.{Step, ok, accepted}
-use Rattle.types.specs.Turns.{readyIn, verdictOn, stepOf, addIn, upFrom, roundsFrom}
-use Rattle.types.proofs.PredefinedLaws.{ids-allowed, predefined-built, predefined-shown}
-use Rattle.types.proofs.PredefinedWell.{predefined-well}
-use Rattle.types.proofs.ProperLaws.{AllProper, proper-more, predefined-proper}
-use Rattle.types.proofs.RegistryLaws.{length-snoc}
-use Rattle.types.proofs.RoundLaws.{rounds-keep}
-use Rattle.types.proofs.ShownLaws.{noDef, Shown, shown-more}
-use Rattle.types.proofs.UniqueLaws.{Unlike, new-differs, unlike-more, predefined-unlike}
-use Rattle.types.proofs.VerdictLaws.{verdict-fits, verdict-laid, verdict-most, verdict-string}
-use Rattle.types.proofs.VerdictLaws.{verdict-proper, verdict-unheld, verdict-unknown}
-use Rattle.types.proofs.WellLaws.{Well, well-more}
+use Rattle.types.specs.adding.Add.{Verdict, no as against, yes as for}
+use Rattle.types.specs.book.Contents.{typesIn}
+use Rattle.types.specs.layout.Predefined.{predefinedIds, predefined}
+use Rattle.types.specs.refusals.Said.{Why}
+use Rattle.types.specs.rounds.Rounds.{Step, ok, accepted}
+use Rattle.types.specs.rounds.Turns.{stuckAt}
+use Rattle.types.specs.rounds.Turns.{readyIn, verdictOn, stepOf, addIn, upFrom, roundsFrom}
+use Rattle.types.specs.tables.Defs.{Def}
+use Rattle.types.specs.tables.Registry.{viewOf}
+use Rattle.types.specs.declared.layout.predefined.PredefinedIds.{PredefinedIds}
+use Rattle.types.proofs.adding.VerdictLaws.{verdict-fits, verdict-laid, verdict-most, verdict-string}
+use Rattle.types.proofs.adding.VerdictLaws.{verdict-proper, verdict-unheld, verdict-unknown}
+use Rattle.types.proofs.layout.PredefinedLaws.{ids-allowed, predefined-built, predefined-shown}
+use Rattle.types.proofs.layout.PredefinedWell.{predefined-well}
+use Rattle.types.proofs.rounds.RoundLaws.{rounds-keep}
+use Rattle.types.proofs.tables.ProperLaws.{AllProper, proper-more, predefined-proper}
+use Rattle.types.proofs.tables.RegistryLaws.{length-snoc}
+use Rattle.types.proofs.tables.ShownLaws.{noDef, Shown, shown-more}
+use Rattle.types.proofs.tables.UniqueLaws.{Unlike, new-differs, unlike-more, predefined-unlike}
+use Rattle.types.proofs.tables.WellLaws.{Well, well-more}
 
 -- a registry that our own calls make
 pub record Good (ds : List Def) : Type 0 where

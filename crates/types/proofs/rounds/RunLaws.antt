@@ -8,22 +8,22 @@ use mathlib.Core.Bool.{true, false, cond}
 use mathlib.Core.List.{List, [], _∷_, append-nil}
 use borrow.Author.Tests.{eq-eqb, ne-eqb}
 use lib.ListN.{length, getD, set, length-append, length-set}
-use Rattle.types.specs.Said.{Why}
-use Rattle.types.specs.Turns.{stuckAt}
-use Rattle.types.specs.declared.used.Used.{Used}
-use Rattle.types.specs.Book.{typesIn}
-use Rattle.types.specs.Build.{waits}
-use Rattle.types.specs.Defs.{Def}
-use Rattle.types.specs.OneRound.{roundIn, Reached}
-use Rattle.types.specs.Registry.{Stands}
-use Rattle.types.specs.Rounds.{no, ok, stop, went, Answer, refused, accepted}
-use Rattle.types.specs.Rounds.{keep, onStep, onRound, round, rounds}
-use Rattle.types.specs.Turns.{entriesAt, countOf, readyIn, addIn, roundsFrom}
-use Rattle.types.proofs.RoundLaws.{rounds-none, rounds-some}
-use Rattle.types.proofs.ShownLaws.{Shown}
-use Rattle.types.proofs.SoundLaws.{entries-first, entries-next}
-use Rattle.types.proofs.WaitLaws.{waits-on, waits-off, waits-end, snoc-on, snoc-off, after-set, set-snoc}
-use Rattle.types.proofs.WaitLaws.{waits-all, up-length, keepAll, keep-one, keep-none}
+use Rattle.types.specs.book.Contents.{typesIn}
+use Rattle.types.specs.inside.rounds.Build.{waits}
+use Rattle.types.specs.inside.rounds.OneRound.{roundIn, Reached}
+use Rattle.types.specs.inside.tables.Registry.{Stands}
+use Rattle.types.specs.refusals.Said.{Why}
+use Rattle.types.specs.rounds.Rounds.{no, ok, stop, went, Answer, refused, accepted}
+use Rattle.types.specs.rounds.Rounds.{keep, onStep, onRound, round, rounds}
+use Rattle.types.specs.rounds.Turns.{stuckAt}
+use Rattle.types.specs.rounds.Turns.{entriesAt, countOf, readyIn, addIn, roundsFrom}
+use Rattle.types.specs.tables.Defs.{Def}
+use Rattle.types.specs.declared.adding.used.Used.{Used}
+use Rattle.types.proofs.book.SoundLaws.{entries-first, entries-next}
+use Rattle.types.proofs.rounds.RoundLaws.{rounds-none, rounds-some}
+use Rattle.types.proofs.rounds.WaitLaws.{waits-on, waits-off, waits-end, snoc-on, snoc-off, after-set, set-snoc}
+use Rattle.types.proofs.rounds.WaitLaws.{waits-all, up-length, keepAll, keep-one, keep-none}
+use Rattle.types.proofs.tables.ShownLaws.{Shown}
 
 -- at most so many rounds over a book
 abbrev pub roundsIn : List ℕ → ℕ → List Def → List ℕ → Answer (List Def) Why

@@ -8,19 +8,22 @@ use mathlib.Core.Bool.{Bool, true, false, cond, _&&_, true≢false}
 use mathlib.Core.List.{List, [], _∷_, _++_}
 use lib.ListN.{length, getD, set, length-set, length-append, List·getD-append}
 use lib.Seq.{getD-set-same, getD-set-other}
-use Rattle.types.specs.declared.atomic.FoundAtomic.{FoundAtomic}
-use Rattle.types.specs.declared.atomic.FoundAtomic.the-variants.{Is as found, Nothing as none}
-use Rattle.types.specs.declared.lookups.FoundTy.{FoundTy}
-use Rattle.types.specs.declared.lookups.FoundTy.the-variants.{Is, Nothing}
-use Rattle.types.specs.declared.member.Ty.the-variants.{Struct}
-use Rattle.types.specs.Atomic.{atomicNamed}
-use Rattle.types.specs.Book.{every, listFrom, typesIn}
-use Rattle.types.specs.Lookup.{namedAmong, typeAmong, atomicOr, Unseen}
-use Rattle.types.specs.Names.{sameName}
-use Rattle.types.specs.Order.{allKnown}
-use Rattle.types.specs.Resolve.{typeName, isFound, hasName, thenWord, foundWords}
-use Rattle.types.specs.Turns.{entriesAt, countOf, Missed, Tries}
-use Rattle.types.proofs.AgreeLaws.{length-list, getD-from, getD-list}
+use Rattle.types.specs.atomics.Atomic.{atomicNamed}
+use Rattle.types.specs.atomics.Lookup.{namedAmong, typeAmong, atomicOr}
+use Rattle.types.specs.book.Contents.{every, listFrom, typesIn}
+use Rattle.types.specs.book.Names.{sameName}
+use Rattle.types.specs.inside.atomics.Lookup.{Unseen}
+use Rattle.types.specs.inside.rounds.Resolve.{thenWord, foundWords}
+use Rattle.types.specs.inside.rounds.Turns.{Missed, Tries}
+use Rattle.types.specs.rounds.Order.{allKnown}
+use Rattle.types.specs.rounds.Resolve.{typeName, isFound, hasName}
+use Rattle.types.specs.rounds.Turns.{entriesAt, countOf}
+use Rattle.types.specs.declared.atomics.atomic.FoundAtomic.{FoundAtomic}
+use Rattle.types.specs.declared.atomics.atomic.FoundAtomic.the-variants.{Is as found, Nothing as none}
+use Rattle.types.specs.declared.atomics.lookup.FoundTy.{FoundTy}
+use Rattle.types.specs.declared.atomics.lookup.FoundTy.the-variants.{Is, Nothing}
+use Rattle.types.specs.declared.tables.member.Ty.the-variants.{Struct}
+use Rattle.types.proofs.tables.AgreeLaws.{length-list, getD-from, getD-list}
 
 -- ---- a name that is not found is none of the names
 

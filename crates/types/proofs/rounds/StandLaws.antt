@@ -6,26 +6,29 @@ use mathlib.Core.Path.{_≡_, refl, ap}
 use mathlib.Core.Bool.{Bool, true, false, true≢false}
 use mathlib.Core.List.{List, [], _∷_, _++_, map-append}
 use lib.ListN.{length}
-use Rattle.types.specs.Said.{whyOf}
 use Rattle.words.specs.Words.{Bytes}
 use Rattle.words.proofs.WordLaws.{word-below}
-use Rattle.types.specs.declared.refusal.Refusal.{Refusal}
-use Rattle.types.specs.declared.used.Turn.{Turn}
-use Rattle.types.specs.declared.used.Turn.the-variants.{Waits, Refused, Added}
-use Rattle.types.specs.declared.used.Used.{Used}
-use Rattle.types.specs.Add.{Verdict, no as against, yes as for, addTo, Took, Usable}
-use Rattle.types.specs.Book.{typesIn, membersIn}
-use Rattle.types.specs.Checks.{entriesFrom}
-use Rattle.types.specs.Defs.{Def}
-use Rattle.types.specs.Lookup.{rowNames}
-use Rattle.types.specs.Registry.{View, viewIn, viewOf, Stands}
-use Rattle.types.specs.Order.{allKnown}
-use Rattle.types.specs.Resolve.{typeNames, hasName}
-use Rattle.types.specs.Turns.{entriesAt, countOf, usesOf, declsOf, readyIn, verdictOn, TurnIn, Turned, Tries}
-use Rattle.types.proofs.RegistryLaws.{members-long, names-long}
-use Rattle.types.proofs.SearchLaws.{tries-more}
-use Rattle.types.proofs.ShownLaws.{Shown, view-same, names-inside, ids-small}
-use Rattle.types.proofs.SoundLaws.{Sound, among-all, type-inside, entries-inside, entries-uses}
+use Rattle.types.specs.adding.Add.{Verdict, no as against, yes as for, addTo}
+use Rattle.types.specs.adding.Checks.{entriesFrom}
+use Rattle.types.specs.atomics.Lookup.{rowNames}
+use Rattle.types.specs.book.Contents.{typesIn, membersIn}
+use Rattle.types.specs.inside.adding.Add.{Took, Usable}
+use Rattle.types.specs.inside.rounds.Turns.{TurnIn, Turned, Tries}
+use Rattle.types.specs.inside.tables.Registry.{viewIn, Stands}
+use Rattle.types.specs.refusals.Said.{whyOf}
+use Rattle.types.specs.rounds.Order.{allKnown}
+use Rattle.types.specs.rounds.Resolve.{typeNames, hasName}
+use Rattle.types.specs.rounds.Turns.{entriesAt, countOf, usesOf, declsOf, readyIn, verdictOn}
+use Rattle.types.specs.tables.Defs.{Def}
+use Rattle.types.specs.tables.Registry.{View, viewOf}
+use Rattle.types.specs.declared.adding.progress.Progress.{Progress}
+use Rattle.types.specs.declared.adding.progress.Progress.the-variants.{Waits, Refused, Added}
+use Rattle.types.specs.declared.adding.used.Used.{Used}
+use Rattle.types.specs.declared.refusals.refusal.Refusal.{Refusal}
+use Rattle.types.proofs.book.SoundLaws.{Sound, among-all, type-inside, entries-inside, entries-uses}
+use Rattle.types.proofs.rounds.SearchLaws.{tries-more}
+use Rattle.types.proofs.tables.RegistryLaws.{members-long, names-long}
+use Rattle.types.proofs.tables.ShownLaws.{Shown, view-same, names-inside, ids-small}
 
 -- ---- what the tables show
 
@@ -70,7 +73,7 @@ module _ {ds : List Def} {t m n : List ℕ} {u : Used} (shown : Shown ds) (stand
         }
 
     -- what it gives is what the definition says
-    pub turn-same : {t′ m′ n′ : List ℕ} {r : Turn}
+    pub turn-same : {t′ m′ n′ : List ℕ} {r : Progress}
         → Turned (allKnown hasName (rowNames t n (u .types)) (typeNames book at 0 (countOf book i)))
         (addTo (viewIn t n u) book i at (declsOf (viewIn t n u) book (entriesFrom book at 0 (countOf book i)))) u
         t m n t′ m′ n′ r
@@ -80,7 +83,7 @@ module _ {ds : List Def} {t m n : List ℕ} {u : Used} (shown : Shown ds) (stand
 
 -- ---- the ways that a turn can go
 
-waits-of : (b : Bool) (v : Verdict) (u : Used) (r : Turn) {t m n t′ m′ n′ : List ℕ} → Turned b v u t m n t′ m′ n′ r
+waits-of : (b : Bool) (v : Verdict) (u : Used) (r : Progress) {t m n t′ m′ n′ : List ℕ} → Turned b v u t m n t′ m′ n′ r
     → r ≡ Waits → b ≡ false
 waits-of false v u r h e = refl
 waits-of true (against x) u r h e =
@@ -90,7 +93,7 @@ waits-of true (for d) u r h e =
     let q = h .takes refl .is in
     cc
 
-refused-of : (x : Refusal) (b : Bool) (v : Verdict) (u : Used) (r : Turn) {t m n t′ m′ n′ : List ℕ}
+refused-of : (x : Refusal) (b : Bool) (v : Verdict) (u : Used) (r : Progress) {t m n t′ m′ n′ : List ℕ}
     → Turned b v u t m n t′ m′ n′ r → r ≡ Refused x → (b ≡ true) × (v ≡ against (whyOf x))
 refused-of x false v u r h e =
     let q = h .waits refl .0 in
@@ -109,7 +112,7 @@ pub record AddedBy (b : Bool) (v : Verdict) (u : Used) (t m n t′ m′ n′ : L
   pub is : v ≡ for d
   pub took : Took (for d) u t m n t′ m′ n′ (Added u′)
 
-added-of : (u′ : Used) (b : Bool) (v : Verdict) (u : Used) (r : Turn) {t m n t′ m′ n′ : List ℕ}
+added-of : (u′ : Used) (b : Bool) (v : Verdict) (u : Used) (r : Progress) {t m n t′ m′ n′ : List ℕ}
     → Turned b v u t m n t′ m′ n′ r → r ≡ Added u′ → AddedBy b v u t m n t′ m′ n′ u′
 added-of u′ false v u r h e =
     let q = h .waits refl .0 in
@@ -122,7 +125,7 @@ added-of u′ true (against y) u r h e =
 added-of u′ true (for d) u r h e =
     record { d = d; ready = refl; is = refl; took = rw e at (h .takes refl) }
 
-module _ {b : Bool} {v : Verdict} {u : Used} {t m n t′ m′ n′ : List ℕ} {r : Turn} (h : Turned b v u t m n t′ m′ n′ r)
+module _ {b : Bool} {v : Verdict} {u : Used} {t m n t′ m′ n′ : List ℕ} {r : Progress} (h : Turned b v u t m n t′ m′ n′ r)
   where
     pub turn-waits : r ≡ Waits → (b ≡ false) × ((t′ ≡ t) × ((m′ ≡ m) × (n′ ≡ n)))
     turn-waits e =

@@ -10,10 +10,10 @@ use borrow.Author.Tests.{eq-eqb, ne-eqb}
 use lib.Dec.{eqb}
 use lib.ListN.{length, getD, set, replicate}
 use lib.Seq.{getD-set-same, getD-set-other}
-use Rattle.types.specs.Build.{waits, FirstWaits, Cleared}
-use Rattle.types.specs.Registry.{noTypes, noMembers, noNames}
-use Rattle.types.specs.Rounds.{Out, stop, went, keep}
-use Rattle.types.specs.Turns.{upFrom}
+use Rattle.types.specs.inside.rounds.Build.{waits, FirstWaits, Cleared}
+use Rattle.types.specs.rounds.Rounds.{Out, stop, went, keep}
+use Rattle.types.specs.rounds.Turns.{upFrom}
+use Rattle.types.specs.tables.Registry.{noTypes, noMembers, noNames}
 
 -- tables of zeros
 pub cleared : Cleared (replicate 1600 0) (replicate 16000 0) (replicate 32768 0)

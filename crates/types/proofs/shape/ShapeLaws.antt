@@ -13,28 +13,33 @@ use borrow.Author.Tests.{not-true}
 use lib.Dec.{eqb, leb, ltb, lit<}
 use lib.ListN.{length, getD, drop, drop-of-length-le}
 use lib.Seq.{drop-cons}
-use Rattle.types.specs.declared.atomic.Atomic.{Atomic as Kind}
-use Rattle.types.specs.declared.atomic.Atomic.the-variants.{Bool as BOOL, SInt, Int, DInt, LInt, USInt, UInt}
-use Rattle.types.specs.declared.atomic.Atomic.the-variants.{UDInt}
-use Rattle.types.specs.declared.atomic.Atomic.the-variants.{ULInt, Real, LReal, Byte, Word, DWord, LWord}
-use Rattle.types.specs.declared.member.StructDef.{StructDef}
-use Rattle.types.specs.declared.member.Ty.{Ty}
-use Rattle.types.specs.declared.member.Ty.the-variants.{Atomic, Struct}
-use Rattle.types.specs.declared.shape.Product.{Product}
-use Rattle.types.specs.declared.shape.Product.the-variants.{Is, Over}
-use Rattle.types.specs.declared.shape.Shape.{Shape}
-use Rattle.types.specs.Atomic.{codeOf}
-use Rattle.types.specs.Kept.{KeptTypes}
-use Rattle.types.specs.Layout.{most, isBool, alignUp}
-use Rattle.types.specs.Said.{done}
-use Rattle.types.specs.Said as say
-use Rattle.types.specs.Shape.{Told, given, refused, isThere, mostLengths, noneZero, lengthsOk, product, three}
-use Rattle.types.specs.Shape.{within, boolTag, boolShape, plainShape, shapeOf, productOf, symbolFor, symbolOf}
-use Rattle.types.specs.Tables.{TyFits, typeAt}
-use Rattle.types.specs.Template.{typeIn, idsIn}
-use Rattle.types.specs.Waste.{sizeIn, sizesIn}
-use Rattle.types.proofs.KeptLaws.{kept-ids}
-use Rattle.types.proofs.TestLaws.{and-left, and-right}
+use Rattle.words.proofs.TestLaws.{and-left, and-right}
+use Rattle.types.specs.atomics.Atomic.{codeOf}
+use Rattle.types.specs.inside.shape.Tags.{productOf}
+use Rattle.types.specs.inside.tables.Lent.{TyFits}
+use Rattle.types.specs.layout.Placing.{most, isBool, alignUp}
+use Rattle.types.specs.refusals.Said.{done}
+use Rattle.types.specs.refusals.Said as say
+use Rattle.types.specs.shape.Tags.{ShapeSaid, given, refusedShape, mostLengths, noneZero, lengthsOk, product}
+use Rattle.types.specs.shape.Tags.{three}
+use Rattle.types.specs.shape.Tags.{within, boolTag, boolShape, plainShape, shapeOf, symbolFor, symbolOf}
+use Rattle.types.specs.tables.Kept.{KeptTypes}
+use Rattle.types.specs.tables.Lent.{typeAt}
+use Rattle.types.specs.tables.Sizes.{sizeIn, sizesIn}
+use Rattle.types.specs.tables.There.{isThere}
+use Rattle.types.specs.tables.TypeWord.{typeIn, idsIn}
+use Rattle.types.specs.declared.atomics.atomic.Atomic.{Atomic as Kind}
+use Rattle.types.specs.declared.atomics.atomic.Atomic.the-variants.{Bool as BOOL, SInt, Int, DInt, LInt, USInt}
+use Rattle.types.specs.declared.atomics.atomic.Atomic.the-variants.{UInt}
+use Rattle.types.specs.declared.atomics.atomic.Atomic.the-variants.{UDInt}
+use Rattle.types.specs.declared.atomics.atomic.Atomic.the-variants.{ULInt, Real, LReal, Byte, Word, DWord, LWord}
+use Rattle.types.specs.declared.shape.tags.Product.{Product}
+use Rattle.types.specs.declared.shape.tags.Product.the-variants.{Is, Over}
+use Rattle.types.specs.declared.shape.tags.Shape.{Shape}
+use Rattle.types.specs.declared.tables.member.StructDef.{StructDef}
+use Rattle.types.specs.declared.tables.member.Ty.{Ty}
+use Rattle.types.specs.declared.tables.member.Ty.the-variants.{Atomic, Struct}
+use Rattle.types.proofs.tables.KeptLaws.{kept-ids}
 
 -- ---- the types that are there
 
@@ -170,12 +175,12 @@ module _ (sizes : ℕ → ℕ) (t : Ty) (lengths : List ℕ) (used n : ℕ) {siz
   unfolding within
   within-fits f = rw (← e) (simp f)
 
-  pub within-over : leb (size * n) most ≡ false → refused 24 0 ≡ within sizes t lengths used n
+  pub within-over : leb (size * n) most ≡ false → refusedShape 24 0 ≡ within sizes t lengths used n
   unfolding within
   within-over f = rw (← e) (simp f)
 
 module _ (sizes : ℕ → ℕ) (n up : ℕ) (e : up ≡ alignUp n 32) where
-  pub bool-over : 2 ^ 32 - 1 < up → refused 24 0 ≡ boolShape sizes n
+  pub bool-over : 2 ^ 32 - 1 < up → refusedShape 24 0 ≡ boolShape sizes n
   unfolding boolShape
   bool-over h = rw (← e) (simp (lt-leb up (2 ^ 32 - 1) h))
 
@@ -184,19 +189,19 @@ module _ (sizes : ℕ → ℕ) (n up : ℕ) (e : up ≡ alignUp n 32) where
   bool-within h = rw (← e) (simp (le-leb up (2 ^ 32 - 1) h))
 
 -- a product that was found decides
-over-go : (b : Bool) (n : ℕ) (s : Told) → cond b (Is n) Over ≡ Over
-    → refused 24 0 ≡ cond b s (refused 24 0)
+over-go : (b : Bool) (n : ℕ) (s : ShapeSaid) → cond b (Is n) Over ≡ Over
+    → refusedShape 24 0 ≡ cond b s (refusedShape 24 0)
 over-go true n s q = cc
 over-go false n s q = refl
 
-is-go : (b : Bool) (n m : ℕ) (f : ℕ → Told) → cond b (Is n) Over ≡ Is m → f m ≡ cond b (f n) (refused 24 0)
+is-go : (b : Bool) (n m : ℕ) (f : ℕ → ShapeSaid) → cond b (Is n) Over ≡ Is m → f m ≡ cond b (f n) (refusedShape 24 0)
 is-go true n m f q =
     let z : m ≡ n = cc in
     ap f z
 is-go false n m f q = cc
 
 module _ (sizes : ℕ → ℕ) (t : Ty) (s : List ℕ) {p : Product} (e : p ≡ productOf s) where
-  pub plain-over : p ≡ Over → refused 24 0 ≡ plainShape sizes t s
+  pub plain-over : p ≡ Over → refusedShape 24 0 ≡ plainShape sizes t s
   unfolding plainShape productOf
   plain-over q = over-go (leb (product s) (2 ^ 64 - 1)) _ _ (sym e ∙ q)
 
@@ -208,11 +213,11 @@ module _ (sizes : ℕ → ℕ) (t : Ty) (s : List ℕ) {p : Product} (e : p ≡ 
 -- ---- the ways out
 
 module _ (types : List ℕ) (t : Ty) (s : List ℕ) where
-  pub not-there : isThere types t ≡ false → refused 15 0 ≡ shapeOf types t s
+  pub not-there : isThere types t ≡ false → refusedShape 15 0 ≡ shapeOf types t s
   unfolding shapeOf
   not-there a = rw a
 
-  pub lengths-wrong : isThere types t ≡ true → lengthsOk t s ≡ false → refused 23 0 ≡ shapeOf types t s
+  pub lengths-wrong : isThere types t ≡ true → lengthsOk t s ≡ false → refusedShape 23 0 ≡ shapeOf types t s
   unfolding shapeOf
   lengths-wrong a b = rw (a, b)
 
@@ -269,20 +274,20 @@ module _ (types : List ℕ) (t : Ty) (used : ℕ) where
 -- ---- the shapes that are given
 
 -- a shape that is given has a symbol type
-record Asked (types : List ℕ) (r : Told) : Type 0 where
+record Asked (types : List ℕ) (r : ShapeSaid) : Type 0 where
   ask : (x : Shape) → r ≡ given x → (isThere types (x .ty) ≡ true) × (x .used ≤ 3)
 
 module _ (types : List ℕ) where
-  asked-refused : (number : ℕ) → Asked types (refused number 0)
+  asked-refused : (number : ℕ) → Asked types (refusedShape number 0)
   asked-refused number =
       record {
         ask = λ x e.
-            let f : say.refused number 0 ≡ done tt = ap (λ (r : Told). r .said) e in
+            let f : say.refused number 0 ≡ done tt = ap (λ (r : ShapeSaid). r .said) e in
             let z : _≡_ {A = ℕ} 0 1 = cc in
             absurd (omega arith);
       }
 
-  asked-if : (b : Bool) {p q : Told} → (b ≡ true → Asked types p) → Asked types q → Asked types (cond b p q)
+  asked-if : (b : Bool) {p q : ShapeSaid} → (b ≡ true → Asked types p) → Asked types q → Asked types (cond b p q)
   asked-if true f g = f refl
   asked-if false f g = g
 
@@ -294,8 +299,8 @@ module _ (types : List ℕ) where
       (λ b.
       record {
         ask = λ x e.
-            let p : t ≡ x .ty = ap (λ (r : Told). r .shape .ty) e in
-            let q : used ≡ x .used = ap (λ (r : Told). r .shape .used) e in
+            let p : t ≡ x .ty = ap (λ (r : ShapeSaid). r .shape .ty) e in
+            let q : used ≡ x .used = ap (λ (r : ShapeSaid). r .shape .used) e in
             (rw p at f, omega arith);
       })
       (asked-refused 24)

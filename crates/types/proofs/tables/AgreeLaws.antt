@@ -8,17 +8,18 @@ use mathlib.Core.Path.{_≡_, refl, ap, _∙_}
 use mathlib.Core.Bool.{Bool, true, false, cond}
 use mathlib.Core.List.{List, [], _∷_}
 use lib.ListN.{length, getD}
-use Rattle.types.specs.declared.atomic.Atomic.the-variants.{DWord}
-use Rattle.types.specs.declared.book.MemberEntry.{MemberEntry}
-use Rattle.types.specs.declared.member.Ty.{Ty}
-use Rattle.types.specs.declared.member.Ty.the-variants.{Atomic, Struct}
-use Rattle.types.specs.Book.{listFrom}
-use Rattle.types.specs.Defs.{Part, Def}
-use Rattle.types.specs.Entries.{boolArray, storedTy, resolved, declared}
-use Rattle.types.specs.Laid.{Earlier, Every}
-use Rattle.types.specs.Template.{typeIn, infoBytes, infos, frontOf, templateOf}
-use Rattle.types.specs.Waste.{sizeIn}
-use Rattle.types.proofs.DefLaws.{PartFits}
+use Rattle.types.specs.book.Contents.{listFrom}
+use Rattle.types.specs.book.Decls.{boolArray, storedTy, resolved, declared}
+use Rattle.types.specs.layout.Laid.{Earlier, Every}
+use Rattle.types.specs.tables.Defs.{Part, Def}
+use Rattle.types.specs.tables.Sizes.{sizeIn}
+use Rattle.types.specs.tables.TypeWord.{typeIn}
+use Rattle.types.specs.templates.Template.{infoBytes, infos, frontOf, templateOf}
+use Rattle.types.specs.declared.atomics.atomic.Atomic.the-variants.{DWord}
+use Rattle.types.specs.declared.book.contents.MemberEntry.{MemberEntry}
+use Rattle.types.specs.declared.tables.member.Ty.{Ty}
+use Rattle.types.specs.declared.tables.member.Ty.the-variants.{Atomic, Struct}
+use Rattle.types.proofs.tables.DefLaws.{PartFits}
 
 -- ---- numbers that agree below n
 

@@ -6,8 +6,8 @@ use native.Mathlib.Nat.{add-zero, zero-add, sub-zero}
 use mathlib.Core.Path.{_≡_, sym, _∙_}
 use mathlib.Core.List.{List}
 use borrow.Author.Tests.{eq-eqb, ne-eqb}
-use Rattle.types.specs.Ids.{idWord}
-use Rattle.types.specs.Registry.{countFrom, typeCount}
+use Rattle.types.specs.adding.Ids.{idWord}
+use Rattle.types.specs.tables.Registry.{countFrom, typeCount}
 
 module _ (ids : ℕ → ℕ) (n i : ℕ) where
   pub count-stop : i < n → ids i ≡ 0 → i + countFrom ids i (n - i) ≡ i

@@ -11,14 +11,16 @@ use lib.ListN.{length, getD, length-append}
 use lib.Seq.{sets, length-sets}
 use Rattle.words.specs.Words.{part}
 use Rattle.words.proofs.Lists.{sets-append, getD-beside, part-beside, part-run}
-use Rattle.types.specs.declared.member.Ty.{Ty}
-use Rattle.types.specs.declared.member.Ty.the-variants.{Atomic, Struct}
-use Rattle.types.specs.Defs.{Part, Def, nameIn, partAt, partsAt, defOf, Readable}
-use Rattle.types.specs.Laid.{Earlier, Every}
-use Rattle.types.specs.Registry.{ownNames, headOf}
-use Rattle.types.specs.Structs.{namesOf, rowsOf}
-use Rattle.types.specs.Tables.{TyFits, memberRow, memberAt, nameAt, typeAt}
-use Rattle.types.proofs.TableLaws.{BitFits, Storable, Eight, member-back, name-back}
+use Rattle.types.specs.inside.tables.Defs.{Readable}
+use Rattle.types.specs.inside.tables.Lent.{TyFits}
+use Rattle.types.specs.layout.Laid.{Earlier, Every}
+use Rattle.types.specs.layout.Structs.{namesOf, rowsOf}
+use Rattle.types.specs.tables.Defs.{Part, Def, nameIn, partAt, partsAt, defOf}
+use Rattle.types.specs.tables.Lent.{memberRow, memberAt, nameAt, typeAt}
+use Rattle.types.specs.tables.Registry.{ownNames, headOf}
+use Rattle.types.specs.declared.tables.member.Ty.{Ty}
+use Rattle.types.specs.declared.tables.member.Ty.the-variants.{Atomic, Struct}
+use Rattle.types.proofs.tables.TableLaws.{BitFits, Storable, Eight, member-back, name-back}
 
 -- ---- rows beside a run of stores
 

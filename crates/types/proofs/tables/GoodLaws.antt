@@ -9,35 +9,38 @@ use mathlib.Core.Bool.{true, false}
 use mathlib.Core.List.{List, [], _∷_, map}
 use lib.ListN.{length, getD, drop, length-append}
 use Rattle.words.proofs.Lists.{length-part}
-use Rattle.types.specs.declared.member.Bit.the-variants.{None}
-use Rattle.types.specs.declared.member.Member.{Member}
-use Rattle.types.specs.declared.member.StructDef.{StructDef}
-use Rattle.types.specs.declared.member.StructKind.the-variants.{Str}
-use Rattle.types.specs.declared.member.Ty.{Ty}
-use Rattle.types.specs.declared.member.Ty.the-variants.{Atomic, Struct}
-use Rattle.types.specs.Defs.{Part, Def, nameIn, partAt, partsAt, defOf}
-use Rattle.types.specs.Laid.{Earlier, Lies, Laid}
-use Rattle.types.specs.Layout.{times}
-use Rattle.types.specs.Listing.{Short, TypeNamed, Listable}
-use Rattle.types.specs.Lookup.{NamesInside, rowName}
-use Rattle.types.specs.Names.{sameName, goodName}
-use Rattle.types.specs.Registry.{typesTable, membersTable, namesTable}
-use Rattle.types.specs.Registry.{typeCount}
-use Rattle.types.specs.Structs.{namesOf, stringParts}
-use Rattle.types.specs.Tables.{kindOf, memberAt, nameAt, noType, typeAt}
-use Rattle.types.specs.Waste.{sizeIn, sizesIn, bitsOf, Countable}
-use Rattle.types.proofs.AddLaws.{every-nth}
-use Rattle.types.proofs.CountLaws.{count-of}
-use Rattle.types.proofs.LaidLaws.{part-lies}
-use Rattle.types.proofs.NameLaws.{name-rule}
-use Rattle.types.proofs.PartLaws.{Formed, PartFormed}
-use Rattle.types.proofs.ProperLaws.{FirstFour}
-use Rattle.types.proofs.RegistryLaws.{names-long, word-after}
-use Rattle.types.proofs.RoundsKeep.{Good}
-use Rattle.types.proofs.ShownLaws.{noDef, Row, name-same, sizes-same, names-inside, row-readable}
-use Rattle.types.proofs.StringLaws.{StringRow, string-bytes}
-use Rattle.types.proofs.TemplateLaws.{parts-long}
-use Rattle.types.proofs.WellLaws.{sizesOf, laid-same}
+use Rattle.types.specs.atomics.Lookup.{rowName}
+use Rattle.types.specs.book.Names.{sameName, goodName}
+use Rattle.types.specs.inside.atomics.Lookup.{NamesInside}
+use Rattle.types.specs.inside.listing.Lines.{Short, TypeNamed, Listable}
+use Rattle.types.specs.inside.tables.Lent.{noType}
+use Rattle.types.specs.inside.templates.Waste.{Countable}
+use Rattle.types.specs.layout.Laid.{Earlier, Lies, Laid}
+use Rattle.types.specs.layout.Placing.{times}
+use Rattle.types.specs.layout.Structs.{namesOf, stringParts}
+use Rattle.types.specs.tables.Defs.{Part, Def, nameIn, partAt, partsAt, defOf}
+use Rattle.types.specs.tables.Lent.{kindOf, memberAt, nameAt, typeAt}
+use Rattle.types.specs.tables.Registry.{typesTable, membersTable, namesTable}
+use Rattle.types.specs.tables.Registry.{typeCount}
+use Rattle.types.specs.tables.Sizes.{sizeIn, sizesIn, bitsOf}
+use Rattle.types.specs.declared.tables.member.Bit.the-variants.{None}
+use Rattle.types.specs.declared.tables.member.Member.{Member}
+use Rattle.types.specs.declared.tables.member.StructDef.{StructDef}
+use Rattle.types.specs.declared.tables.member.StructKind.the-variants.{Str}
+use Rattle.types.specs.declared.tables.member.Ty.{Ty}
+use Rattle.types.specs.declared.tables.member.Ty.the-variants.{Atomic, Struct}
+use Rattle.types.proofs.adding.AddLaws.{every-nth}
+use Rattle.types.proofs.book.NameLaws.{name-rule}
+use Rattle.types.proofs.layout.LaidLaws.{part-lies}
+use Rattle.types.proofs.layout.PartLaws.{Formed, PartFormed}
+use Rattle.types.proofs.layout.StringLaws.{StringRow, string-bytes}
+use Rattle.types.proofs.rounds.RoundsKeep.{Good}
+use Rattle.types.proofs.tables.CountLaws.{count-of}
+use Rattle.types.proofs.tables.ProperLaws.{FirstFour}
+use Rattle.types.proofs.tables.RegistryLaws.{names-long, word-after}
+use Rattle.types.proofs.tables.ShownLaws.{noDef, Row, name-same, sizes-same, names-inside, row-readable}
+use Rattle.types.proofs.tables.WellLaws.{sizesOf, laid-same}
+use Rattle.types.proofs.templates.TemplateLaws.{parts-long}
 
 -- ---- parts by their numbers
 

@@ -8,38 +8,42 @@ use mathlib.Core.Path.{_≡_, refl, sym, ap, _∙_}
 use mathlib.Core.Bool.{true, false, true≢false}
 use mathlib.Core.List.{List, []}
 use lib.ListN.{length}
-use Rattle.types.specs.Said.{Why}
 use Rattle.words.specs.Words.{Bytes}
-use Rattle.types.specs.declared.building.Built.{Built}
-use Rattle.types.specs.declared.building.Built.the-variants.{Types}
-use Rattle.types.specs.declared.member.StructDef.{StructDef}
-use Rattle.types.specs.declared.member.StructKind.the-variants.{Predefined, Str}
-use Rattle.types.specs.declared.predefined.PredefinedIds.{PredefinedIds}
-use Rattle.types.specs.Build.{buildOf, Ended}
-use Rattle.types.specs.Defs.{Def, partsAt}
-use Rattle.types.specs.Kept.{Made, none, built, Kept}
-use Rattle.types.specs.Laid.{Laid}
-use Rattle.types.specs.Listing.{Listable}
-use Rattle.types.specs.Lookup.{NamesInside, rowName}
-use Rattle.types.specs.Names.{sameName, goodName}
-use Rattle.types.specs.Predefined.{predefinedId, predefined}
-use Rattle.types.specs.Registry.{noTypes, noMembers, noNames, typesTable, membersTable, namesTable, typeCount}
-use Rattle.types.specs.Registry.{typeRows, memberRows, bytesOf}
-use Rattle.types.specs.Rounds.{Answer, refused, accepted}
-use Rattle.types.specs.Tables.{noType, typeAt}
-use Rattle.types.specs.Template.{userId}
-use Rattle.types.specs.Waste.{sizesIn, visibleBits}
-use Rattle.types.proofs.BuildWays.{accepted-both}
-use Rattle.types.proofs.GoodLaws.{MemberRow, good-count, good-inside, good-laid, good-most, good-listable}
-use Rattle.types.proofs.GoodLaws.{good-used, good-id, good-kind, good-first, good-name, good-members}
-use Rattle.types.proofs.GoodLaws.{good-string, good-unused, good-ids-apart, good-names-apart}
-use Rattle.types.proofs.ProperLaws.{FirstFour, proper-none}
-use Rattle.types.proofs.RoundsKeep.{Good, predefined-begun, rounds-begun}
-use Rattle.types.proofs.ShownLaws.{shown-none, ids-fit}
-use Rattle.types.proofs.StringLaws.{StringRow}
-use Rattle.types.proofs.UniqueLaws.{unlike-none}
-use Rattle.types.proofs.VisibleLaws.{visible-inside}
-use Rattle.types.proofs.WellLaws.{well-none}
+use Rattle.types.specs.atomics.Lookup.{rowName}
+use Rattle.types.specs.book.Names.{sameName, goodName}
+use Rattle.types.specs.inside.atomics.Lookup.{NamesInside}
+use Rattle.types.specs.inside.listing.Lines.{Listable}
+use Rattle.types.specs.inside.tables.Lent.{noType}
+use Rattle.types.specs.layout.Laid.{Laid}
+use Rattle.types.specs.layout.Predefined.{predefinedId, predefined}
+use Rattle.types.specs.refusals.Said.{Why}
+use Rattle.types.specs.rounds.Build.{buildOf, Ended}
+use Rattle.types.specs.rounds.Rounds.{Answer, refused, accepted}
+use Rattle.types.specs.tables.Defs.{Def, partsAt}
+use Rattle.types.specs.tables.Kept.{Made, none, built, Kept}
+use Rattle.types.specs.tables.Lent.{typeAt}
+use Rattle.types.specs.tables.Registry.{noTypes, noMembers, noNames, typesTable, membersTable, namesTable}
+use Rattle.types.specs.tables.Registry.{typeCount}
+use Rattle.types.specs.tables.Registry.{typeRows, memberRows, nameBytesOf}
+use Rattle.types.specs.tables.Sizes.{sizesIn}
+use Rattle.types.specs.templates.Template.{userId}
+use Rattle.types.specs.templates.Waste.{visibleBits}
+use Rattle.types.specs.declared.layout.predefined.PredefinedIds.{PredefinedIds}
+use Rattle.types.specs.declared.rounds.build.Built.{Built}
+use Rattle.types.specs.declared.rounds.build.Built.the-variants.{Types}
+use Rattle.types.specs.declared.tables.member.StructDef.{StructDef}
+use Rattle.types.specs.declared.tables.member.StructKind.the-variants.{Predefined, Str}
+use Rattle.types.proofs.layout.StringLaws.{StringRow}
+use Rattle.types.proofs.rounds.BuildWays.{accepted-both}
+use Rattle.types.proofs.rounds.RoundsKeep.{Good, predefined-begun, rounds-begun}
+use Rattle.types.proofs.tables.GoodLaws.{MemberRow, good-count, good-inside, good-laid, good-most, good-listable}
+use Rattle.types.proofs.tables.GoodLaws.{good-used, good-id, good-kind, good-first, good-name, good-members}
+use Rattle.types.proofs.tables.GoodLaws.{good-string, good-unused, good-ids-apart, good-names-apart}
+use Rattle.types.proofs.tables.ProperLaws.{FirstFour, proper-none}
+use Rattle.types.proofs.tables.ShownLaws.{shown-none, ids-fit}
+use Rattle.types.proofs.tables.UniqueLaws.{unlike-none}
+use Rattle.types.proofs.tables.WellLaws.{well-none}
+use Rattle.types.proofs.templates.VisibleLaws.{visible-inside}
 
 -- ---- what a build makes
 
@@ -161,7 +165,7 @@ module _ {types members names : List ℕ} (k : Kept types members names) where
 -- tables of zeros are kept
 pub none-kept : {types members names : List ℕ} → types ≡ noTypes → members ≡ noMembers → names ≡ noNames
     → Kept types members names
-unfolding typesTable membersTable namesTable typeRows memberRows bytesOf
+unfolding typesTable membersTable namesTable typeRows memberRows nameBytesOf
 none-kept a b c = record { defs = []; made = none refl; rows = a; parts = b; bytes = c }
 
 module _ (ids : PredefinedIds) (book : List ℕ) (bytes : Bytes book) where

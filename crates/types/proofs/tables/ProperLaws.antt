@@ -9,23 +9,24 @@ use mathlib.Core.List.{List, [], _∷_, _++_}
 use borrow.Author.Tests.{le-leb}
 use lib.Dec.{eqb, leb}
 use lib.ListN.{length, getD}
-use Rattle.types.specs.declared.member.StructKind.{StructKind}
-use Rattle.types.specs.declared.member.StructKind.the-variants.{Udt, Predefined, Str}
-use Rattle.types.specs.declared.predefined.PredefinedIds.{PredefinedIds}
-use Rattle.types.specs.Add.{newDef}
-use Rattle.types.specs.Book.{every}
-use Rattle.types.specs.Defs.{Def}
-use Rattle.types.specs.Laid.{Every}
-use Rattle.types.specs.Names.{nameByte, nameBytes, goodName}
-use Rattle.types.specs.Predefined.{predefinedId, predefinedIds, withTimer, withCounter, withControl, predefined}
-use Rattle.types.specs.Predefined.{timerName, counterName, controlName, stringName}
-use Rattle.types.specs.Structs.{laidKind, timerParts, counterParts, controlTypeParts}
-use Rattle.types.specs.Tables.{kindWord}
-use Rattle.types.specs.Template.{userId}
-use Rattle.types.proofs.PartLaws.{PartFormed, control-formed, string-formed}
-use Rattle.types.proofs.PredefinedLaws.{ids-allowed}
-use Rattle.types.proofs.ShownLaws.{noDef, each-more}
-use Rattle.types.proofs.TestLaws.{and-right, clash}
+use Rattle.words.proofs.TestLaws.{and-right, clash}
+use Rattle.types.specs.adding.Add.{newDef}
+use Rattle.types.specs.book.Contents.{every}
+use Rattle.types.specs.book.Names.{nameByte, nameBytes, goodName}
+use Rattle.types.specs.layout.Laid.{Every}
+use Rattle.types.specs.layout.Predefined.{predefinedId, predefinedIds, withTimer, withCounter, withControl}
+use Rattle.types.specs.layout.Predefined.{predefined}
+use Rattle.types.specs.layout.Predefined.{timerName, counterName, controlName, stringName}
+use Rattle.types.specs.layout.Structs.{laidKind, timerParts, counterParts, controlTypeParts}
+use Rattle.types.specs.tables.Defs.{Def}
+use Rattle.types.specs.tables.Lent.{kindWord}
+use Rattle.types.specs.templates.Template.{userId}
+use Rattle.types.specs.declared.layout.predefined.PredefinedIds.{PredefinedIds}
+use Rattle.types.specs.declared.tables.member.StructKind.{StructKind}
+use Rattle.types.specs.declared.tables.member.StructKind.the-variants.{Udt, Predefined, Str}
+use Rattle.types.proofs.layout.PartLaws.{PartFormed, control-formed, string-formed}
+use Rattle.types.proofs.layout.PredefinedLaws.{ids-allowed}
+use Rattle.types.proofs.tables.ShownLaws.{noDef, each-more}
 
 -- ---- ids
 

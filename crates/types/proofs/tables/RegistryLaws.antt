@@ -10,16 +10,19 @@ use mathlib.Core.Logic.{inr}
 use lib.ListN.{length, getD, replicate, length-append, length-replicate}
 use lib.Seq.{sets, length-sets}
 use Rattle.words.proofs.Lists.{sets-append, getD-beside}
-use Rattle.types.specs.declared.used.Turn.the-variants.{Added}
-use Rattle.types.specs.declared.used.Used.{Used}
-use Rattle.types.specs.Add.{added}
-use Rattle.types.specs.Add.{yes, Took}
-use Rattle.types.specs.Defs.{Def}
-use Rattle.types.specs.Registry.{ownNames, membersOf, bytesOf, headOf, typeRows, memberRows, usedBy, usedMore}
-use Rattle.types.specs.Registry.{noTypes, noMembers, noNames, typesTable, membersTable, namesTable, Stands}
-use Rattle.types.specs.Structs.{rowsOf}
-use Rattle.types.specs.Tables.{typeRow}
-use Rattle.types.proofs.StoreLaws.{row-long}
+use Rattle.types.specs.adding.Add.{yes}
+use Rattle.types.specs.inside.adding.Add.{added}
+use Rattle.types.specs.inside.adding.Add.{Took}
+use Rattle.types.specs.inside.tables.Registry.{usedBy, usedMore}
+use Rattle.types.specs.inside.tables.Registry.{Stands}
+use Rattle.types.specs.layout.Structs.{rowsOf}
+use Rattle.types.specs.tables.Defs.{Def}
+use Rattle.types.specs.tables.Lent.{typeRow}
+use Rattle.types.specs.tables.Registry.{ownNames, membersOf, nameBytesOf, headOf, typeRows, memberRows}
+use Rattle.types.specs.tables.Registry.{noTypes, noMembers, noNames, typesTable, membersTable, namesTable}
+use Rattle.types.specs.declared.adding.progress.Progress.the-variants.{Added}
+use Rattle.types.specs.declared.adding.used.Used.{Used}
+use Rattle.types.proofs.layout.StoreLaws.{row-long}
 
 -- ---- one type more: how many, and which rows
 
@@ -31,35 +34,35 @@ unfolding membersOf
 members-of-snoc [] d = omega arith
 members-of-snoc (x ∷ ds) d = omega (arith, members-of-snoc ds d)
 
-pub bytes-of-snoc : (ds : List Def) (d : Def) → bytesOf (ds ++ d ∷ []) ≡ bytesOf ds ++ ownNames d
-unfolding bytesOf
+pub bytes-of-snoc : (ds : List Def) (d : Def) → nameBytesOf (ds ++ d ∷ []) ≡ nameBytesOf ds ++ ownNames d
+unfolding nameBytesOf
 bytes-of-snoc [] d = append-nil (ownNames d)
 bytes-of-snoc (x ∷ ds) d =
     ap (λ (l : List ℕ). ownNames x ++ l) (bytes-of-snoc ds d)
-    ∙ sym (append-assoc (ownNames x) (bytesOf ds) (ownNames d))
+    ∙ sym (append-assoc (ownNames x) (nameBytesOf ds) (ownNames d))
 
 pub long-snoc : (ds : List Def) (d : Def)
-    → length (bytesOf (ds ++ d ∷ [])) ≡ length (bytesOf ds) + length (ownNames d)
-long-snoc ds d = rw (bytes-of-snoc ds d) (length-append (bytesOf ds) (ownNames d))
+    → length (nameBytesOf (ds ++ d ∷ [])) ≡ length (nameBytesOf ds) + length (ownNames d)
+long-snoc ds d = rw (bytes-of-snoc ds d) (length-append (nameBytesOf ds) (ownNames d))
 
 type-rows-snoc : (at row : ℕ) (ds : List Def) (d : Def) → typeRows at row (ds ++ d ∷ [])
-    ≡ typeRows at row ds ++ typeRow (headOf (at + length (bytesOf ds)) (row + membersOf ds) d)
-unfolding typeRows bytesOf membersOf
+    ≡ typeRows at row ds ++ typeRow (headOf (at + length (nameBytesOf ds)) (row + membersOf ds) d)
+unfolding typeRows nameBytesOf membersOf
 type-rows-snoc at row [] d = rw (add-zero at, add-zero row) (append-nil _)
 type-rows-snoc at row (x ∷ ds) d =
-    let e : at + length (ownNames x) + length (bytesOf ds) ≡ at + length (ownNames x ++ bytesOf ds) =
-    omega (arith, length-append (ownNames x) (bytesOf ds)) in
+    let e : at + length (ownNames x) + length (nameBytesOf ds) ≡ at + length (ownNames x ++ nameBytesOf ds) =
+    omega (arith, length-append (ownNames x) (nameBytesOf ds)) in
     let f : row + length (x .parts) + membersOf ds ≡ row + (length (x .parts) + membersOf ds) = omega arith in
     rw (append-assoc (typeRow (headOf at row x)), ← e, ← f) (ap (λ (l : List ℕ). typeRow (headOf at row x) ++ l)
     (type-rows-snoc (at + length (ownNames x)) (row + length (x .parts)) ds d))
 
 member-rows-snoc : (at : ℕ) (ds : List Def) (d : Def) → memberRows at (ds ++ d ∷ [])
-    ≡ memberRows at ds ++ rowsOf (at + length (bytesOf ds) + length (d .name)) (d .parts)
-unfolding memberRows bytesOf
+    ≡ memberRows at ds ++ rowsOf (at + length (nameBytesOf ds) + length (d .name)) (d .parts)
+unfolding memberRows nameBytesOf
 member-rows-snoc at [] d = rw add-zero (append-nil _)
 member-rows-snoc at (x ∷ ds) d =
-    let e : at + length (ownNames x) + length (bytesOf ds) ≡ at + length (ownNames x ++ bytesOf ds) =
-    omega (arith, length-append (ownNames x) (bytesOf ds)) in
+    let e : at + length (ownNames x) + length (nameBytesOf ds) ≡ at + length (ownNames x ++ nameBytesOf ds) =
+    omega (arith, length-append (ownNames x) (nameBytesOf ds)) in
     let first = rowsOf (at + length (x .name)) (x .parts) in
     rw (append-assoc first, ← e) (ap (λ (l : List ℕ). first ++ l)
     (member-rows-snoc (at + length (ownNames x)) ds d))
@@ -86,27 +89,27 @@ member-rows-long at (d ∷ ds) =
 -- ---- one type more: the tables
 
 pub types-more : (ds : List Def) (d : Def) → typesTable (ds ++ d ∷ [])
-    ≡ sets (typesTable ds) (8 * length ds) (typeRow (headOf (length (bytesOf ds)) (membersOf ds) d))
+    ≡ sets (typesTable ds) (8 * length ds) (typeRow (headOf (length (nameBytesOf ds)) (membersOf ds) d))
 unfolding typesTable
 types-more ds d =
     let e : 0 + length (typeRows 0 0 ds) ≡ 8 * length ds = omega (arith, type-rows-long 0 0 ds) in
-    rw (type-rows-snoc 0 0 ds d, zero-add (length (bytesOf ds)), zero-add (membersOf ds))
+    rw (type-rows-snoc 0 0 ds d, zero-add (length (nameBytesOf ds)), zero-add (membersOf ds))
     (rw (← e) (sets-append noTypes 0 (typeRows 0 0 ds) _))
 
 pub members-more : (ds : List Def) (d : Def) → membersTable (ds ++ d ∷ [])
-    ≡ sets (membersTable ds) (8 * membersOf ds) (rowsOf (length (bytesOf ds) + length (d .name)) (d .parts))
+    ≡ sets (membersTable ds) (8 * membersOf ds) (rowsOf (length (nameBytesOf ds) + length (d .name)) (d .parts))
 unfolding membersTable
 members-more ds d =
     let e : 0 + length (memberRows 0 ds) ≡ 8 * membersOf ds = omega (arith, member-rows-long 0 ds) in
     rw (member-rows-snoc 0 ds d, zero-add) (rw (← e) (sets-append noMembers 0 (memberRows 0 ds) _))
 
 pub names-more : (ds : List Def) (d : Def)
-    → namesTable (ds ++ d ∷ []) ≡ sets (namesTable ds) (length (bytesOf ds)) (ownNames d)
+    → namesTable (ds ++ d ∷ []) ≡ sets (namesTable ds) (length (nameBytesOf ds)) (ownNames d)
 unfolding namesTable
 names-more ds d =
-    let e : 0 + length (bytesOf ds) ≡ length (bytesOf ds) = omega arith in
-    rw (bytes-of-snoc ds d) (sets-append noNames 0 (bytesOf ds) (ownNames d)
-    ∙ ap (λ (k : ℕ). sets (sets noNames 0 (bytesOf ds)) k (ownNames d)) e)
+    let e : 0 + length (nameBytesOf ds) ≡ length (nameBytesOf ds) = omega arith in
+    rw (bytes-of-snoc ds d) (sets-append noNames 0 (nameBytesOf ds) (ownNames d)
+    ∙ ap (λ (k : ℕ). sets (sets noNames 0 (nameBytesOf ds)) k (ownNames d)) e)
 
 -- and how much of them is used
 pub used-more : (ds : List Def) (d : Def) → usedBy (ds ++ d ∷ []) ≡ usedMore (usedBy ds) d
@@ -136,7 +139,7 @@ members-long ds = length-sets noMembers 0 (memberRows 0 ds) ∙ no-members-long
 
 pub names-long : (ds : List Def) → length (namesTable ds) ≡ 32768
 unfolding namesTable
-names-long ds = length-sets noNames 0 (bytesOf ds) ∙ no-names-long
+names-long ds = length-sets noNames 0 (nameBytesOf ds) ∙ no-names-long
 
 -- ---- the words after the types' rows are zero
 

@@ -11,23 +11,26 @@ use lib.ListN.{length, getD, length-append, List·getD-append}
 use lib.Seq.{sets, getD-append-seam}
 use Rattle.words.specs.Words.{part}
 use Rattle.words.proofs.Lists.{getD-sets, getD-beside, part-beside}
-use Rattle.types.specs.declared.member.StructDef.{StructDef}
-use Rattle.types.specs.declared.member.StructKind.the-variants.{Udt}
-use Rattle.types.specs.Book.{listFrom}
-use Rattle.types.specs.Defs.{Def, defOf, Readable}
-use Rattle.types.specs.Ids.{idWord}
-use Rattle.types.specs.Laid.{Every}
-use Rattle.types.specs.Lookup.{rowName, NamesInside}
-use Rattle.types.specs.Registry.{ownNames, membersOf, bytesOf, headOf}
-use Rattle.types.specs.Registry.{typesTable, membersTable, namesTable, usedBy, viewIn, viewOf}
-use Rattle.types.specs.Structs.{namesOf, rowsOf}
-use Rattle.types.specs.Tables.{typeAt, typeRow}
-use Rattle.types.specs.Waste.{sizesIn}
-use Rattle.types.proofs.DefLaws.{PartFits, Within, type-stays, member-stays, name-stays}
-use Rattle.types.proofs.DefLaws.{parts-beside, def-back, rows-within, within-fits}
-use Rattle.types.proofs.RegistryLaws.{length-snoc, members-of-snoc, long-snoc, types-more, members-more}
-use Rattle.types.proofs.RegistryLaws.{names-more, types-long, members-long, names-long, word-after}
-use Rattle.types.proofs.TableLaws.{type-back}
+use Rattle.types.specs.adding.Ids.{idWord}
+use Rattle.types.specs.atomics.Lookup.{rowName}
+use Rattle.types.specs.book.Contents.{listFrom}
+use Rattle.types.specs.inside.atomics.Lookup.{NamesInside}
+use Rattle.types.specs.inside.tables.Defs.{Readable}
+use Rattle.types.specs.inside.tables.Registry.{usedBy, viewIn}
+use Rattle.types.specs.layout.Laid.{Every}
+use Rattle.types.specs.layout.Structs.{namesOf, rowsOf}
+use Rattle.types.specs.tables.Defs.{Def, defOf}
+use Rattle.types.specs.tables.Lent.{typeAt, typeRow}
+use Rattle.types.specs.tables.Registry.{ownNames, membersOf, nameBytesOf, headOf}
+use Rattle.types.specs.tables.Registry.{typesTable, membersTable, namesTable, viewOf}
+use Rattle.types.specs.tables.Sizes.{sizesIn}
+use Rattle.types.specs.declared.tables.member.StructDef.{StructDef}
+use Rattle.types.specs.declared.tables.member.StructKind.the-variants.{Udt}
+use Rattle.types.proofs.tables.DefLaws.{PartFits, Within, type-stays, member-stays, name-stays}
+use Rattle.types.proofs.tables.DefLaws.{parts-beside, def-back, rows-within, within-fits}
+use Rattle.types.proofs.tables.RegistryLaws.{length-snoc, members-of-snoc, long-snoc, types-more, members-more}
+use Rattle.types.proofs.tables.RegistryLaws.{names-more, types-long, members-long, names-long, word-after}
+use Rattle.types.proofs.tables.TableLaws.{type-back}
 
 -- ---- what a type that is added has, and what the tables show
 
@@ -35,7 +38,7 @@ use Rattle.types.proofs.TableLaws.{type-back}
 pub record Fits (ds : List Def) (d : Def) : Type 0 where
   pub few : length ds < 200
   pub rows : membersOf ds + length (d .parts) ≤ 2000
-  pub bytes : length (bytesOf ds) + length (ownNames d) ≤ 32768
+  pub bytes : length (nameBytesOf ds) + length (ownNames d) ≤ 32768
   pub parts : Every (PartFits (length ds)) (d .parts)
   pub id : d .id < 0x1000
   pub used : d .id ≡ 0 → ⊥
@@ -48,7 +51,7 @@ pub record Row (ds : List Def) (i : ℕ) (d : Def) : Type 0 where
   pub head : typeAt (typesTable ds) i ≡ headOf at row d
   pub word : idWord (typesTable ds) i ≡ d .id
   pub def : defOf (membersTable ds) (namesTable ds) (headOf at row d) ≡ d
-  pub bytes : at + length (ownNames d) ≤ length (bytesOf ds)
+  pub bytes : at + length (ownNames d) ≤ length (nameBytesOf ds)
   pub rows : row + length (d .parts) ≤ membersOf ds
   pub within : (k : ℕ) → k < length (d .parts) → Within (membersTable ds) i (at + length (ownNames d)) (row + k)
   pub parts : Every (PartFits i) (d .parts)
@@ -75,7 +78,7 @@ each-more P ds d w n i l = go (decLt i (length ds))
 pub record Shown (ds : List Def) : Type 0 where
   pub few : length ds ≤ 200
   pub members : membersOf ds ≤ 2000
-  pub bytes : length (bytesOf ds) ≤ 32768
+  pub bytes : length (nameBytesOf ds) ≤ 32768
   pub rows : (i : ℕ) → i < length ds → Row ds i (getD ds i noDef)
   pub unused : (i : ℕ) → length ds ≤ i → typeAt (typesTable ds) i .id ≡ 0
   pub blank : (i : ℕ) → length ds ≤ i → idWord (typesTable ds) i ≡ 0
@@ -91,7 +94,7 @@ id-after ds i l = rw (word-after ds (8 * i + 2) (omega arith))
 -- ---- no type
 
 pub shown-none : Shown []
-unfolding membersOf bytesOf
+unfolding membersOf nameBytesOf
 shown-none =
     record {
       few = omega arith;
@@ -106,10 +109,10 @@ shown-none =
 
 -- its row, and its members' rows
 abbrev typeRun : List Def → Def → List ℕ
-typeRun ds d = typeRow (headOf (length (bytesOf ds)) (membersOf ds) d)
+typeRun ds d = typeRow (headOf (length (nameBytesOf ds)) (membersOf ds) d)
 
 abbrev memberRun : List Def → Def → List ℕ
-memberRun ds d = rowsOf (length (bytesOf ds) + length (d .name)) (d .parts)
+memberRun ds d = rowsOf (length (nameBytesOf ds) + length (d .name)) (d .parts)
 
 -- the rows before it stay
 module _ (ds : List Def) (d : Def) (i : ℕ) (x : Def) (h : i < length ds) (r : Row ds i x) where
@@ -127,7 +130,7 @@ module _ (ds : List Def) (d : Def) (i : ℕ) (x : Def) (h : i < length ds) (r : 
   unfolding defOf
   stays-def =
       let long = length-append (x .name) (namesOf (x .parts)) in
-      let edge = length (bytesOf ds) in
+      let edge = length (nameBytesOf ds) in
       let own : part (sets (namesTable ds) edge (ownNames d)) (r .at) (length (x .name))
       ≡ part (namesTable ds) (r .at) (length (x .name)) =
       part-beside (namesTable ds) edge (ownNames d) (r .at) (length (x .name)) (inl (omega arith)) in
@@ -162,7 +165,7 @@ module _ (ds : List Def) (d : Def) (i : ℕ) (x : Def) (h : i < length ds) (r : 
 
 -- its own row shows it
 module _ (ds : List Def) (d : Def) (f : Fits ds d) where
-  own-head : typeAt (typesTable (ds ++ d ∷ [])) (length ds) ≡ headOf (length (bytesOf ds)) (membersOf ds) d
+  own-head : typeAt (typesTable (ds ++ d ∷ [])) (length ds) ≡ headOf (length (nameBytesOf ds)) (membersOf ds) d
   own-head =
       rw (types-more ds d)
       (type-back (typesTable ds) (length ds) _ (omega (arith, types-long ds))
@@ -175,27 +178,27 @@ module _ (ds : List Def) (d : Def) (f : Fits ds d) where
       (getD-sets (typesTable ds) (8 * length ds) (typeRun ds d) 2 0 (omega (arith, types-long ds)) (omega arith))
 
   own-def : defOf (membersTable (ds ++ d ∷ [])) (namesTable (ds ++ d ∷ []))
-      (headOf (length (bytesOf ds)) (membersOf ds) d)
+      (headOf (length (nameBytesOf ds)) (membersOf ds) d)
       ≡ d
   own-def =
       rw (members-more ds d, names-more ds d)
-      (def-back (membersTable ds) (namesTable ds) (membersOf ds) (length (bytesOf ds)) (length ds) d
+      (def-back (membersTable ds) (namesTable ds) (membersOf ds) (length (nameBytesOf ds)) (length ds) d
       (omega (arith, members-long ds)) (omega (arith, names-long ds)) (f .parts))
 
   own-within : (k : ℕ) → k < length (d .parts)
-      → Within (membersTable (ds ++ d ∷ [])) (length ds) (length (bytesOf ds) + length (ownNames d)) (membersOf ds + k)
+      → Within (membersTable (ds ++ d ∷ [])) (length ds) (length (nameBytesOf ds) + length (ownNames d)) (membersOf ds + k)
   own-within k l =
-      let e : length (bytesOf ds) + length (ownNames d)
-      ≡ length (bytesOf ds) + length (d .name) + length (namesOf (d .parts)) =
+      let e : length (nameBytesOf ds) + length (ownNames d)
+      ≡ length (nameBytesOf ds) + length (d .name) + length (namesOf (d .parts)) =
       omega (arith, length-append (d .name) (namesOf (d .parts))) in
       rw (members-more ds d, e)
-      (rows-within (membersTable ds) (membersOf ds) (length (bytesOf ds) + length (d .name)) (length ds) (d .parts)
+      (rows-within (membersTable ds) (membersOf ds) (length (nameBytesOf ds) + length (d .name)) (length ds) (d .parts)
       (omega (arith, members-long ds)) (f .parts) k l)
 
   own-row : Row (ds ++ d ∷ []) (length ds) d
   own-row =
       record {
-        at = length (bytesOf ds);
+        at = length (nameBytesOf ds);
         row = membersOf ds;
         head = own-head;
         word = own-word;

@@ -10,19 +10,20 @@ use lib.Dec.{eqb}
 use lib.ListN.{length, getD}
 use lib.Seq.{sets}
 use Rattle.words.proofs.Lists.{getD-sets}
-use Rattle.types.specs.declared.member.Ty.{Ty}
-use Rattle.types.specs.declared.member.Ty.the-variants.{Atomic as atomic, Struct}
-use Rattle.types.specs.declared.member.Bit.{Bit}
-use Rattle.types.specs.declared.member.Bit.the-variants.{None, At}
-use Rattle.types.specs.declared.member.Member.{Member}
-use Rattle.types.specs.declared.member.Span.{Span}
-use Rattle.types.specs.declared.member.StructKind.{StructKind}
-use Rattle.types.specs.declared.member.StructKind.the-variants.{Udt, Predefined, Str, Aoi}
-use Rattle.types.specs.declared.member.StructDef.{StructDef}
-use Rattle.types.specs.Atomic.{numOf}
-use Rattle.types.specs.Tables.{tyWord, tyOf, bitWord, bitOf, flagsOf, kindWord, kindOf, memberRow, memberAt}
-use Rattle.types.specs.Tables.{TyFits, nameAt, typeRow, typeAt}
-use Rattle.types.proofs.AtomicLaws.{at-num, num-below}
+use Rattle.types.specs.atomics.Atomic.{numOf}
+use Rattle.types.specs.inside.tables.Lent.{TyFits}
+use Rattle.types.specs.tables.Lent.{tyWord, tyOf, bitWord, bitOf, flagsOf, kindWord, kindOf, memberRow, memberAt}
+use Rattle.types.specs.tables.Lent.{nameAt, typeRow, typeAt}
+use Rattle.types.specs.declared.tables.member.Bit.{Bit}
+use Rattle.types.specs.declared.tables.member.Bit.the-variants.{None, At}
+use Rattle.types.specs.declared.tables.member.Member.{Member}
+use Rattle.types.specs.declared.tables.member.Span.{Span}
+use Rattle.types.specs.declared.tables.member.StructDef.{StructDef}
+use Rattle.types.specs.declared.tables.member.StructKind.{StructKind}
+use Rattle.types.specs.declared.tables.member.StructKind.the-variants.{Udt, Predefined, Str, Aoi}
+use Rattle.types.specs.declared.tables.member.Ty.{Ty}
+use Rattle.types.specs.declared.tables.member.Ty.the-variants.{Atomic as atomic, Struct}
+use Rattle.types.proofs.atomics.AtomicLaws.{at-num, num-below}
 
 -- ---- words
 

@@ -6,13 +6,13 @@ use mathlib.Core.Bool.{true, not, true≢false}
 use mathlib.Core.List.{List}
 use lib.Dec.{eqb, ltb}
 use borrow.Author.Tests.{eq-eqb, ltb-true}
-use Rattle.types.specs.declared.member.Ty.the-variants.{Struct}
-use Rattle.types.specs.Kept.{Kept}
-use Rattle.types.specs.Listing.{hasMember}
-use Rattle.types.specs.Tables.{typeAt}
-use Rattle.types.specs.Template.{hasTemplate}
-use Rattle.types.proofs.KeptLaws.{TypeRow, kept-used}
-use Rattle.types.proofs.TestLaws.{and-left, and-right}
+use Rattle.words.proofs.TestLaws.{and-left, and-right}
+use Rattle.types.specs.listing.Lines.{hasMember}
+use Rattle.types.specs.tables.Kept.{Kept}
+use Rattle.types.specs.tables.Lent.{typeAt}
+use Rattle.types.specs.templates.Template.{hasTemplate}
+use Rattle.types.specs.declared.tables.member.Ty.the-variants.{Struct}
+use Rattle.types.proofs.tables.KeptLaws.{TypeRow, kept-used}
 
 -- a structure that is there is a row of the table
 pub there-below : (types : List ℕ) (n : ℕ) → hasTemplate types (Struct n) ≡ true → n < 200

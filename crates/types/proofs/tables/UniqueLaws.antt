@@ -11,27 +11,28 @@ use borrow.Author.Tests.{eqb-false, eq-eqb}
 use lib.Dec.{eqb}
 use lib.ListN.{length, getD, List·getD-append}
 use lib.Seq.{getD-append-seam}
-use Rattle.types.specs.declared.atomic.FoundAtomic.{FoundAtomic}
-use Rattle.types.specs.declared.atomic.FoundAtomic.the-variants.{Is as found, Nothing as none}
-use Rattle.types.specs.declared.lookups.FoundTy.{FoundTy}
-use Rattle.types.specs.declared.lookups.FoundTy.the-variants.{Is}
-use Rattle.types.specs.declared.member.Ty.the-variants.{Struct}
-use Rattle.types.specs.declared.predefined.PredefinedIds.{PredefinedIds}
-use Rattle.types.specs.Add.{newDef}
-use Rattle.types.specs.Atomic.{atomicNamed}
-use Rattle.types.specs.Defs.{Def}
-use Rattle.types.specs.Ids.{inUse}
-use Rattle.types.specs.Laid.{Every}
-use Rattle.types.specs.Lookup.{namedAmong, atomicOr, typeAmong}
-use Rattle.types.specs.Names.{lowerOf, sameName}
-use Rattle.types.specs.Predefined.{distinct, predefinedIds, withTimer, withCounter, withControl, predefined}
-use Rattle.types.specs.Registry.{viewOf}
-use Rattle.types.specs.Resolve.{isFound}
-use Rattle.types.proofs.AddLaws.{every-nth}
-use Rattle.types.proofs.PredefinedLaws.{same-1, same-2, same-3, same-4, same-5, same-6, ids-differ}
-use Rattle.types.proofs.PredefinedLaws.{ids-allowed}
-use Rattle.types.proofs.RegistryLaws.{length-snoc}
-use Rattle.types.proofs.ShownLaws.{noDef}
+use Rattle.types.specs.adding.Add.{newDef}
+use Rattle.types.specs.adding.Ids.{inUse}
+use Rattle.types.specs.atomics.Atomic.{atomicNamed}
+use Rattle.types.specs.atomics.Lookup.{namedAmong, atomicOr, typeAmong}
+use Rattle.types.specs.book.Names.{lowerOf, sameName}
+use Rattle.types.specs.layout.Laid.{Every}
+use Rattle.types.specs.layout.Predefined.{distinct, predefinedIds, withTimer, withCounter, withControl}
+use Rattle.types.specs.layout.Predefined.{predefined}
+use Rattle.types.specs.rounds.Resolve.{isFound}
+use Rattle.types.specs.tables.Defs.{Def}
+use Rattle.types.specs.tables.Registry.{viewOf}
+use Rattle.types.specs.declared.atomics.atomic.FoundAtomic.{FoundAtomic}
+use Rattle.types.specs.declared.atomics.atomic.FoundAtomic.the-variants.{Is as found, Nothing as none}
+use Rattle.types.specs.declared.atomics.lookup.FoundTy.{FoundTy}
+use Rattle.types.specs.declared.atomics.lookup.FoundTy.the-variants.{Is}
+use Rattle.types.specs.declared.layout.predefined.PredefinedIds.{PredefinedIds}
+use Rattle.types.specs.declared.tables.member.Ty.the-variants.{Struct}
+use Rattle.types.proofs.adding.AddLaws.{every-nth}
+use Rattle.types.proofs.layout.PredefinedLaws.{same-1, same-2, same-3, same-4, same-5, same-6, ids-differ}
+use Rattle.types.proofs.layout.PredefinedLaws.{ids-allowed}
+use Rattle.types.proofs.tables.RegistryLaws.{length-snoc}
+use Rattle.types.proofs.tables.ShownLaws.{noDef}
 
 -- a type holds another id and has another name than an earlier one
 pub record Differs (d x : Def) : Type 0 where

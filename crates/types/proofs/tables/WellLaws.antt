@@ -6,17 +6,17 @@ use mathlib.Core.Path.{_≡_, refl, sym, ap, _∙_}
 use mathlib.Core.List.{List, [], _∷_, _++_, map, map-append}
 use mathlib.Core.Logic.{inl, inr, ⊎-elim}
 use lib.ListN.{length, getD, length-map, List·getD-append}
-use Rattle.types.specs.declared.member.Bit.{Bit}
-use Rattle.types.specs.declared.member.Bit.the-variants.{None, At}
-use Rattle.types.specs.declared.member.Member.{Member}
-use Rattle.types.specs.declared.member.StructKind.the-variants.{Str}
-use Rattle.types.specs.Defs.{Part, Def}
-use Rattle.types.specs.Laid.{Earlier, Apart, Clear, Rising, Laid, Every}
-use Rattle.types.specs.Layout.{times}
-use Rattle.types.specs.Waste.{bitsOf}
-use Rattle.types.proofs.AgreeLaws.{size-same}
-use Rattle.types.proofs.ShownLaws.{noDef, each-more}
-use Rattle.types.proofs.StringLaws.{IsString}
+use Rattle.types.specs.layout.Laid.{Earlier, Apart, Clear, Rising, Laid, Every}
+use Rattle.types.specs.layout.Placing.{times}
+use Rattle.types.specs.tables.Defs.{Part, Def}
+use Rattle.types.specs.tables.Sizes.{bitsOf}
+use Rattle.types.specs.declared.tables.member.Bit.{Bit}
+use Rattle.types.specs.declared.tables.member.Bit.the-variants.{None, At}
+use Rattle.types.specs.declared.tables.member.Member.{Member}
+use Rattle.types.specs.declared.tables.member.StructKind.the-variants.{Str}
+use Rattle.types.proofs.layout.StringLaws.{IsString}
+use Rattle.types.proofs.tables.AgreeLaws.{size-same}
+use Rattle.types.proofs.tables.ShownLaws.{noDef, each-more}
 
 -- ---- a layout depends on the sizes of earlier types only
 

@@ -9,10 +9,10 @@ use mathlib.Core.List.{List, [], _∷_, _++_}
 use borrow.Author.Tests.{eq-eqb, ne-eqb}
 use lib.ListN.{length, getD, drop, drop-of-length-le}
 use lib.Seq.{drop-cons}
-use Rattle.types.specs.Handle.{turnOf, foldFrom, notZero, handleOf}
+use Rattle.types.specs.templates.Handle.{foldByte, foldFrom, notZero, handleOf}
 
 pub fold-on : (h i : ℕ) (s : List ℕ) → i < length s
-    → foldFrom h (drop i s) ≡ foldFrom (turnOf h (getD s i 0)) (drop (i + 1) s)
+    → foldFrom h (drop i s) ≡ foldFrom (foldByte h (getD s i 0)) (drop (i + 1) s)
 unfolding foldFrom
 fold-on h i s l = rw (add-one, drop-cons s i 0)
 
@@ -23,7 +23,7 @@ fold-done h i s l = rw (drop-of-length-le s l)
 pub fold-append : (h : ℕ) (a b : List ℕ) → foldFrom h (a ++ b) ≡ foldFrom (foldFrom h a) b
 unfolding foldFrom
 fold-append h [] b = refl
-fold-append h (x ∷ a) b = fold-append (turnOf h x) a b
+fold-append h (x ∷ a) b = fold-append (foldByte h x) a b
 
 pub zero-one : (h : ℕ) → h ≡ 0 → 1 ≡ notZero h
 unfolding notZero
@@ -37,7 +37,7 @@ other-same h e = simp (ne-eqb h 0 e)
 fold-small : (h : ℕ) (s : List ℕ) → h < 65536 → foldFrom h s < 65536
 unfolding foldFrom
 fold-small h [] l = l
-fold-small h (b ∷ bs) l = fold-small (turnOf h b) bs (omega arith)
+fold-small h (b ∷ bs) l = fold-small (foldByte h b) bs (omega arith)
 
 not-zero-small : (h : ℕ) → h < 65536 → notZero h < 65536
 not-zero-small h l = go (decLt 0 h)

@@ -8,10 +8,10 @@ use mathlib.Core.List.{List, [], _++_}
 use lib.ListN.{length, length-append}
 use lib.Seq.{sets, length-sets}
 use Rattle.words.proofs.Lists.{sets-append}
-use Rattle.types.specs.declared.sink.Sink.{Sink}
-use Rattle.types.specs.Handle.{foldFrom}
-use Rattle.types.specs.Sink.{Room, Emitted}
-use Rattle.types.proofs.HandleLaws.{fold-append}
+use Rattle.types.specs.inside.templates.Sink.{Room, Emitted}
+use Rattle.types.specs.templates.Handle.{foldFrom}
+use Rattle.types.specs.declared.templates.sink.Sink.{Sink}
+use Rattle.types.proofs.templates.HandleLaws.{fold-append}
 
 pub wrote : (s : List ℕ) (k : Sink) (out : List ℕ) (fold : ℕ) → k .writes ≡ true → fold ≡ foldFrom (k .fold) s
     → Emitted s k out (record { at = k .at + length s; fold = fold; writes = true }) (sets out (k .at) s)

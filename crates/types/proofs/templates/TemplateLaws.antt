@@ -12,19 +12,22 @@ use lib.ListN.{length, replicate, take, drop, length-append, length-replicate, l
 use lib.Seq.{sets}
 use Rattle.words.specs.Words.{bytesOf, part}
 use Rattle.words.proofs.WordLaws.{length-bytes, bytes-low}
-use Rattle.types.specs.declared.member.Member.{Member}
-use Rattle.types.specs.declared.member.Span.{Span}
-use Rattle.types.specs.declared.member.StructDef.{StructDef}
-use Rattle.types.specs.declared.member.StructKind.{StructKind}
-use Rattle.types.specs.declared.member.StructKind.the-variants.{Udt, Predefined, Str, Aoi}
-use Rattle.types.specs.declared.sink.Sink.{Sink}
-use Rattle.types.specs.Defs.{Part, partAt, partsAt, nameIn, Readable}
-use Rattle.types.specs.Pieces.{shownIn}
-use Rattle.types.specs.Sink.{Emitted}
-use Rattle.types.specs.Tables.{TyFits, memberAt, nameAt}
-use Rattle.types.specs.Template.{infoOf, typeIn, infoBytes, infos, userId, semicolonN, asciiString82, shownName}
-use Rattle.types.specs.Template.{memberNames, padding, memberIds}
-use Rattle.types.proofs.SinkLaws.{Left, left-on}
+use Rattle.types.specs.inside.tables.Defs.{Readable}
+use Rattle.types.specs.inside.tables.Lent.{TyFits}
+use Rattle.types.specs.inside.templates.Pieces.{shownIn}
+use Rattle.types.specs.inside.templates.Sink.{Emitted}
+use Rattle.types.specs.tables.Defs.{Part, partAt, partsAt, nameIn}
+use Rattle.types.specs.tables.Lent.{memberAt, nameAt}
+use Rattle.types.specs.tables.TypeWord.{typeIn}
+use Rattle.types.specs.templates.Template.{infoOf, infoBytes, infos, userId, semicolonN, asciiString82, shownName}
+use Rattle.types.specs.templates.Template.{memberNames, padding, memberIds}
+use Rattle.types.specs.declared.tables.member.Member.{Member}
+use Rattle.types.specs.declared.tables.member.Span.{Span}
+use Rattle.types.specs.declared.tables.member.StructDef.{StructDef}
+use Rattle.types.specs.declared.tables.member.StructKind.{StructKind}
+use Rattle.types.specs.declared.tables.member.StructKind.the-variants.{Udt, Predefined, Str, Aoi}
+use Rattle.types.specs.declared.templates.sink.Sink.{Sink}
+use Rattle.types.proofs.templates.SinkLaws.{Left, left-on}
 
 -- ---- one member
 

@@ -8,10 +8,11 @@ use mathlib.Core.Path.{_≡_, refl}
 use mathlib.Core.Bool.{Bool, true, false, cond}
 use mathlib.Core.List.{List, [], _∷_}
 use mathlib.Core.Logic.{_⊎_, inl, inr, ⊎-elim}
-use Rattle.types.specs.declared.member.Member.{Member}
-use Rattle.types.specs.Defs.{Part, Def}
-use Rattle.types.specs.Laid.{firstBit, pastBit, Apart, Clear, Laid}
-use Rattle.types.specs.Waste.{bitsOf, visibleBits, wasteOf}
+use Rattle.types.specs.layout.Laid.{firstBit, pastBit, Apart, Clear, Laid}
+use Rattle.types.specs.tables.Defs.{Part, Def}
+use Rattle.types.specs.tables.Sizes.{bitsOf}
+use Rattle.types.specs.templates.Waste.{visibleBits, wasteOf}
+use Rattle.types.specs.declared.tables.member.Member.{Member}
 
 -- ---- one stretch of bits
 

@@ -1,28 +1,16 @@
 -- Template ids (document 01, "Ids" and refusals 4 to 6): a given id, or the lowest id in 0x100..0xEFF that no type
 -- holds.
-use Prim.Native.Nat.{ℕ, zero, suc, _+_, _*_, _<_, _≤_}
-use mathlib.Core.Path.{_≡_}
+use Prim.Native.Nat.{ℕ, zero, suc, _+_, _*_}
 use mathlib.Core.Bool.{Bool, false, cond, _&&_, _||_}
 use mathlib.Core.List.{List, [], _∷_}
 use lib.Dec.{eqb, leb}
 use lib.ListN.{getD}
-use Rattle.types.specs.declared.ids.Picked.{Picked}
-use Rattle.types.specs.declared.ids.Picked.the-variants.{Free, OutsideRange, InUse, NoneFree}
+use Rattle.types.specs.declared.adding.ids.Picked.{Picked}
+use Rattle.types.specs.declared.adding.ids.Picked.the-variants.{Free, OutsideRange, InUse, NoneFree}
 
 -- the id in a row
 abbrev pub idWord : List ℕ → ℕ → ℕ
 idWord types i = getD types (8 * i + 2) 0
-
--- one of the first n types holds the id
-abbrev pub Held : List ℕ → ℕ → ℕ → Type 0
-Held types n id = (i : ℕ) × (i < n) × (idWord types i ≡ id)
-
--- in code: each id below r is held, and r is not; 0xF00 where every id is held
-pub record Lowest (types : List ℕ) (n r : ℕ) : Type 0 where
-  pub low : 0x100 ≤ r
-  pub high : r ≤ 0xF00
-  pub taken : (k : ℕ) → 0x100 ≤ k → k < r → Held types n k
-  pub free : r < 0xF00 → Held types n r → ⊥
 
 -- ---- over the list of the ids that are held
 

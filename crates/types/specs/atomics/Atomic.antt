@@ -1,20 +1,20 @@
 -- The atomic types (document 01, "Atomic types"): codes, sizes and names in the document's order, and the atomic of a
 -- name or of a code.
 use Prim.Native.Nat.{ℕ, _-_, _<_}
-use mathlib.Core.Path.{_≡_}
 use mathlib.Core.Bool.{Bool, cond, not, _&&_}
-use mathlib.Core.List.{List, [], _∷_, _++_, map}
+use mathlib.Core.List.{List, [], _∷_, _++_}
+use mathlib.Core.Path.{_≡_}
 use lib.Dec.{eqb, leb}
 use lib.ListN.{length, getD, replicate}
-use Rattle.types.specs.declared.atomic.Atomic.{Atomic}
-use Rattle.types.specs.declared.atomic.Atomic.the-variants.{Bool as BOOL, SInt, Int, DInt, LInt, USInt, UInt}
-use Rattle.types.specs.declared.atomic.Atomic.the-variants.{UDInt}
-use Rattle.types.specs.declared.atomic.Atomic.the-variants.{ULInt, Real, LReal, Byte, Word, DWord, LWord}
-use Rattle.types.specs.declared.atomic.AtomicRow.{AtomicRow}
-use Rattle.types.specs.declared.atomic.FoundAtomic.{FoundAtomic}
-use Rattle.types.specs.declared.atomic.FoundAtomic.the-variants.{Is, Nothing}
-use Rattle.types.specs.Names.{sameName}
-use Rattle.types.specs.Said.{Said, done, refused}
+use Rattle.types.specs.book.Names.{sameName}
+use Rattle.types.specs.refusals.Said.{Said, done, refused}
+use Rattle.types.specs.declared.atomics.atomic.Atomic.{Atomic}
+use Rattle.types.specs.declared.atomics.atomic.Atomic.the-variants.{Bool as BOOL, SInt, Int, DInt, LInt, USInt}
+use Rattle.types.specs.declared.atomics.atomic.Atomic.the-variants.{UInt, UDInt, ULInt, Real, LReal, Byte, Word}
+use Rattle.types.specs.declared.atomics.atomic.Atomic.the-variants.{DWord, LWord}
+use Rattle.types.specs.declared.atomics.atomic.AtomicRow.{AtomicRow}
+use Rattle.types.specs.declared.atomics.atomic.FoundAtomic.{FoundAtomic}
+use Rattle.types.specs.declared.atomics.atomic.FoundAtomic.the-variants.{Is, Nothing}
 
 -- the fifteen, in order
 abbrev pub atomics : List Atomic
@@ -85,10 +85,6 @@ nameOf LWord = 76 ∷ 87 ∷ 79 ∷ 82 ∷ 68 ∷ []
 -- the row that the code's table has for an atomic: its name is padded with zeros to five bytes
 unfoldable pub rowOf : Atomic → AtomicRow
 rowOf a = (codeOf a, sizeOf a, length (nameOf a), nameOf a ++ replicate (5 - length (nameOf a)) 0)
-
--- the rows of some atomics
-unfoldable pub rowsOf : List Atomic → List AtomicRow
-rowsOf l = map rowOf l
 
 pub record Numbered (a : Atomic) (r : ℕ) : Type 0 where
   pub is : r ≡ numOf a

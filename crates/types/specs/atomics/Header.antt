@@ -4,14 +4,15 @@ use mathlib.Core.Bool.{cond}
 use mathlib.Core.List.{List, [], _∷_, _++_}
 use lib.ListN.{length, take}
 use Rattle.words.specs.Words.{bytesOf}
-use Rattle.types.specs.declared.header.Headed.{Headed}
-use Rattle.types.specs.declared.header.Header.{Header}
-use Rattle.types.specs.declared.member.Ty.{Ty}
-use Rattle.types.specs.declared.member.Ty.the-variants.{Atomic, Struct}
-use Rattle.types.specs.Atomic.{codeOf}
-use Rattle.types.specs.Said.{Said, done, refused}
-use Rattle.types.specs.Shape.{isThere, fitSays}
-use Rattle.types.specs.Tables.{typeAt}
+use Rattle.types.specs.atomics.Atomic.{codeOf}
+use Rattle.types.specs.refusals.Fit.{fitSays}
+use Rattle.types.specs.refusals.Said.{Said, done, refused}
+use Rattle.types.specs.tables.Lent.{typeAt}
+use Rattle.types.specs.tables.There.{isThere}
+use Rattle.types.specs.declared.atomics.header.Headed.{Headed}
+use Rattle.types.specs.declared.atomics.header.Header.{Header}
+use Rattle.types.specs.declared.tables.member.Ty.{Ty}
+use Rattle.types.specs.declared.tables.member.Ty.the-variants.{Atomic, Struct}
 
 abbrev pub headerOf : (ℕ → ℕ) → Ty → List ℕ
 headerOf handles (Atomic a) = codeOf a ∷ 0 ∷ []
@@ -26,15 +27,15 @@ abbrev pub held : List ℕ → Header
 held s = record { bytes = take 4 (s ++ 0 ∷ 0 ∷ 0 ∷ 0 ∷ []); long = length s }
 
 -- what is said, and the bytes beside it
-pub record Told : Type 0 where
+pub record HeaderSaid : Type 0 where
   pub said : Said (Unit {0})
   pub header : Header
 
 -- what an answer says
-abbrev pub saidBy : Headed → Told
+abbrev pub saidBy : Headed → HeaderSaid
 saidBy r = record { said = fitSays (r .fit); header = r .header }
 
-unfoldable pub headedOf : List ℕ → Ty → Told
+unfoldable pub headedOf : List ℕ → Ty → HeaderSaid
 headedOf types ty =
     cond (isThere types ty) (record { said = done tt; header = held (headerOf (handlesIn types) ty) })
     (record { said = refused 15 0; header = held [] })

@@ -1,21 +1,19 @@
 -- The type of a name: the atomics first, then the types in order (document 01, "Atomic types"; 000's lookup).
-use Prim.Native.Nat.{ℕ, _+_, _<_, _≤_}
-use mathlib.Core.Path.{_≡_}
-use mathlib.Core.Bool.{false, cond}
+use Prim.Native.Nat.{ℕ, _+_}
+use mathlib.Core.Bool.{cond}
 use mathlib.Core.List.{List, [], _∷_}
-use lib.ListN.{length, getD}
-use Rattle.types.specs.declared.atomic.FoundAtomic.{FoundAtomic}
-use Rattle.types.specs.declared.atomic.FoundAtomic.the-variants.{Is as found, Nothing as none}
-use Rattle.types.specs.declared.lookups.FoundTy.{FoundTy}
-use Rattle.types.specs.declared.lookups.FoundTy.the-variants.{Is, Nothing}
-use Rattle.types.specs.declared.member.Ty.{Ty}
-use Rattle.types.specs.declared.member.Ty.the-variants.{Atomic, Struct}
-use Rattle.types.specs.Atomic.{atomicNamed, codeNamed, codeOf}
-use Rattle.types.specs.Book.{listFrom}
-use Rattle.types.specs.Defs.{nameIn}
-use Rattle.types.specs.Names.{sameName}
-use Rattle.types.specs.Said.{Said, done, refused}
-use Rattle.types.specs.Tables.{typeAt}
+use Rattle.types.specs.atomics.Atomic.{atomicNamed, codeNamed, codeOf}
+use Rattle.types.specs.book.Contents.{listFrom}
+use Rattle.types.specs.book.Names.{sameName}
+use Rattle.types.specs.refusals.Said.{Said, done, refused}
+use Rattle.types.specs.tables.Defs.{nameIn}
+use Rattle.types.specs.tables.Lent.{typeAt}
+use Rattle.types.specs.declared.atomics.atomic.FoundAtomic.{FoundAtomic}
+use Rattle.types.specs.declared.atomics.atomic.FoundAtomic.the-variants.{Is as found, Nothing as none}
+use Rattle.types.specs.declared.atomics.lookup.FoundTy.{FoundTy}
+use Rattle.types.specs.declared.atomics.lookup.FoundTy.the-variants.{Is, Nothing}
+use Rattle.types.specs.declared.tables.member.Ty.{Ty}
+use Rattle.types.specs.declared.tables.member.Ty.the-variants.{Atomic, Struct}
 
 -- the name of the structure in a row
 abbrev pub rowName : List ℕ → List ℕ → ℕ → List ℕ
@@ -38,9 +36,6 @@ typeAmong known s = atomicOr (atomicNamed s) (namedAmong known s 0)
 -- the names of the first n structures of the tables
 abbrev pub rowNames : List ℕ → List ℕ → ℕ → List (List ℕ)
 rowNames types names n = listFrom (rowName types names) 0 n
-
-abbrev pub typeOf : List ℕ → List ℕ → ℕ → List ℕ → FoundTy
-typeOf types names n s = typeAmong (rowNames types names n) s
 
 -- ---- the answer of a search, in words
 
@@ -66,16 +61,3 @@ orElse (refused number place) other = other
 -- the word of a name: an atomic's, else the first structure's
 unfoldable pub wordAmong : List (List ℕ) → List ℕ → Said ℕ
 wordAmong known s = orElse (codeNamed s) (numberAmong known s 0)
-
--- ---- what the functions ask and find
-
--- a name is no atomic's, and none of the first n names is the same
-pub record Unseen (known : List (List ℕ)) (s : List ℕ) (n : ℕ) : Type 0 where
-  pub few : n ≤ length known
-  pub plain : atomicNamed s ≡ none
-  pub other : (j : ℕ) → j < n → sameName (getD known j []) s ≡ false
-
--- the names of the first n structures lie among the names
-pub record NamesInside (types names : List ℕ) (n : ℕ) : Type 0 where
-  pub few : n ≤ 200
-  pub inside : (i : ℕ) → i < n → typeAt types i .name .at + typeAt types i .name .long ≤ length names

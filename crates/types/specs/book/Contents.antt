@@ -1,15 +1,14 @@
--- The declaration book (document 01, "Declaration book"): a table of contents, then the bodies; its entries, and when
--- the whole is well formed.
-use Prim.Native.Nat.{ℕ, zero, suc, _+_, _*_, _/_, _%_, _<_}
-use mathlib.Core.Path.{_≡_}
+-- The declaration book (document 01, "Declaration book"): a table of contents, then the bodies; its entries with their
+-- flags, and when the whole is well formed.
+use Prim.Native.Nat.{ℕ, zero, suc, _+_, _*_, _/_, _%_}
 use mathlib.Core.Bool.{Bool, true, _&&_, _||_}
 use mathlib.Core.List.{List, [], _∷_}
 use lib.Dec.{eqb, leb}
 use lib.ListN.{length}
 use Rattle.words.specs.Words.{wordAt}
-use Rattle.types.specs.declared.book.MemberEntry.{MemberEntry}
-use Rattle.types.specs.declared.book.TypeEntry.{TypeEntry}
-use Rattle.types.specs.declared.member.Span.{Span}
+use Rattle.types.specs.declared.book.contents.MemberEntry.{MemberEntry}
+use Rattle.types.specs.declared.book.contents.TypeEntry.{TypeEntry}
+use Rattle.types.specs.declared.tables.member.Span.{Span}
 
 -- u16 T, u16 M
 abbrev pub typesIn : List ℕ → ℕ
@@ -89,6 +88,14 @@ bookOk s =
     leb 4 (length s) && leb (bodiesAt s) (length s) && every (typeOk (bodiesAt s) (length s)) (typeEntries s)
     && eqb (sumCounts (typeEntries s)) (membersIn s) && every (memberOk (bodiesAt s) (length s)) (memberEntries s)
 
-pub record CountsSum (n : ℕ) (es : List TypeEntry) (r : ℕ) : Type 0 where
-  pub is : r ≡ sumCounts es
-  pub small : r < 65536 * (n + 1)
+-- ---- per member 2, 8, 9
+
+-- flags: 1 AOI, 2 string, 4 id given
+abbrev pub isAoi : TypeEntry → Bool
+isAoi e = eqb (e .flags % 2) 1
+
+abbrev pub isString : TypeEntry → Bool
+isString e = eqb (e .flags / 2 % 2) 1
+
+abbrev pub hasId : TypeEntry → Bool
+hasId e = leb 4 (e .flags)

@@ -1,33 +1,33 @@
 -- The reference cases that document 01 marks P, each by computation: layouts from their declared members, the size of a
 -- string, and the fold of one byte.
 use Prim.Native.Nat.{ℕ}
-use mathlib.Core.Path.{_≡_, refl}
 use mathlib.Core.Bool.{Bool, true, false, cond}
 use mathlib.Core.List.{List, [], _∷_, _++_, getLast?}
 use mathlib.Core.Option.{Option, none, some}
+use mathlib.Core.Path.{_≡_, refl}
 use lib.ListN.{length, replicate}
-use Rattle.types.specs.declared.atomic.Atomic.{Atomic as AtomicType}
-use Rattle.types.specs.declared.atomic.Atomic.the-variants.{Bool as BOOL, SInt, Int, DWord}
-use Rattle.types.specs.declared.layout.Cursor.{Cursor}
-use Rattle.types.specs.declared.layout.Decl.{Decl}
-use Rattle.types.specs.declared.layout.Placed.{Placed}
-use Rattle.types.specs.declared.member.Bit.{Bit}
-use Rattle.types.specs.declared.member.Bit.the-variants.{None, At}
-use Rattle.types.specs.declared.member.Member.{Member}
-use Rattle.types.specs.declared.member.StructKind.the-variants.{Udt}
-use Rattle.types.specs.declared.member.Ty.the-variants.{Atomic}
 use Rattle.words.specs.Words.{bytesOf}
-use Rattle.types.specs.Atomic.{codeOf, sizeOf}
-use Rattle.types.specs.Defs.{Part, Def}
-use Rattle.types.specs.Entries.{boolArray, storedTy, storedCount, resolved}
-use Rattle.types.specs.Handle.{foldFrom}
-use Rattle.types.specs.Layout.{accessOk, isBool, alignUp, times, boolAt, otherAt, opened, nextBit, closed}
-use Rattle.types.specs.Layout.{startOf, memberEnd, placeBool, placeOther, placed}
-use Rattle.types.specs.Structs.{LaidOut, laid, stopped, layoutFrom, sizeAt, udtLayout, bools, aoiHosts, hostParts}
-use Rattle.types.specs.Structs.{aoiLayout, stringSize}
-use Rattle.types.specs.Template.{infoBytes, infos, userId, shownName, memberNames, padding, memberIds}
-use Rattle.types.specs.Template.{frontOf, templateOf}
-use Rattle.types.specs.Waste.{visibleBits, wasteOf}
+use Rattle.types.specs.atomics.Atomic.{codeOf, sizeOf}
+use Rattle.types.specs.book.Decls.{boolArray, storedTy, storedCount, resolved}
+use Rattle.types.specs.layout.Placing.{accessOk, isBool, alignUp, times, boolAt, otherAt, opened, nextBit, closed}
+use Rattle.types.specs.layout.Placing.{startOf, memberEnd, placeBool, placeOther, placed}
+use Rattle.types.specs.layout.Structs.{LaidOut, laid, stopped, layoutFrom, roundedSize, udtLayout, bools}
+use Rattle.types.specs.layout.Structs.{aoiHosts, hostParts, aoiLayout, stringSize}
+use Rattle.types.specs.tables.Defs.{Part, Def}
+use Rattle.types.specs.templates.Handle.{foldFrom}
+use Rattle.types.specs.templates.Template.{infoBytes, infos, userId, shownName, memberNames, padding, memberIds}
+use Rattle.types.specs.templates.Template.{frontOf, templateOf}
+use Rattle.types.specs.templates.Waste.{visibleBits, wasteOf}
+use Rattle.types.specs.declared.atomics.atomic.Atomic.{Atomic as AtomicType}
+use Rattle.types.specs.declared.atomics.atomic.Atomic.the-variants.{Bool as BOOL, SInt, Int, DWord}
+use Rattle.types.specs.declared.layout.placing.Cursor.{Cursor}
+use Rattle.types.specs.declared.layout.placing.Decl.{Decl}
+use Rattle.types.specs.declared.layout.placing.Placed.{Placed}
+use Rattle.types.specs.declared.tables.member.Bit.{Bit}
+use Rattle.types.specs.declared.tables.member.Bit.the-variants.{None, At}
+use Rattle.types.specs.declared.tables.member.Member.{Member}
+use Rattle.types.specs.declared.tables.member.StructKind.the-variants.{Udt}
+use Rattle.types.specs.declared.tables.member.Ty.the-variants.{Atomic}
 
 -- ---- declared members, and what is asked of their layout
 
@@ -60,7 +60,7 @@ aoi ds = aoiLayout (λ d. []) [] ds
 
 -- the size and the parts, if the layout is not refused
 abbrev pub sizeIf : LaidOut → Option ℕ
-sizeIf (laid parts c) = some (sizeAt c)
+sizeIf (laid parts c) = some (roundedSize c)
 sizeIf (stopped number) = none
 
 abbrev pub partsIf : LaidOut → List Part

@@ -1,18 +1,18 @@
 -- The listing of UDT Chan (Good BOOL, Live BOOL, Level INT) that document 01 prints whole (end of "Reference cases"), a
 -- line after the other, and the line of a refusal: each from its values, by computation.
 use Prim.Native.Nat.{ℕ}
-use mathlib.Core.Path.{_≡_, refl}
 use mathlib.Core.Bool.{Bool, true, false}
 use mathlib.Core.List.{List, [], _∷_}
-use Rattle.types.specs.declared.atomic.Atomic.{Atomic as AtomicType}
-use Rattle.types.specs.declared.atomic.Atomic.the-variants.{Bool as BOOL, SInt, Int}
-use Rattle.types.specs.declared.member.Bit.{Bit}
-use Rattle.types.specs.declared.member.Bit.the-variants.{None, At}
-use Rattle.types.specs.declared.member.Member.{Member}
-use Rattle.types.specs.declared.member.Ty.the-variants.{Atomic}
-use Rattle.types.specs.Atomic.{nameOf}
-use Rattle.types.specs.Digits.{digitsIn, digits, hostName}
-use Rattle.types.specs.Listing.{line, typeLine, typeName, memberLine, refusedLine}
+use mathlib.Core.Path.{_≡_, refl}
+use Rattle.types.specs.atomics.Atomic.{nameOf}
+use Rattle.types.specs.layout.HostNames.{digitsIn, digits, hostName}
+use Rattle.types.specs.listing.Lines.{line, typeLine, printedType, memberLine, refusedLine}
+use Rattle.types.specs.declared.atomics.atomic.Atomic.{Atomic as AtomicType}
+use Rattle.types.specs.declared.atomics.atomic.Atomic.the-variants.{Bool as BOOL, SInt, Int}
+use Rattle.types.specs.declared.tables.member.Bit.{Bit}
+use Rattle.types.specs.declared.tables.member.Bit.the-variants.{None, At}
+use Rattle.types.specs.declared.tables.member.Member.{Member}
+use Rattle.types.specs.declared.tables.member.Ty.the-variants.{Atomic}
 
 -- the bytes of Chan, Good, Live and Level
 abbrev chan : List ℕ
@@ -34,7 +34,7 @@ member a offset bit hidden =
 -- a member's line, whatever the structures are called: none is embedded
 unfoldable pub shown : (ℕ → List ℕ) → ℕ → Member → List ℕ → List ℕ
 unfolding memberLine line digits digitsIn nameOf
-shown structs number m name = memberLine number (typeName structs (m .ty)) m name
+shown structs number m name = memberLine number (printedType structs (m .ty)) m name
 
 -- `type Chan 256 4 4 80 14`
 pub chan-type : typeLine chan 256 4 4 80 14

@@ -1,18 +1,18 @@
 -- Tag shapes by computation (document 01, "Tag shape"): an array of BOOLs, one of DINTs with two lengths, and one that
 -- is too large. No structure is asked for, so no table matters.
 use Prim.Native.Nat.{ℕ, _+_, _^_}
-use mathlib.Core.Path.{_≡_, refl}
 use mathlib.Core.List.{List, [], _∷_}
-use Rattle.types.specs.declared.atomic.Atomic.{Atomic as AtomicType}
-use Rattle.types.specs.declared.atomic.Atomic.the-variants.{Bool as BOOL, SInt, DInt, DWord}
-use Rattle.types.specs.declared.member.Ty.the-variants.{Atomic}
-use Rattle.types.specs.Atomic.{codeOf, sizeOf}
-use Rattle.types.specs.Layout.{isBool, alignUp}
-use Rattle.types.specs.Shape.{Told, given, refused, mostLengths, noneZero, lengthsOk, product, within, boolTag}
-use Rattle.types.specs.Shape.{boolShape, plainShape, shapeOf, symbolOf}
+use mathlib.Core.Path.{_≡_, refl}
+use Rattle.types.specs.atomics.Atomic.{codeOf, sizeOf}
+use Rattle.types.specs.layout.Placing.{isBool, alignUp}
+use Rattle.types.specs.shape.Tags.{ShapeSaid, given, refusedShape, mostLengths, noneZero, lengthsOk, product}
+use Rattle.types.specs.shape.Tags.{within, boolTag, boolShape, plainShape, shapeOf, symbolOf}
+use Rattle.types.specs.declared.atomics.atomic.Atomic.{Atomic as AtomicType}
+use Rattle.types.specs.declared.atomics.atomic.Atomic.the-variants.{Bool as BOOL, SInt, DInt, DWord}
+use Rattle.types.specs.declared.tables.member.Ty.the-variants.{Atomic}
 
 -- what a case opens to compute a shape
-unfoldable pub shaped : List ℕ → AtomicType → List ℕ → Told
+unfoldable pub shaped : List ℕ → AtomicType → List ℕ → ShapeSaid
 unfolding shapeOf plainShape boolShape boolTag within product lengthsOk noneZero mostLengths isBool alignUp sizeOf
 shaped types a ns = shapeOf types (Atomic a) ns
 
@@ -29,7 +29,7 @@ unfolding shaped
 dints-2-3 types = refl
 
 -- SINT with length 2^26 + 1
-pub sints-over : (types : List ℕ) → shaped types SInt ((2 ^ 26 + 1) ∷ []) ≡ refused 24 0
+pub sints-over : (types : List ℕ) → shaped types SInt ((2 ^ 26 + 1) ∷ []) ≡ refusedShape 24 0
 unfolding shaped
 sints-over types = refl
 

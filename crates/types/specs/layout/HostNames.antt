@@ -1,11 +1,9 @@
 -- Decimal digits, and the names of hidden hosts (document 01, "Layout").
-use Prim.Native.Nat.{ℕ, zero, suc, _+_, _/_, _%_, _≤_}
-use mathlib.Core.Path.{_≡_}
+use Prim.Native.Nat.{ℕ, zero, suc, _+_, _/_, _%_}
 use mathlib.Core.Bool.{cond}
 use mathlib.Core.List.{List, [], _∷_, _++_}
 use lib.Dec.{ltb}
-use lib.ListN.{length, take}
-use Rattle.types.specs.declared.digits.Digits.{Digits}
+use lib.ListN.{take}
 
 -- the digits of a number, of at most so many
 unfoldable pub digitsIn : ℕ → ℕ → List ℕ
@@ -30,20 +28,3 @@ bitHost = 95 ∷ 95 ∷ 66 ∷ 105 ∷ 116 ∷ 72 ∷ 111 ∷ 115 ∷ 116 ∷ []
 -- an AOI's host: `__BitHost` and two or more digits
 unfoldable pub bitHostName : ℕ → List ℕ
 bitHostName i = bitHost ++ cond (ltb i 10) (48 ∷ (48 + i) ∷ []) (digits i)
-
--- what the digits are, as code has them
-pub record Spelled (x : ℕ) (r : Digits) : Type 0 where
-  pub is : take (r .long) (r .bytes) ≡ digits x
-  pub room : r .long ≤ length (r .bytes)
-  pub least : 1 ≤ r .long
-  pub most : r .long ≤ 6
-
-pub record HostLong (name : List ℕ) (k r : ℕ) : Type 0 where
-  pub is : r ≡ length (hostName name k)
-  pub most : r ≤ 26
-
--- two or more digits, as code has them
-pub record TwoDigits (x : ℕ) (r : Digits) : Type 0 where
-  pub is : bitHost ++ take (r .long) (r .bytes) ≡ bitHostName x
-  pub room : r .long ≤ length (r .bytes)
-  pub most : r .long ≤ 6

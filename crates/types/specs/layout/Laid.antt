@@ -2,18 +2,18 @@
 -- lies inside the size, no two visible members share a bit, and those that are no BOOLs stand in their order. It is
 -- said in bits: a BOOL is a member like any other.
 use Prim.Native.Nat.{ℕ, _+_, _*_, _<_, _≤_}
-use mathlib.Core.Path.{_≡_}
 use mathlib.Core.Bool.{Bool, true, false}
 use mathlib.Core.List.{List, [], _∷_}
 use mathlib.Core.Logic.{_⊎_}
-use Rattle.types.specs.declared.layout.Decl.{Decl}
-use Rattle.types.specs.declared.member.Bit.{Bit}
-use Rattle.types.specs.declared.member.Bit.the-variants.{None, At}
-use Rattle.types.specs.declared.member.Member.{Member}
-use Rattle.types.specs.declared.member.Ty.{Ty}
-use Rattle.types.specs.declared.member.Ty.the-variants.{Atomic, Struct}
-use Rattle.types.specs.Defs.{Part}
-use Rattle.types.specs.Waste.{sizeIn, bitsOf}
+use mathlib.Core.Path.{_≡_}
+use Rattle.types.specs.tables.Defs.{Part}
+use Rattle.types.specs.tables.Sizes.{sizeIn, bitsOf}
+use Rattle.types.specs.declared.layout.placing.Decl.{Decl}
+use Rattle.types.specs.declared.tables.member.Bit.{Bit}
+use Rattle.types.specs.declared.tables.member.Bit.the-variants.{None, At}
+use Rattle.types.specs.declared.tables.member.Member.{Member}
+use Rattle.types.specs.declared.tables.member.Ty.{Ty}
+use Rattle.types.specs.declared.tables.member.Ty.the-variants.{Atomic, Struct}
 
 -- a member's first bit: its own bit of the byte at its offset, or the first of its bytes
 abbrev pub firstIn : Bit → ℕ → ℕ

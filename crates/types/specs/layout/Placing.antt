@@ -1,32 +1,27 @@
 -- Layout (document 01, "Layout"): where a declared member goes, as a step from a cursor to what lies where and the next
 -- cursor. The UDT paragraph is `place`; an AOI differs only in that its BOOLs share the hosts at its start.
-use Prim.Native.Nat.{ℕ, _+_, _-_, _*_, _/_, _%_, _^_, _<_, _≤_}
-use mathlib.Core.Path.{_≡_}
+use Prim.Native.Nat.{ℕ, _+_, _-_, _*_, _/_, _%_}
 use mathlib.Core.Bool.{Bool, true, false, cond, _||_}
 use lib.Dec.{eqb, leb, ltb}
-use Rattle.types.specs.declared.atomic.Atomic.the-variants.{Bool as BOOL, SInt}
-use Rattle.types.specs.declared.layout.Cursor.{Cursor}
-use Rattle.types.specs.declared.layout.Decl.{Decl}
-use Rattle.types.specs.declared.layout.End.{End}
-use Rattle.types.specs.declared.layout.End.the-variants.{At as endAt, Over}
-use Rattle.types.specs.declared.layout.Host.{Host}
-use Rattle.types.specs.declared.layout.Host.the-variants.{Closed, Open, Shared}
-use Rattle.types.specs.declared.layout.Placed.{Placed}
-use Rattle.types.specs.declared.layout.Placed.the-variants.{Hosted, One, AccessWrong, TooFar}
-use Rattle.types.specs.declared.member.Bit.the-variants.{None, At}
-use Rattle.types.specs.declared.member.Member.{Member}
-use Rattle.types.specs.declared.member.Ty.{Ty}
-use Rattle.types.specs.declared.member.Ty.the-variants.{Atomic, Struct}
-use Rattle.types.specs.Atomic.{numOf}
-use Rattle.types.specs.Said.{Said, done, refused}
+use Rattle.types.specs.atomics.Atomic.{numOf}
+use Rattle.types.specs.refusals.Said.{Said, done, refused}
+use Rattle.types.specs.declared.atomics.atomic.Atomic.the-variants.{Bool as BOOL, SInt}
+use Rattle.types.specs.declared.layout.placing.Cursor.{Cursor}
+use Rattle.types.specs.declared.layout.placing.Decl.{Decl}
+use Rattle.types.specs.declared.layout.placing.End.{End}
+use Rattle.types.specs.declared.layout.placing.End.the-variants.{At as endAt, Over}
+use Rattle.types.specs.declared.layout.placing.Host.{Host}
+use Rattle.types.specs.declared.layout.placing.Host.the-variants.{Closed, Open, Shared}
+use Rattle.types.specs.declared.layout.placing.Placed.{Placed}
+use Rattle.types.specs.declared.layout.placing.Placed.the-variants.{Hosted, One, AccessWrong, TooFar}
+use Rattle.types.specs.declared.tables.member.Bit.the-variants.{None, At}
+use Rattle.types.specs.declared.tables.member.Member.{Member}
+use Rattle.types.specs.declared.tables.member.Ty.{Ty}
+use Rattle.types.specs.declared.tables.member.Ty.the-variants.{Atomic, Struct}
 
 -- a count of 0 is one element
 unfoldable pub times : ℕ → ℕ
 times n = cond (eqb n 0) 1 n
-
-pub record Times (n r : ℕ) : Type 0 where
-  pub is : r ≡ times n
-  pub small : r < 2 ^ 32
 
 -- a member must end at or below 2^26
 abbrev pub most : ℕ
@@ -127,31 +122,3 @@ placed c d =
     cond (accessOk (d .access))
     (cond (isBool (d .ty)) (placeBool (c .host) c d) (placeOther c d))
     AccessWrong
-
--- what keeps the sums of one step inside 32 bits
-pub record Aligned (x align : ℕ) : Type 0 where
-  pub far : x ≤ 2 ^ 27
-  pub least : 0 < align
-  pub most : align ≤ 4
-
--- so many BOOLs have come before, in an AOI
-abbrev pub sharedBits : Host → ℕ
-sharedBits Closed = 0
-sharedBits (Open byte bit) = 0
-sharedBits (Shared i) = i
-
-pub record Able (c : Cursor) (d : Decl) : Type 0 where
-  pub aligned : Aligned (c .offset) (d .align)
-  pub members : c .members ≤ 2 ^ 27
-  pub bits : sharedBits (c .host) ≤ 2 ^ 27
-
--- a host as a UDT has it
-abbrev pub InUdt : Host → Type 0
-InUdt Closed = Unit {0}
-InUdt (Open byte bit) = Unit {0}
-InUdt (Shared i) = ⊥
-
--- no host is open: the next BOOL opens a new one at the current offset
-pub record Shut (c : Cursor) : Type 0 where
-  pub host : c .host ≡ Closed
-  pub opens : (e : Decl) → accessOk (e .access) ≡ true → isBool (e .ty) ≡ true → placed c e ≡ opened c e

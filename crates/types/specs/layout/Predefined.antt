@@ -1,21 +1,17 @@
 -- The predefined types (document 01, "Layout", Predefined; "Order of building"; "What is ported": their ids): TIMER,
 -- COUNTER, CONTROL and STRING, added one after the other before the book's types, under the ids that the caller gives.
-use Prim.Native.Nat.{ℕ, _+_, _/_, _≤_}
-use mathlib.Core.Path.{_≡_}
+use Prim.Native.Nat.{ℕ}
 use mathlib.Core.Bool.{Bool, not, _&&_}
 use mathlib.Core.List.{List, [], _∷_, _++_}
 use lib.Dec.{eqb, leb}
-use lib.ListN.{length}
-use Rattle.types.specs.declared.member.StructKind.{StructKind}
-use Rattle.types.specs.declared.member.StructKind.the-variants.{Predefined, Str}
-use Rattle.types.specs.declared.predefined.PredefinedIds.{PredefinedIds}
-use Rattle.types.specs.declared.used.Used.{Used}
-use Rattle.types.specs.Add.{newDef, Ready}
-use Rattle.types.specs.Defs.{Part, Def}
-use Rattle.types.specs.Registry.{viewOf}
-use Rattle.types.specs.Structs.{namesOf, timerParts, counterParts, controlTypeParts, controlOf, stringParts}
-use Rattle.types.specs.Structs.{stringSize}
-use Rattle.types.specs.Template.{userId}
+use Rattle.types.specs.adding.Add.{newDef}
+use Rattle.types.specs.layout.Structs.{timerParts, counterParts, controlTypeParts, stringParts, stringSize}
+use Rattle.types.specs.tables.Defs.{Part, Def}
+use Rattle.types.specs.tables.Registry.{viewOf}
+use Rattle.types.specs.templates.Template.{userId}
+use Rattle.types.specs.declared.layout.predefined.PredefinedIds.{PredefinedIds}
+use Rattle.types.specs.declared.tables.member.StructKind.{StructKind}
+use Rattle.types.specs.declared.tables.member.StructKind.the-variants.{Predefined, Str}
 
 -- ---- their ids
 
@@ -51,28 +47,18 @@ abbrev pub stringName : List ℕ
 stringName = 83 ∷ 84 ∷ 82 ∷ 73 ∷ 78 ∷ 71 ∷ []
 
 -- one type more, after the earlier ones
-abbrev pub added : List Def → List ℕ → ℕ → ℕ → StructKind → List Part → List Def
-added ds name id size kind parts = ds ++ newDef (viewOf ds) name id size kind parts ∷ []
+abbrev pub withOne : List Def → List ℕ → ℕ → ℕ → StructKind → List Part → List Def
+withOne ds name id size kind parts = ds ++ newDef (viewOf ds) name id size kind parts ∷ []
 
 unfoldable pub withTimer : PredefinedIds → List Def
-withTimer ids = added [] timerName (ids .timer) 12 Predefined timerParts
+withTimer ids = withOne [] timerName (ids .timer) 12 Predefined timerParts
 
 unfoldable pub withCounter : PredefinedIds → List Def
-withCounter ids = added (withTimer ids) counterName (ids .counter) 12 Predefined counterParts
+withCounter ids = withOne (withTimer ids) counterName (ids .counter) 12 Predefined counterParts
 
 unfoldable pub withControl : PredefinedIds → List Def
-withControl ids = added (withCounter ids) controlName (ids .control) 12 Predefined controlTypeParts
+withControl ids = withOne (withCounter ids) controlName (ids .control) 12 Predefined controlTypeParts
 
 -- all four; STRING has capacity 82
 unfoldable pub predefined : PredefinedIds → List Def
-predefined ids = added (withControl ids) stringName (ids .string) (stringSize 82) Str (stringParts 82)
-
--- ---- in the tables
-
--- what a control type with that name, and those names of its words and its bits, asks of the tables
-pub record ControlReady (t m n : List ℕ) (u : Used) (name words bits : List ℕ) : Type 0 where
-  pub ready : Ready t m n u (3 + length bits / 2) (length name + 9 + length bits)
-  pub two : length words ≡ 6
-  pub few : length bits / 2 ≤ 32
-  pub parts : length (controlOf words bits) ≡ 3 + length bits / 2
-  pub long : length (name ++ namesOf (controlOf words bits)) ≡ length name + 9 + length bits
+predefined ids = withOne (withControl ids) stringName (ids .string) (stringSize 82) Str (stringParts 82)

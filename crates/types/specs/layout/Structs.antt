@@ -1,26 +1,24 @@
 -- Whole layouts (document 01, "Layout"): a UDT's and an AOI's parts from their declared members, a string's and the
 -- predefined types' parts, and their sizes.
-use Prim.Native.Nat.{ℕ, zero, suc, _+_, _-_, _*_, _/_, _%_, _≤_}
-use mathlib.Core.Path.{_≡_}
+use Prim.Native.Nat.{ℕ, zero, suc, _+_, _-_, _*_, _/_, _%_}
 use mathlib.Core.Bool.{Bool, true, false, cond}
 use mathlib.Core.List.{List, [], _∷_, _++_}
 use lib.ListN.{length}
-use Rattle.words.specs.Words.{part}
-use Rattle.types.specs.declared.atomic.Atomic.the-variants.{Bool as BOOL, SInt, DInt}
-use Rattle.types.specs.declared.layout.Cursor.{Cursor}
-use Rattle.types.specs.declared.layout.Decl.{Decl}
-use Rattle.types.specs.declared.layout.Host.the-variants.{Closed, Shared}
-use Rattle.types.specs.declared.layout.Placed.{Placed}
-use Rattle.types.specs.declared.layout.Placed.the-variants.{Hosted, One, AccessWrong, TooFar}
-use Rattle.types.specs.declared.member.Bit.the-variants.{None, At}
-use Rattle.types.specs.declared.member.Member.{Member}
-use Rattle.types.specs.declared.member.StructKind.{StructKind}
-use Rattle.types.specs.declared.member.StructKind.the-variants.{Udt, Aoi}
-use Rattle.types.specs.declared.member.Ty.the-variants.{Atomic}
-use Rattle.types.specs.Defs.{Part, nameIn}
-use Rattle.types.specs.Digits.{hostName, bitHostName}
-use Rattle.types.specs.Tables.{memberRow}
-use Rattle.types.specs.Layout.{placed, isBool, alignUp}
+use Rattle.types.specs.layout.HostNames.{hostName, bitHostName}
+use Rattle.types.specs.layout.Placing.{placed, isBool, alignUp}
+use Rattle.types.specs.tables.Defs.{Part, nameIn}
+use Rattle.types.specs.tables.Lent.{memberRow}
+use Rattle.types.specs.declared.atomics.atomic.Atomic.the-variants.{Bool as BOOL, SInt, DInt}
+use Rattle.types.specs.declared.layout.placing.Cursor.{Cursor}
+use Rattle.types.specs.declared.layout.placing.Decl.{Decl}
+use Rattle.types.specs.declared.layout.placing.Host.the-variants.{Closed, Shared}
+use Rattle.types.specs.declared.layout.placing.Placed.{Placed}
+use Rattle.types.specs.declared.layout.placing.Placed.the-variants.{Hosted, One, AccessWrong, TooFar}
+use Rattle.types.specs.declared.tables.member.Bit.the-variants.{None, At}
+use Rattle.types.specs.declared.tables.member.Member.{Member}
+use Rattle.types.specs.declared.tables.member.StructKind.{StructKind}
+use Rattle.types.specs.declared.tables.member.StructKind.the-variants.{Udt, Aoi}
+use Rattle.types.specs.declared.tables.member.Ty.the-variants.{Atomic}
 
 -- the names of some parts, one after the other
 unfoldable pub namesOf : List Part → List ℕ
@@ -65,8 +63,8 @@ layoutFrom name host c [] = laid [] c
 layoutFrom name host c (d ∷ ds) = thenLaid (placed c d) (host (c .members)) (name d) (λ c′. layoutFrom name host c′ ds)
 
 -- the size is rounded up to 4
-abbrev pub sizeAt : Cursor → ℕ
-sizeAt c = alignUp (c .offset) 4
+abbrev pub roundedSize : Cursor → ℕ
+roundedSize c = alignUp (c .offset) 4
 
 -- ---- UDT
 
@@ -171,15 +169,6 @@ unfoldable pub controlParts : List ℕ → List ℕ → List (List ℕ) → List
 controlParts one two bits =
     named (67 ∷ 84 ∷ 76 ∷ []) ctlAt ∷ named one (dintAt 4) ∷ named two (dintAt 8) ∷ statusParts 0 bits
 
--- the n names of two bytes each, from the i-th on
-unfoldable pub pairs : List ℕ → ℕ → ℕ → List (List ℕ)
-pairs s i zero = []
-pairs s i (suc n) = part s (2 * i) 2 ∷ pairs s (i + 1) n
-
--- the parts of a control type, from the names of its two words, three bytes each, and those of its bits
-abbrev pub controlOf : List ℕ → List ℕ → List Part
-controlOf words bits = controlParts (part words 0 3) (part words 3 3) (pairs bits 0 (length bits / 2))
-
 -- TIMER: PRE ACC, EN TT DN
 unfoldable pub timerParts : List Part
 timerParts =
@@ -198,14 +187,3 @@ controlTypeParts =
     controlParts (76 ∷ 69 ∷ 78 ∷ []) (80 ∷ 79 ∷ 83 ∷ [])
     ((69 ∷ 78 ∷ []) ∷ (69 ∷ 85 ∷ []) ∷ (68 ∷ 78 ∷ []) ∷ (69 ∷ 77 ∷ [])
     ∷ (69 ∷ 82 ∷ []) ∷ (85 ∷ 76 ∷ []) ∷ (73 ∷ 78 ∷ []) ∷ (70 ∷ 68 ∷ []) ∷ [])
-
--- what the names of status bits, two bytes each, ask of the tables from a row and a place on; and those of a control
--- type, whose two words have three bytes each
-pub record BitsFit (bits : List ℕ) (row place : ℕ) : Type 0 where
-  pub few : length bits / 2 ≤ 32
-  pub rows : row + length bits / 2 ≤ 2000
-  pub names : place + length bits ≤ 32768
-
-pub record ControlFits (words bits : List ℕ) (row place : ℕ) : Type 0 where
-  pub long : length words ≡ 6
-  pub fit : BitsFit bits (row + 3) (place + 9)

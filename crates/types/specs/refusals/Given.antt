@@ -1,15 +1,15 @@
 -- Bytes given into a caller's buffer (document 01, "Refusal numbers": 15, then 16): whole, from the buffer's start on,
 -- or none of them. Templates and the lines of a listing are given so.
 use Prim.Native.Nat.{ℕ}
-use mathlib.Core.Path.{_≡_}
 use mathlib.Core.Bool.{Bool, cond, _&&_}
 use mathlib.Core.List.{List}
+use mathlib.Core.Path.{_≡_}
 use lib.Dec.{leb}
 use lib.ListN.{length}
 use lib.Seq.{sets}
-use Rattle.types.specs.declared.given.Wrote.{Wrote}
-use Rattle.types.specs.declared.given.Wrote.the-variants.{Length, Refused}
-use Rattle.types.specs.Said.{Said, done, refused, why}
+use Rattle.types.specs.refusals.Said.{Said, done, refused, why}
+use Rattle.types.specs.declared.refusals.given.Wrote.{Wrote}
+use Rattle.types.specs.declared.refusals.given.Wrote.the-variants.{Length, Refused}
 
 -- what an answer says: how many bytes were given, or a refusal
 abbrev pub saidBy : Wrote → Said ℕ

@@ -1,15 +1,15 @@
 -- Refusals (document 01, "Refusal numbers"): the number and the place of each case.
 use Prim.Native.Nat.{ℕ}
-use Rattle.types.specs.declared.refusal.Refusal.{Refusal}
-use Rattle.types.specs.declared.refusal.Refusal.the-variants.{BookMalformed, NameOutsideRule, NameKnown}
-use Rattle.types.specs.declared.refusal.Refusal.the-variants.{IdOutsideRange}
-use Rattle.types.specs.declared.refusal.Refusal.the-variants.{IdInUse, NoIdFree, StringWrong, MemberTwice}
-use Rattle.types.specs.declared.refusal.Refusal.the-variants.{LocalOutsideAoi}
-use Rattle.types.specs.declared.refusal.Refusal.the-variants.{TypesUnknown, AccessWrong, MemberTooFar, TablesFull}
-use Rattle.types.specs.declared.refusal.Refusal.the-variants.{ImageLength, NoSuchType, NoRoom, StreamMalformed}
-use Rattle.types.specs.declared.refusal.Refusal.the-variants.{EntryMisfit, NumberOutOfRange, PastLastPlace}
-use Rattle.types.specs.declared.refusal.Refusal.the-variants.{TextTooLong}
-use Rattle.types.specs.declared.refusal.Refusal.the-variants.{PredefinedIds, LengthsWrong, TagTooLarge}
+use Rattle.types.specs.declared.refusals.refusal.Refusal.{Refusal}
+use Rattle.types.specs.declared.refusals.refusal.Refusal.the-variants.{BookMalformed, NameOutsideRule, NameKnown}
+use Rattle.types.specs.declared.refusals.refusal.Refusal.the-variants.{IdOutsideRange, IdInUse, NoIdFree}
+use Rattle.types.specs.declared.refusals.refusal.Refusal.the-variants.{StringWrong, MemberTwice, LocalOutsideAoi}
+use Rattle.types.specs.declared.refusals.refusal.Refusal.the-variants.{TypesUnknown, AccessWrong, MemberTooFar}
+use Rattle.types.specs.declared.refusals.refusal.Refusal.the-variants.{TablesFull, ImageLength, NoSuchType}
+use Rattle.types.specs.declared.refusals.refusal.Refusal.the-variants.{NoRoom, StreamMalformed, EntryMisfit}
+use Rattle.types.specs.declared.refusals.refusal.Refusal.the-variants.{NumberOutOfRange, PastLastPlace}
+use Rattle.types.specs.declared.refusals.refusal.Refusal.the-variants.{TextTooLong, PredefinedIds, LengthsWrong}
+use Rattle.types.specs.declared.refusals.refusal.Refusal.the-variants.{TagTooLarge}
 
 abbrev pub numberOf : Refusal → ℕ
 numberOf BookMalformed = 1

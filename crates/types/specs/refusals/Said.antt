@@ -1,7 +1,7 @@
 -- What a call says (document 01, "Refusal numbers"): a value, or a refusal's number and place.
 use Prim.Native.Nat.{ℕ}
-use Rattle.types.specs.Refusal.{numberOf, placeOf}
-use Rattle.types.specs.declared.refusal.Refusal.{Refusal}
+use Rattle.types.specs.refusals.Refusal.{numberOf, placeOf}
+use Rattle.types.specs.declared.refusals.refusal.Refusal.{Refusal}
 
 pub data Said (A : Type 0) : Type 0 where
   done : A → Said A

@@ -1,11 +1,11 @@
 -- Orderings of the book's types (document 01, "Order of building"): every member type is known at the start, as the
 -- atomics and the predefined types are, or earlier in the ordering. Over any names and any test for being known.
 use Prim.Native.Nat.{ℕ}
-use mathlib.Core.Path.{_≡_}
 use mathlib.Core.Bool.{Bool, true}
 use mathlib.Core.List.{List, [], _∷_, _++_, map, List·Memᴰ}
+use mathlib.Core.Path.{_≡_}
 use lib.ListN.{length}
-use Rattle.types.specs.Book.{every}
+use Rattle.types.specs.book.Contents.{every}
 
 module _ {N : Type 0} (has : List N → N → Bool) where
   -- all names of a list are known where the types with the names K are

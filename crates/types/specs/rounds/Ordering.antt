@@ -2,12 +2,12 @@
 -- type is atomic, there at the start, as the predefined types are, or earlier.
 use Prim.Native.Nat.{ℕ}
 use mathlib.Core.List.{List}
-use Rattle.types.specs.Book.{typesIn, typeEntry}
-use Rattle.types.specs.Defs.{Def, nameIn}
-use Rattle.types.specs.Order.{Ordered, Same}
-use Rattle.types.specs.Registry.{viewOf}
-use Rattle.types.specs.Resolve.{hasName}
-use Rattle.types.specs.Turns.{usesOf, upFrom}
+use Rattle.types.specs.book.Contents.{typesIn, typeEntry}
+use Rattle.types.specs.rounds.Order.{Ordered, Same}
+use Rattle.types.specs.rounds.Resolve.{hasName}
+use Rattle.types.specs.rounds.Turns.{usesOf, upFrom}
+use Rattle.types.specs.tables.Defs.{Def, nameIn}
+use Rattle.types.specs.tables.Registry.{viewOf}
 
 -- the name of type i
 abbrev pub typeNamed : List ℕ → ℕ → List ℕ

@@ -1,56 +1,44 @@
 -- Tag shapes (document 01, "Tag shape"): up to three lengths, none 0; BOOL with a length has one only, rounded up to
 -- 32s, stored as DWORDs; and the refusals 15, 23 and 24, in this order.
 use Prim.Native.Nat.{ℕ, _+_, _-_, _*_, _/_, _^_}
-use mathlib.Core.Path.{_≡_}
 use mathlib.Core.Bool.{Bool, true, cond, not, _&&_}
 use mathlib.Core.List.{List, [], _∷_}
 use lib.Dec.{eqb, leb, ltb}
 use lib.ListN.{length, getD}
-use Rattle.types.specs.declared.atomic.Atomic.the-variants.{Bool as BOOL, DWord}
-use Rattle.types.specs.declared.member.Ty.{Ty}
-use Rattle.types.specs.declared.member.Ty.the-variants.{Atomic, Struct}
-use Rattle.types.specs.declared.shape.Fit.{Fit}
-use Rattle.types.specs.declared.shape.Fit.the-variants.{Fits, Refused}
-use Rattle.types.specs.declared.shape.Product.{Product}
-use Rattle.types.specs.declared.shape.Product.the-variants.{Is, Over}
-use Rattle.types.specs.declared.shape.Shape.{Shape}
-use Rattle.types.specs.declared.shape.Shaped.{Shaped}
-use Rattle.types.specs.declared.shape.Symbol.{Symbol}
-use Rattle.types.specs.declared.shape.Symbol.the-variants as symbol
-use Rattle.types.specs.Layout.{most, isBool, alignUp}
-use Rattle.types.specs.Said.{Said, done, why}
-use Rattle.types.specs.Said as say
-use Rattle.types.specs.Tables.{TyFits}
-use Rattle.types.specs.Template.{typeIn, idsIn, hasTemplate}
-use Rattle.types.specs.Waste.{sizeIn, sizesIn}
+use Rattle.types.specs.layout.Placing.{most, isBool, alignUp}
+use Rattle.types.specs.refusals.Fit.{fitSays}
+use Rattle.types.specs.refusals.Said.{Said, done, why}
+use Rattle.types.specs.refusals.Said as say
+use Rattle.types.specs.tables.Sizes.{sizeIn, sizesIn}
+use Rattle.types.specs.tables.There.{isThere}
+use Rattle.types.specs.tables.TypeWord.{typeIn, idsIn}
+use Rattle.types.specs.declared.atomics.atomic.Atomic.the-variants.{Bool as BOOL, DWord}
+use Rattle.types.specs.declared.refusals.fit.Fit.the-variants.{Refused}
+use Rattle.types.specs.declared.shape.tags.Shape.{Shape}
+use Rattle.types.specs.declared.shape.tags.Shaped.{Shaped}
+use Rattle.types.specs.declared.shape.tags.Symbol.{Symbol}
+use Rattle.types.specs.declared.shape.tags.Symbol.the-variants as symbol
+use Rattle.types.specs.declared.tables.member.Ty.{Ty}
+use Rattle.types.specs.declared.tables.member.Ty.the-variants.{Atomic}
 
 -- what is said, and the shape beside it
-pub record Told : Type 0 where
+pub record ShapeSaid : Type 0 where
   pub said : Said (Unit {0})
   pub shape : Shape
 
-abbrev pub fitSays : Fit → Said (Unit {0})
-fitSays Fits = done tt
-fitSays (Refused r) = why r
-
 -- what an answer says
-abbrev pub saidBy : Shaped → Told
+abbrev pub saidBy : Shaped → ShapeSaid
 saidBy r = record { said = fitSays (r .fit); shape = r .shape }
 
 -- a shape that is given; and a refusal, with zeros for a shape
-abbrev pub given : Shape → Told
+abbrev pub given : Shape → ShapeSaid
 given s = record { said = done tt; shape = s }
 
 abbrev pub noShape : Shape
 noShape = record { ty = Atomic BOOL; lengths = 0 ∷ 0 ∷ 0 ∷ []; used = 0; elements = 0; bytes = 0 }
 
-abbrev pub refused : ℕ → ℕ → Told
-refused number place = record { said = say.refused number place; shape = noShape }
-
--- an atomic is always there; a structure where the table has it, as for its template
-abbrev pub isThere : List ℕ → Ty → Bool
-isThere types (Atomic a) = true
-isThere types (Struct n) = hasTemplate types (Struct n)
+abbrev pub refusedShape : ℕ → ℕ → ShapeSaid
+refusedShape number place = record { said = say.refused number place; shape = noShape }
 
 -- up to three lengths, BOOL one only
 unfoldable pub mostLengths : Ty → ℕ
@@ -73,35 +61,35 @@ abbrev pub three : List ℕ → List ℕ
 three ns = getD ns 0 0 ∷ getD ns 1 0 ∷ getD ns 2 0 ∷ []
 
 -- n elements of a stored type, not above 2^26 bytes
-unfoldable pub within : (ℕ → ℕ) → Ty → List ℕ → ℕ → ℕ → Told
+unfoldable pub within : (ℕ → ℕ) → Ty → List ℕ → ℕ → ℕ → ShapeSaid
 within sizes ty lengths used n =
     cond (leb (sizeIn sizes ty * n) most)
     (given (record { ty = ty; lengths = lengths; used = used; elements = n; bytes = sizeIn sizes ty * n }))
-    (refused 24 0)
+    (refusedShape 24 0)
 
 -- BOOL with a length
 unfoldable pub boolTag : Ty → List ℕ → Bool
 boolTag ty ns = isBool ty && ltb 0 (length ns)
 
 -- its length is rounded up to 32s, not above 2^32 - 1, and stored as DWORDs
-unfoldable pub boolShape : (ℕ → ℕ) → ℕ → Told
+unfoldable pub boolShape : (ℕ → ℕ) → ℕ → ShapeSaid
 boolShape sizes n =
     cond (leb (alignUp n 32) (2 ^ 32 - 1))
     (within sizes (Atomic DWord) (three (alignUp n 32 ∷ [])) 1 (alignUp n 32 / 32))
-    (refused 24 0)
+    (refusedShape 24 0)
 
 -- any other tag has as many elements as the product of its lengths says, not above 2^64 - 1
-unfoldable pub plainShape : (ℕ → ℕ) → Ty → List ℕ → Told
+unfoldable pub plainShape : (ℕ → ℕ) → Ty → List ℕ → ShapeSaid
 plainShape sizes ty ns =
-    cond (leb (product ns) (2 ^ 64 - 1)) (within sizes ty (three ns) (length ns) (product ns)) (refused 24 0)
+    cond (leb (product ns) (2 ^ 64 - 1)) (within sizes ty (three ns) (length ns) (product ns)) (refusedShape 24 0)
 
-unfoldable pub shapeOf : List ℕ → Ty → List ℕ → Told
+unfoldable pub shapeOf : List ℕ → Ty → List ℕ → ShapeSaid
 shapeOf types ty ns =
     cond (isThere types ty)
     (cond (lengthsOk ty ns)
     (cond (boolTag ty ns) (boolShape (sizesIn types) (getD ns 0 0)) (plainShape (sizesIn types) ty ns))
-    (refused 23 0))
-    (refused 15 0)
+    (refusedShape 23 0))
+    (refusedShape 15 0)
 
 -- code or 0x8000 plus id, plus 8,192 per length
 abbrev pub symbolOf : (ℕ → ℕ) → Ty → ℕ → ℕ
@@ -117,14 +105,3 @@ unfoldable pub symbolFor : List ℕ → Ty → ℕ → Said ℕ
 symbolFor types ty used =
     cond (isThere types ty) (cond (leb used 3) (done (symbolOf (idsIn types) ty used)) (say.refused 23 0))
     (say.refused 15 0)
-
--- ---- what the code's steps ask and give
-
--- the product, where 64 bits hold it
-unfoldable pub productOf : List ℕ → Product
-productOf ns = cond (leb (product ns) (2 ^ 64 - 1)) (Is (product ns)) Over
-
--- a type that is there, and lengths that are none 0
-pub record Plain (t : Ty) (ns : List ℕ) : Type 0 where
-  pub ty : TyFits t
-  pub lengths : noneZero ns ≡ true

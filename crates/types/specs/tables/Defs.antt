@@ -1,13 +1,13 @@
 -- A structure with everything that a caller may ask of it, and the structure that the tables hold at a row: its name
 -- and the names of its members as bytes, its members as values.
-use Prim.Native.Nat.{ℕ, zero, suc, _+_, _<_, _≤_}
+use Prim.Native.Nat.{ℕ, zero, suc, _+_}
 use mathlib.Core.List.{List, [], _∷_}
 use Rattle.words.specs.Words.{part}
-use Rattle.types.specs.declared.member.Member.{Member}
-use Rattle.types.specs.declared.member.Span.{Span}
-use Rattle.types.specs.declared.member.StructDef.{StructDef}
-use Rattle.types.specs.declared.member.StructKind.{StructKind}
-use Rattle.types.specs.Tables.{TyFits, memberAt, nameAt}
+use Rattle.types.specs.tables.Lent.{memberAt, nameAt}
+use Rattle.types.specs.declared.tables.member.Member.{Member}
+use Rattle.types.specs.declared.tables.member.Span.{Span}
+use Rattle.types.specs.declared.tables.member.StructDef.{StructDef}
+use Rattle.types.specs.declared.tables.member.StructKind.{StructKind}
 
 -- a member with its name
 pub record Part : Type 0 where
@@ -46,10 +46,3 @@ defOf members names d =
       kind = d .kind;
       parts = partsAt members names (d .first) (d .count);
     }
-
--- what a reader of a structure's rows may count on: its rows, its name and its members' names lie inside the tables
-pub record Readable (members : List ℕ) (d : StructDef) : Type 0 where
-  pub name : d .name .at + d .name .long ≤ 32768
-  pub rows : d .first + d .count ≤ 2000
-  pub names : (k : ℕ) → k < d .count → nameAt members (d .first + k) .at + nameAt members (d .first + k) .long ≤ 32768
-  pub types : (k : ℕ) → k < d .count → TyFits (memberAt members (d .first + k) .ty)

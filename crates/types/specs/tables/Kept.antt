@@ -1,14 +1,14 @@
 -- The tables as our own calls left them (document 01, "What promises shut out"): all zero, or those of what a build
 -- accepted of some book and some ids. A promise may assume this, and only this.
 use Prim.Native.Nat.{ℕ}
-use mathlib.Core.Path.{_≡_}
 use mathlib.Core.List.{List, []}
+use mathlib.Core.Path.{_≡_}
 use Rattle.words.specs.Words.{Bytes}
-use Rattle.types.specs.declared.predefined.PredefinedIds.{PredefinedIds}
-use Rattle.types.specs.Build.{buildOf}
-use Rattle.types.specs.Defs.{Def}
-use Rattle.types.specs.Registry.{typesTable, membersTable, namesTable}
-use Rattle.types.specs.Rounds.{accepted}
+use Rattle.types.specs.rounds.Build.{buildOf}
+use Rattle.types.specs.rounds.Rounds.{accepted}
+use Rattle.types.specs.tables.Defs.{Def}
+use Rattle.types.specs.tables.Registry.{typesTable, membersTable, namesTable}
+use Rattle.types.specs.declared.layout.predefined.PredefinedIds.{PredefinedIds}
 
 -- a registry that a build can leave: none yet, or one that it accepted
 pub data Made (ds : List Def) : Type 0 where

@@ -1,20 +1,19 @@
 -- Rows of the lent tables: a member or a structure as eight words, and the words of a row read back.
-use Prim.Native.Nat.{ℕ, _+_, _-_, _*_, _/_, _%_, _<_}
-use mathlib.Core.Bool.{Bool, false, cond}
+use Prim.Native.Nat.{ℕ, _+_, _-_, _*_, _/_, _%_}
+use mathlib.Core.Bool.{Bool, cond}
 use mathlib.Core.List.{List, [], _∷_}
 use lib.Dec.{eqb, ltb}
 use lib.ListN.{getD}
-use Rattle.types.specs.declared.atomic.Atomic.the-variants.{Bool as BOOL}
-use Rattle.types.specs.declared.member.Ty.{Ty}
-use Rattle.types.specs.declared.member.Ty.the-variants.{Atomic, Struct}
-use Rattle.types.specs.declared.member.Bit.{Bit}
-use Rattle.types.specs.declared.member.Bit.the-variants.{None, At}
-use Rattle.types.specs.declared.member.Member.{Member}
-use Rattle.types.specs.declared.member.Span.{Span}
-use Rattle.types.specs.declared.member.StructKind.{StructKind}
-use Rattle.types.specs.declared.member.StructKind.the-variants.{Udt, Predefined, Str, Aoi}
-use Rattle.types.specs.declared.member.StructDef.{StructDef}
-use Rattle.types.specs.Atomic.{numOf, atomicAt}
+use Rattle.types.specs.atomics.Atomic.{numOf, atomicAt}
+use Rattle.types.specs.declared.tables.member.Bit.{Bit}
+use Rattle.types.specs.declared.tables.member.Bit.the-variants.{None, At}
+use Rattle.types.specs.declared.tables.member.Member.{Member}
+use Rattle.types.specs.declared.tables.member.Span.{Span}
+use Rattle.types.specs.declared.tables.member.StructDef.{StructDef}
+use Rattle.types.specs.declared.tables.member.StructKind.{StructKind}
+use Rattle.types.specs.declared.tables.member.StructKind.the-variants.{Udt, Predefined, Str, Aoi}
+use Rattle.types.specs.declared.tables.member.Ty.{Ty}
+use Rattle.types.specs.declared.tables.member.Ty.the-variants.{Atomic, Struct}
 
 -- an atomic's place among the fifteen, or 0x8000 plus a structure's number
 abbrev pub tyWord : Ty → ℕ
@@ -23,11 +22,6 @@ tyWord (Struct n) = 0x8000 + n
 
 unfoldable pub tyOf : ℕ → Ty
 tyOf w = cond (ltb w 0x8000) (Atomic (atomicAt w)) (Struct (w - 0x8000))
-
--- a structure's number is below the number of rows
-abbrev pub TyFits : Ty → Type 0
-TyFits (Atomic a) = Unit {0}
-TyFits (Struct n) = n < 200
 
 -- 0, or one more than the bit
 abbrev pub bitWord : Bit → ℕ
@@ -117,15 +111,3 @@ unfoldable pub typeSaid : List ℕ → ℕ → List ℕ
 typeSaid t i =
     getD t (8 * i) 0 ∷ getD t (8 * i + 1) 0 ∷ getD t (8 * i + 2) 0 % 65536 ∷ getD t (8 * i + 3) 0 % 65536
     ∷ getD t (8 * i + 4) 0 ∷ kindRead (getD t (8 * i + 5) 0) ∷ getD t (8 * i + 6) 0 ∷ getD t (8 * i + 7) 0 ∷ []
-
--- ---- a row of zeros: one that is not in use, and one past a table's end
-
-abbrev pub noName : Span
-noName = record { at = 0; long = 0 }
-
-abbrev pub noMember : Member
-noMember =
-    record { ty = Atomic BOOL; count = 0; offset = 0; bit = None; hidden = false; local = false; access = 0 }
-
-abbrev pub noType : StructDef
-noType = record { name = noName; id = 0; handle = 0; size = 0; kind = Udt; first = 0; count = 0 }

@@ -2,22 +2,16 @@
 -- book": the tables; "Order of building"). Each type takes the next row, its members the next rows, its name and
 -- theirs the next bytes.
 use Prim.Native.Nat.{ℕ, zero, suc, _+_}
-use mathlib.Core.Path.{_≡_}
 use mathlib.Core.Bool.{cond}
 use mathlib.Core.List.{List, [], _∷_, _++_, map}
 use lib.Dec.{eqb}
 use lib.ListN.{length, getD, replicate}
 use lib.Seq.{sets}
-use Rattle.types.specs.declared.member.StructDef.{StructDef}
-use Rattle.types.specs.declared.member.StructKind.{StructKind}
-use Rattle.types.specs.declared.used.Used.{Used}
-use Rattle.types.specs.Book.{listFrom}
-use Rattle.types.specs.Defs.{Def}
-use Rattle.types.specs.Ids.{idWord}
-use Rattle.types.specs.Lookup.{rowNames}
-use Rattle.types.specs.Structs.{namesOf, rowsOf}
-use Rattle.types.specs.Tables.{typeRow}
-use Rattle.types.specs.Waste.{sizesIn}
+use Rattle.types.specs.adding.Ids.{idWord}
+use Rattle.types.specs.layout.Structs.{namesOf, rowsOf}
+use Rattle.types.specs.tables.Defs.{Def}
+use Rattle.types.specs.tables.Lent.{typeRow}
+use Rattle.types.specs.declared.tables.member.StructDef.{StructDef}
 
 -- what adding a type asks of those before it: their names, ids and sizes by their numbers, and how many members and
 -- bytes of names they have
@@ -42,9 +36,9 @@ unfoldable pub membersOf : List Def → ℕ
 membersOf [] = 0
 membersOf (d ∷ ds) = length (d .parts) + membersOf ds
 
-unfoldable pub bytesOf : List Def → List ℕ
-bytesOf [] = []
-bytesOf (d ∷ ds) = ownNames d ++ bytesOf ds
+unfoldable pub nameBytesOf : List Def → List ℕ
+nameBytesOf [] = []
+nameBytesOf (d ∷ ds) = ownNames d ++ nameBytesOf ds
 
 -- what a registry shows
 unfoldable pub viewOf : List Def → View
@@ -54,18 +48,7 @@ viewOf ds =
       ids = map (λ d. d .id) ds;
       sizes = map (λ d. d .size) ds;
       members = membersOf ds;
-      bytes = length (bytesOf ds);
-    }
-
--- what tables show of which so much is used
-unfoldable pub viewIn : List ℕ → List ℕ → Used → View
-viewIn types names u =
-    record {
-      names = rowNames types names (u .types);
-      ids = listFrom (idWord types) 0 (u .types);
-      sizes = listFrom (sizesIn types) 0 (u .types);
-      members = u .members;
-      bytes = u .bytes;
+      bytes = length (nameBytesOf ds);
     }
 
 -- ---- the tables of a registry
@@ -81,32 +64,6 @@ headOf at row d =
       kind = d .kind;
       first = row;
       count = length (d .parts);
-    }
-
--- the row of a type after what is used, still without its handle
-abbrev pub bareHead : Used → ℕ → ℕ → ℕ → StructKind → ℕ → StructDef
-bareHead u long id size kind count =
-    record {
-      name = record { at = u .bytes; long = long };
-      id = id;
-      handle = 0;
-      size = size;
-      kind = kind;
-      first = u .members;
-      count = count;
-    }
-
--- the same with a handle
-abbrev pub withHandle : StructDef → ℕ → StructDef
-withHandle h handle =
-    record {
-      name = h .name;
-      id = h .id;
-      handle = handle;
-      size = h .size;
-      kind = h .kind;
-      first = h .first;
-      count = h .count;
     }
 
 unfoldable pub typeRows : ℕ → ℕ → List Def → List ℕ
@@ -135,26 +92,7 @@ unfoldable pub membersTable : List Def → List ℕ
 membersTable ds = sets noMembers 0 (memberRows 0 ds)
 
 unfoldable pub namesTable : List Def → List ℕ
-namesTable ds = sets noNames 0 (bytesOf ds)
-
--- how much of the tables a registry uses
-abbrev pub usedBy : List Def → Used
-usedBy ds = record { types = length ds; members = membersOf ds; bytes = length (bytesOf ds) }
-
--- and with one type more
-abbrev pub usedWith : Used → ℕ → ℕ → Used
-usedWith u members bytes =
-    record { types = u .types + 1; members = u .members + members; bytes = u .bytes + bytes }
-
-abbrev pub usedMore : Used → Def → Used
-usedMore u d = usedWith u (length (d .parts)) (length (ownNames d))
-
--- the tables are those of a registry, and so much of them is used
-pub record Stands (ds : List Def) (t m n : List ℕ) (u : Used) : Type 0 where
-  pub types : t ≡ typesTable ds
-  pub members : m ≡ membersTable ds
-  pub names : n ≡ namesTable ds
-  pub used : u ≡ usedBy ds
+namesTable ds = sets noNames 0 (nameBytesOf ds)
 
 -- ---- how many types stand in a table: the first row whose template id is 0 is unused
 

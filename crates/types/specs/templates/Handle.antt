@@ -6,12 +6,12 @@ use lib.Bits.{bitXor}
 use lib.Dec.{eqb}
 
 -- rotate left 5 in 16 bits, xor the byte, times 0x9E37, modulo 65,536
-abbrev pub turnOf : ℕ → ℕ → ℕ
-turnOf h b = bitXor (h * 32 % 65536 + h / 2048) b * 0x9E37 % 65536
+abbrev pub foldByte : ℕ → ℕ → ℕ
+foldByte h b = bitXor (h * 32 % 65536 + h / 2048) b * 0x9E37 % 65536
 
 unfoldable pub foldFrom : ℕ → List ℕ → ℕ
 foldFrom h [] = h
-foldFrom h (b ∷ bs) = foldFrom (turnOf h b) bs
+foldFrom h (b ∷ bs) = foldFrom (foldByte h b) bs
 
 -- 0 becomes 1
 unfoldable pub notZero : ℕ → ℕ

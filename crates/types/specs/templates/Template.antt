@@ -6,32 +6,23 @@ use mathlib.Core.List.{List, [], _∷_, _++_}
 use lib.Dec.{eqb, leb, ltb}
 use lib.ListN.{length, replicate}
 use Rattle.words.specs.Words.{bytesOf}
-use Rattle.types.specs.declared.member.Bit.{Bit}
-use Rattle.types.specs.declared.member.Bit.the-variants.{None, At}
-use Rattle.types.specs.declared.member.Member.{Member}
-use Rattle.types.specs.declared.member.StructDef.{StructDef}
-use Rattle.types.specs.declared.member.StructKind.{StructKind}
-use Rattle.types.specs.declared.member.StructKind.the-variants.{Udt, Predefined, Str, Aoi}
-use Rattle.types.specs.declared.member.Ty.{Ty}
-use Rattle.types.specs.declared.member.Ty.the-variants.{Atomic, Struct}
-use Rattle.types.specs.Atomic.{codeOf}
-use Rattle.types.specs.Defs.{Part, Def, defOf}
-use Rattle.types.specs.Said.{Said, done, refused}
-use Rattle.types.specs.Tables.{typeAt}
+use Rattle.types.specs.refusals.Said.{Said, done, refused}
+use Rattle.types.specs.tables.Defs.{Part, Def, defOf}
+use Rattle.types.specs.tables.Lent.{typeAt}
+use Rattle.types.specs.tables.TypeWord.{typeIn, idsIn}
+use Rattle.types.specs.declared.tables.member.Bit.{Bit}
+use Rattle.types.specs.declared.tables.member.Bit.the-variants.{None, At}
+use Rattle.types.specs.declared.tables.member.Member.{Member}
+use Rattle.types.specs.declared.tables.member.StructDef.{StructDef}
+use Rattle.types.specs.declared.tables.member.StructKind.{StructKind}
+use Rattle.types.specs.declared.tables.member.StructKind.the-variants.{Udt, Predefined, Str, Aoi}
+use Rattle.types.specs.declared.tables.member.Ty.{Ty}
+use Rattle.types.specs.declared.tables.member.Ty.the-variants.{Atomic, Struct}
 
 -- bit number, else the low 16 bits of the count
 abbrev pub infoOf : Bit → ℕ → ℕ
 infoOf None count = count % 65536
 infoOf (At k) count = k
-
--- code, or 0x8000 plus the id of the structure
-abbrev pub typeIn : (ℕ → ℕ) → Ty → ℕ
-typeIn ids (Atomic a) = codeOf a
-typeIn ids (Struct n) = 0x8000 + ids n
-
--- the ids of the structures in a table, by their numbers
-abbrev pub idsIn : List ℕ → ℕ → ℕ
-idsIn types n = typeAt types n .id
 
 -- info u16, type u16, offset u32
 unfoldable pub infoBytes : (ℕ → ℕ) → Member → List ℕ

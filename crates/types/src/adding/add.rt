@@ -2,28 +2,29 @@
 // member 2, 8, 9; then its layout, and 13.
 ghost use mathlib.Core.Path.{_≡_};
 ghost use Prim.Native.Nat.{_<_};
-ghost use Rattle.types.specs.Add.{addMembers, addNamed, addEntry, isAoi, isString, hasId, stringOk};
-ghost use Rattle.types.specs.Add.{Took, Addable, AddableEntry};
-ghost use Rattle.types.specs.Entries.{declsFrom};
-ghost use Rattle.types.specs.Registry.{viewIn};
-use crate::book::TypeEntry;
-use crate::book::count_of;
-use crate::checks::Checked;
-use crate::checks::check_members;
-use crate::ids::Picked;
-use crate::ids::pick_id;
-use crate::lookups::FoundTy;
-use crate::lookups::lookup;
-use crate::names::good_name;
-use crate::new_types::NewType;
-use crate::new_types::add_laid;
-use crate::new_types::add_string;
-use crate::refusal::Refusal;
-use crate::tables::MemberTable;
-use crate::tables::NameTable;
-use crate::tables::TypeTable;
-use crate::used::Turn;
-use crate::used::Used;
+ghost use Rattle.types.specs.adding.Add.{addMembers, addNamed, addEntry, stringOk};
+ghost use Rattle.types.specs.book.Contents.{isAoi, isString, hasId};
+ghost use Rattle.types.specs.inside.adding.Add.{Took, Addable, AddableEntry};
+ghost use Rattle.types.specs.inside.book.Decls.{declsFrom};
+ghost use Rattle.types.specs.inside.tables.Registry.{viewIn};
+use crate::adding::checks::Checked;
+use crate::adding::checks::check_members;
+use crate::adding::ids::Picked;
+use crate::adding::ids::pick_id;
+use crate::adding::new_types::NewType;
+use crate::adding::new_types::add_laid;
+use crate::adding::new_types::add_string;
+use crate::adding::progress::Progress;
+use crate::adding::used::Used;
+use crate::atomics::lookup::FoundTy;
+use crate::atomics::lookup::lookup;
+use crate::book::contents::TypeEntry;
+use crate::book::contents::count_of;
+use crate::book::names::good_name;
+use crate::refusals::refusal::Refusal;
+use crate::tables::lent::MemberTable;
+use crate::tables::lent::NameTable;
+use crate::tables::lent::TypeTable;
 
 // Flags: 1 AOI, 2 string, 4 id given.
 fn is_aoi(e: TypeEntry) -> bool
@@ -78,7 +79,7 @@ fn add_members(
     types: &mut TypeTable,
     members: &mut MemberTable,
     names: &mut NameTable,
-) -> Turn
+) -> Progress
     requires { ⌜ Addable (now types) (now members) (now names) (now book) (now tys) (now name)
         (new .used) (new .at) (new .count) ⌝ }
     ensures { λ r. ⌜ Took (addMembers (viewIn (now (types .entry)) (now (names .entry)) (new .used)) (now (book .entry))
@@ -93,13 +94,13 @@ fn add_members(
             return add_laid(book, tys, new, name, types, members, names);
         }
         Checked::NameWrong => {
-            return Turn::Refused(Refusal::NameOutsideRule(new.number));
+            return Progress::Refused(Refusal::NameOutsideRule(new.number));
         }
         Checked::Twice => {
-            return Turn::Refused(Refusal::MemberTwice(new.number));
+            return Progress::Refused(Refusal::MemberTwice(new.number));
         }
         Checked::LocalOutside => {
-            return Turn::Refused(Refusal::LocalOutsideAoi(new.number));
+            return Progress::Refused(Refusal::LocalOutsideAoi(new.number));
         }
     }
 }
@@ -114,7 +115,7 @@ fn add_named(
     types: &mut TypeTable,
     members: &mut MemberTable,
     names: &mut NameTable,
-) -> Turn
+) -> Progress
     requires { ⌜ Addable (now types) (now members) (now names) (now book) (now tys) (now name)
         (w .used) (w .at) (w .entry .count) ⌝ }
     ensures { λ r. ⌜ Took (addNamed (viewIn (now (types .entry)) (now (names .entry)) (w .used)) (now (book .entry))
@@ -140,7 +141,7 @@ fn add_named(
         if ok {
             return add_string(new, w.entry.string, name, types, members, names);
         }
-        return Turn::Refused(Refusal::StringWrong(w.number));
+        return Progress::Refused(Refusal::StringWrong(w.number));
     }
     add_members(book, tys, new, name, types, members, names)
 }
@@ -154,7 +155,7 @@ pub fn add_entry(
     types: &mut TypeTable,
     members: &mut MemberTable,
     names: &mut NameTable,
-) -> Turn
+) -> Progress
     requires { ⌜ AddableEntry (now types) (now members) (now names) (now book) (now tys)
         (w .used) (w .at) (w .entry .count) ⌝ }
     ensures { λ r. ⌜ Took (addEntry (viewIn (now (types .entry)) (now (names .entry)) (w .used)) (now (book .entry))
@@ -168,7 +169,7 @@ pub fn add_entry(
         let found = lookup(types, names, w.used.types, name);
         match found {
             FoundTy::Is(_) => {
-                return Turn::Refused(Refusal::NameKnown(w.number));
+                return Progress::Refused(Refusal::NameKnown(w.number));
             }
             FoundTy::Nothing => {
                 let given = has_id(w.entry);
@@ -178,17 +179,17 @@ pub fn add_entry(
                         return add_named(book, tys, w, id, name, types, members, names);
                     }
                     Picked::OutsideRange => {
-                        return Turn::Refused(Refusal::IdOutsideRange(w.number));
+                        return Progress::Refused(Refusal::IdOutsideRange(w.number));
                     }
                     Picked::InUse => {
-                        return Turn::Refused(Refusal::IdInUse(w.number));
+                        return Progress::Refused(Refusal::IdInUse(w.number));
                     }
                     Picked::NoneFree => {
-                        return Turn::Refused(Refusal::NoIdFree(w.number));
+                        return Progress::Refused(Refusal::NoIdFree(w.number));
                     }
                 }
             }
         }
     }
-    Turn::Refused(Refusal::NameOutsideRule(w.number))
+    Progress::Refused(Refusal::NameOutsideRule(w.number))
 }

@@ -3,12 +3,13 @@
 ghost use mathlib.Core.Path.{_≡_};
 ghost use Prim.Native.Nat.{_+_};
 ghost use mathlib.Core.List.{[]};
-ghost use Rattle.types.specs.Checks.{entriesFrom, memberName, among, checked, namesBefore};
-ghost use Rattle.types.specs.Checks.{EntriesInside, Marked, Marks, Looked, CheckedOne};
-use crate::book::entry_at;
-use crate::names::good_name;
-use crate::names::lower;
-use crate::names::same_name;
+ghost use Rattle.types.specs.adding.Checks.{entriesFrom, among, checked};
+ghost use Rattle.types.specs.inside.adding.Checks.{memberName, namesBefore, EntriesInside, Marked, Marks, Looked};
+ghost use Rattle.types.specs.inside.adding.Checks.{CheckedOne};
+use crate::book::contents::entry_at;
+use crate::book::names::good_name;
+use crate::book::names::lower;
+use crate::book::names::same_name;
 use words::wide;
 use words::wide8;
 

@@ -2,10 +2,11 @@
 // type holds.
 ghost use mathlib.Core.Path.{_≡_};
 ghost use Prim.Native.Nat.{_≤_};
-ghost use Rattle.types.specs.Book.{listFrom};
-ghost use Rattle.types.specs.Ids.{idWord, inUse, idFor, Lowest};
-use crate::tables::TYPE_WORDS;
-use crate::tables::TypeTable;
+ghost use Rattle.types.specs.adding.Ids.{idWord, inUse, idFor};
+ghost use Rattle.types.specs.book.Contents.{listFrom};
+ghost use Rattle.types.specs.inside.adding.Ids.{Lowest};
+use crate::tables::lent::TYPE_WORDS;
+use crate::tables::lent::TypeTable;
 use words::wide16;
 
 // An id for a type, or why there is none.

@@ -3,20 +3,20 @@
 ghost use mathlib.Core.Path.{_≡_};
 ghost use Prim.Native.Nat.{_*_, _<_, _≤_};
 ghost use lib.Seq.{sets};
-ghost use Rattle.types.specs.Defs.{Readable};
-ghost use Rattle.types.specs.Handle.{handleOf};
-ghost use Rattle.types.specs.Registry.{withHandle, bareHead};
-ghost use Rattle.types.specs.Tables.{typeRow};
-ghost use Rattle.types.specs.Template.{templateIn};
-use crate::member::Span;
-use crate::member::StructDef;
-use crate::member::StructKind;
-use crate::tables::MemberTable;
-use crate::tables::NameTable;
-use crate::tables::TypeTable;
-use crate::tables::put_type;
-use crate::templates::template_handle;
-use crate::used::Used;
+ghost use Rattle.types.specs.inside.tables.Defs.{Readable};
+ghost use Rattle.types.specs.inside.tables.Registry.{withHandle, bareHead};
+ghost use Rattle.types.specs.tables.Lent.{typeRow};
+ghost use Rattle.types.specs.templates.Handle.{handleOf};
+ghost use Rattle.types.specs.templates.Template.{templateIn};
+use crate::adding::used::Used;
+use crate::tables::lent::MemberTable;
+use crate::tables::lent::NameTable;
+use crate::tables::lent::TypeTable;
+use crate::tables::lent::put_type;
+use crate::tables::member::Span;
+use crate::tables::member::StructDef;
+use crate::tables::member::StructKind;
+use crate::templates::template::template_handle;
 
 // Stores a type's row, with the handle that its template gives; its members and names stand already.
 pub fn enter(

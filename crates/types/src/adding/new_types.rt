@@ -4,35 +4,36 @@ ghost use mathlib.Core.Path.{_≡_};
 ghost use Prim.Native.Nat.{_+_, _*_, _^_, _-_, _≤_};
 ghost use lib.ListN.{length};
 ghost use lib.Seq.{sets};
-ghost use Rattle.types.specs.declared.member.StructKind.the-variants.{Str};
-ghost use Rattle.types.specs.declared.used.Turn.the-variants.{Added};
-ghost use Rattle.types.specs.Add.{addLaid, newDef, fitted, yes, Took, Ready, Addable, AddableString};
-ghost use Rattle.types.specs.Entries.{declsFrom, Found};
-ghost use Rattle.types.specs.Registry.{viewIn};
-ghost use Rattle.types.specs.Structs.{namesOf, rowsOf, namedIn, laidKind, stringParts, stringSize};
-ghost use Rattle.types.specs.Passes.{partsOf, measuredOf, StorableType};
-use crate::aoi::count_bools;
-use crate::aoi::hosts_for;
-use crate::aoi::measure_aoi;
-use crate::aoi::store_aoi;
-use crate::digits::put_bytes;
-use crate::fixed::put_string;
-use crate::fixed::string_size;
-use crate::measure::Measured;
-use crate::member::StructKind;
-use crate::new_row::bare_head;
-use crate::new_row::enter;
-use crate::refusal::Refusal;
-use crate::tables::MemberTable;
-use crate::tables::NameTable;
-use crate::tables::TypeTable;
-use crate::udt::measure_udt;
-use crate::udt::size_at;
-use crate::udt::store_udt;
-use crate::used::Turn;
-use crate::used::Used;
-use crate::used::has_room;
-use crate::used::used_more;
+ghost use Rattle.types.specs.adding.Add.{addLaid, newDef, fitted, yes};
+ghost use Rattle.types.specs.inside.adding.Add.{Took, Ready, Addable, AddableString};
+ghost use Rattle.types.specs.inside.book.Decls.{declsFrom, Found};
+ghost use Rattle.types.specs.inside.layout.Passes.{partsOf, measuredOf, StorableType};
+ghost use Rattle.types.specs.inside.tables.Registry.{viewIn};
+ghost use Rattle.types.specs.layout.Structs.{namesOf, rowsOf, namedIn, laidKind, stringParts, stringSize};
+ghost use Rattle.types.specs.declared.adding.progress.Progress.the-variants.{Added};
+ghost use Rattle.types.specs.declared.tables.member.StructKind.the-variants.{Str};
+use crate::adding::new_row::bare_head;
+use crate::adding::new_row::enter;
+use crate::adding::progress::Progress;
+use crate::adding::used::Used;
+use crate::adding::used::has_room;
+use crate::adding::used::used_more;
+use crate::layout::aoi::count_bools;
+use crate::layout::aoi::hosts_for;
+use crate::layout::aoi::measure_aoi;
+use crate::layout::aoi::store_aoi;
+use crate::layout::fixed::put_string;
+use crate::layout::fixed::string_size;
+use crate::layout::measure::Measured;
+use crate::layout::udt::measure_udt;
+use crate::layout::udt::rounded_size;
+use crate::layout::udt::store_udt;
+use crate::refusals::refusal::Refusal;
+use crate::tables::lent::MemberTable;
+use crate::tables::lent::NameTable;
+use crate::tables::lent::TypeTable;
+use crate::tables::lent::put_bytes;
+use crate::tables::member::StructKind;
 use words::wide;
 
 // A type of the book that is added: its number there, where its members' entries begin, how many there are, whether it
@@ -109,7 +110,7 @@ pub fn add_laid(
     types: &mut TypeTable,
     members: &mut MemberTable,
     names: &mut NameTable,
-) -> Turn
+) -> Progress
     requires { ⌜ Addable (now types) (now members) (now names) (now book) (now tys) (now name)
         (new .used) (new .at) (new .count) ⌝ }
     ensures { λ r. ⌜ Took (addLaid (viewIn (now (types .entry)) (now (names .entry)) (new .used)) (now (book .entry))
@@ -121,25 +122,25 @@ pub fn add_laid(
     let m = measure_type(types, book, tys, new, name);
     match m {
         Measured::AccessWrong => {
-            return Turn::Refused(Refusal::AccessWrong(new.number));
+            return Progress::Refused(Refusal::AccessWrong(new.number));
         }
         Measured::TooFar => {
-            return Turn::Refused(Refusal::MemberTooFar(new.number));
+            return Progress::Refused(Refusal::MemberTooFar(new.number));
         }
         Measured::Laid(c, long) => {
             let bytes = name.len() + wide(long);
             let room = has_room(new.used, wide(c.members), bytes);
             if room {
-                let size = size_at(c);
+                let size = rounded_size(c);
                 let kind = laid_kind(new.aoi);
                 put_bytes(names, new.used.bytes, name);
                 store_type(types, book, tys, new, name, members, names);
                 let head = bare_head(new.used, name.len(), new.id, size, kind, c.members);
                 enter(types, members, names, new.used.types, head);
                 let more = used_more(new.used, wide(c.members), bytes);
-                return Turn::Added(more);
+                return Progress::Added(more);
             }
-            return Turn::Refused(Refusal::TablesFull(new.number));
+            return Progress::Refused(Refusal::TablesFull(new.number));
         }
     }
 }
@@ -178,7 +179,7 @@ pub fn add_string(
     types: &mut TypeTable,
     members: &mut MemberTable,
     names: &mut NameTable,
-) -> Turn
+) -> Progress
     requires { ⌜ AddableString (now types) (now members) (now names) (now name) (new .used) ⌝ }
     requires { ⌜ capacity ≤ 2 ^ 26 - 4 ⌝ }
     ensures { λ r. ⌜ Took (fitted (viewIn (now (types .entry)) (now (names .entry)) (new .used)) (new .number)
@@ -190,7 +191,7 @@ pub fn add_string(
     let room = has_room(new.used, 2, name.len() + 7);
     if room {
         let more = store_string(types, members, names, new.used, new.id, name, capacity);
-        return Turn::Added(more);
+        return Progress::Added(more);
     }
-    Turn::Refused(Refusal::TablesFull(new.number))
+    Progress::Refused(Refusal::TablesFull(new.number))
 }

@@ -1,26 +1,17 @@
-// How much of the lent tables is used, and what a waiting type's turn in a round gives (document 01, "Order of
-// building").
+// How much of the lent tables is used (document 01, "Declaration book": the tables; refusal 13).
 ghost use mathlib.Core.Path.{_≡_};
 ghost use Prim.Native.Nat.{_+_, _<_, _≤_, _^_};
-ghost use Rattle.types.specs.Add.{hasRoom};
-ghost use Rattle.types.specs.Registry.{usedWith};
-use crate::refusal::Refusal;
-use crate::tables::MEMBERS;
-use crate::tables::NAME_BYTES;
-use crate::tables::TYPES;
+ghost use Rattle.types.specs.adding.Add.{hasRoom};
+ghost use Rattle.types.specs.inside.tables.Registry.{usedWith};
+use crate::tables::lent::MEMBERS;
+use crate::tables::lent::NAME_BYTES;
+use crate::tables::lent::TYPES;
 
 // So many types, members and bytes of names stand in the tables.
 pub struct Used {
     pub types: usize,
     pub members: usize,
     pub bytes: usize,
-}
-
-// A type waits, is refused, or was added, and so much is used then.
-pub enum Turn {
-    Waits,
-    Refused(Refusal),
-    Added(Used),
 }
 
 // The tables have room for one more type, with so many members and bytes of names.

@@ -1,9 +1,10 @@
 // The fifteen atomic types (document 01, "Atomic types"). Code, size and name of each stand in one
 // table; BYTE, WORD, DWORD and LWORD are bit strings.
 ghost use mathlib.Core.Path.{_≡_};
-ghost use Rattle.types.specs.Atomic.{atomics, codeAt, rowOf, rowsOf, codeOf, sizeOf, bitString, hasBits};
-ghost use Rattle.types.specs.Atomic.{codeNamed, codeGiven, saidBy, Numbered};
-use crate::names::same_name;
+ghost use Rattle.types.specs.atomics.Atomic.{atomics, codeAt, rowOf, codeOf, sizeOf, bitString, hasBits};
+ghost use Rattle.types.specs.atomics.Atomic.{codeNamed, codeGiven, saidBy, Numbered};
+ghost use Rattle.types.specs.inside.atomics.Atomic.{tableRows};
+use crate::book::names::same_name;
 
 pub enum Atomic {
     Bool,
@@ -51,7 +52,7 @@ const ATOMICS: [AtomicRow; 15] = [
 ];
 
 fn table() -> [AtomicRow; 15]
-    ensures { λ r. ⌜ r ≡ rowsOf atomics ⌝ }
+    ensures { λ r. ⌜ r ≡ tableRows atomics ⌝ }
 {
     ATOMICS
 }

@@ -1,13 +1,13 @@
 // A type's header (document 01, "Atomic types"): an atomic's code and 0, or A0 02 and the structure's handle.
 ghost use mathlib.Core.Path.{_≡_};
-ghost use Rattle.types.specs.Header.{held, headerOf, handlesIn, headedOf, saidBy};
-ghost use Rattle.types.specs.Tables.{TyFits};
-use crate::member::Ty;
-use crate::refusal::Refusal;
-use crate::shape::Fit;
-use crate::shape::is_there;
-use crate::tables::TypeTable;
-use crate::tables::type_row;
+ghost use Rattle.types.specs.atomics.Header.{held, headerOf, handlesIn, headedOf, saidBy};
+ghost use Rattle.types.specs.inside.tables.Lent.{TyFits};
+use crate::refusals::fit::Fit;
+use crate::refusals::refusal::Refusal;
+use crate::tables::lent::TypeTable;
+use crate::tables::lent::type_row;
+use crate::tables::member::Ty;
+use crate::tables::there::is_there;
 use words::high8;
 use words::low8;
 

@@ -1,19 +1,34 @@
-// Looking a type up by its name (document 01, "Atomic types": names compare without ASCII case): an atomic
-// first, then the types in order.
+// Types by their names (document 01, "Atomic types": names compare without ASCII case): an atomic first, then the types
+// in order.
 ghost use mathlib.Core.Path.{_≡_};
+ghost use Rattle.types.specs.atomics.Lookup.{rowNames, saidBy, wordAmong, rowName, namedAmong};
+ghost use Rattle.types.specs.tables.Kept.{KeptNames};
+ghost use Rattle.types.specs.tables.Registry.{typeCount};
 ghost use Prim.Native.Nat.{_+_, _-_, _<_, _≤_};
 ghost use lib.ListN.{length};
-ghost use Rattle.types.specs.Book.{listFrom};
-ghost use Rattle.types.specs.Lookup.{NamesInside, rowName, namedAmong, typeOf};
-ghost use Rattle.types.specs.Names.{sameName};
-ghost use Rattle.types.specs.Tables.{typeAt};
-use crate::atomic::Atomic;
-use crate::atomic::FoundAtomic;
-use crate::member::Ty;
-use crate::names::same_name;
-use crate::tables::TYPE_WORDS;
-use crate::tables::TypeTable;
+ghost use Rattle.types.specs.book.Contents.{listFrom};
+ghost use Rattle.types.specs.book.Names.{sameName};
+ghost use Rattle.types.specs.inside.atomics.Lookup.{NamesInside, typeOf};
+ghost use Rattle.types.specs.tables.Lent.{typeAt};
+use crate::atomics::atomic::Atomic;
+use crate::atomics::atomic::FoundAtomic;
+use crate::book::names::same_name;
+use crate::tables::count::type_count;
+use crate::tables::lent::NameTable;
+use crate::tables::lent::TYPE_WORDS;
+use crate::tables::lent::TypeTable;
+use crate::tables::member::Ty;
 use words::wide;
+
+// The type of a name: an atomic, else the first structure of the tables.
+pub fn find(types: &TypeTable, names: &NameTable, name: &[u8]) -> FoundTy
+    requires { ⌜ KeptNames (now types) (now names) ⌝ }
+    ensures { λ r. ⌜ saidBy r ≡ wordAmong
+        (rowNames (now (types .entry)) (now (names .entry)) (typeCount (now (types .entry)))) (now (name .entry)) ⌝ }
+{
+    let n = type_count(types);
+    lookup(types, names, n, name)
+}
 
 // A type, where one was found.
 pub enum FoundTy {

@@ -2,18 +2,19 @@
 // as a declaration that a layout can place.
 ghost use mathlib.Core.Path.{_≡_};
 ghost use Prim.Native.Nat.{_+_, min};
-ghost use Rattle.types.specs.Entries.{plain as plainOf, resolved as resolvedOf, declAt, Found};
-ghost use Rattle.types.specs.Waste.{sizesIn};
-ghost use Rattle.types.specs.Tables.{TyFits};
-use crate::atomic::Atomic;
-use crate::book::entry_at;
-use crate::layout::Decl;
-use crate::layout::is_bool;
-use crate::member::Span;
-use crate::member::Ty;
-use crate::tables::TypeTable;
-use crate::tables::ty_of;
-use crate::tables::type_row;
+ghost use Rattle.types.specs.book.Decls.{plain as plainOf, resolved as resolvedOf};
+ghost use Rattle.types.specs.inside.book.Decls.{declAt, Found};
+ghost use Rattle.types.specs.inside.tables.Lent.{TyFits};
+ghost use Rattle.types.specs.tables.Sizes.{sizesIn};
+use crate::atomics::atomic::Atomic;
+use crate::book::contents::entry_at;
+use crate::layout::placing::Decl;
+use crate::layout::placing::is_bool;
+use crate::tables::lent::TypeTable;
+use crate::tables::lent::ty_of;
+use crate::tables::lent::type_row;
+use crate::tables::member::Span;
+use crate::tables::member::Ty;
 use words::wide8;
 use words::wide16;
 

@@ -1,7 +1,7 @@
 // Names (document 01, "Declaration book"): the rule that a declared name meets, and equality without
 // ASCII case.
 ghost use mathlib.Core.Path.{_≡_};
-ghost use Rattle.types.specs.Names.{lowerOf, sameName, nameByte, goodName};
+ghost use Rattle.types.specs.book.Names.{lowerOf, sameName, nameByte, goodName};
 
 // A capital letter as its small one; any other byte as it is.
 pub fn lower(x: u8) -> u8

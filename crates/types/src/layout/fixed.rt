@@ -4,15 +4,16 @@ ghost use mathlib.Core.Path.{_≡_};
 ghost use Prim.Native.Nat.{_+_, _*_, _/_, _≤_};
 ghost use lib.ListN.{length};
 ghost use lib.Seq.{sets};
-ghost use Rattle.types.specs.Structs.{namesOf, rowsOf, dintAt, dataOf, stringParts, stringSize};
-ghost use Rattle.types.specs.Structs.{ctlAt, statusAt, statusParts, controlOf, pairs, BitsFit, ControlFits};
-use crate::atomic::Atomic;
-use crate::member::Bit;
-use crate::member::Member;
-use crate::member::Ty;
-use crate::store::put_part;
-use crate::tables::MemberTable;
-use crate::tables::NameTable;
+ghost use Rattle.types.specs.inside.layout.Structs.{controlOf, pairs, BitsFit, ControlFits};
+ghost use Rattle.types.specs.layout.Structs.{namesOf, rowsOf, dintAt, dataOf, stringParts, stringSize, ctlAt};
+ghost use Rattle.types.specs.layout.Structs.{statusAt, statusParts};
+use crate::atomics::atomic::Atomic;
+use crate::layout::store::put_part;
+use crate::tables::lent::MemberTable;
+use crate::tables::lent::NameTable;
+use crate::tables::member::Bit;
+use crate::tables::member::Member;
+use crate::tables::member::Ty;
 
 // A visible DINT at an offset.
 fn dint_at(offset: u32) -> Member

@@ -4,9 +4,10 @@ ghost use mathlib.Core.Path.{_≡_};
 ghost use Prim.Native.Nat.{_+_, _<_, _≤_, _%_, min};
 ghost use lib.ListN.{length};
 ghost use lib.Seq.{sets};
-ghost use Rattle.types.specs.Digits.{Spelled, HostLong, TwoDigits, hostName};
-use crate::tables::NameTable;
-use words::copy;
+ghost use Rattle.types.specs.inside.layout.HostNames.{Spelled, HostLong, TwoDigits};
+ghost use Rattle.types.specs.layout.HostNames.{hostName};
+use crate::tables::lent::NameTable;
+use crate::tables::lent::put_bytes;
 
 // A number's digits: the first `long` of these bytes.
 pub struct Digits {
@@ -66,14 +67,6 @@ fn spell(x: u32) -> Digits
         bytes: [a, b, c, d, e, f],
         long: 6,
     }
-}
-
-// Bytes among the names, from a place on; the other bytes stay.
-pub fn put_bytes(names: &mut NameTable, at: usize, s: &[u8])
-    requires { ⌜ at + length (now s) ≤ 32768 ⌝ }
-    ensures { λ _. ⌜ now (names .exit) ≡ sets (now (names .entry)) at (now (s .entry)) ⌝ }
-{
-    copy(names, at, s);
 }
 
 fn at_most_ten(n: usize) -> usize

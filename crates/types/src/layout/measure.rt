@@ -2,16 +2,16 @@
 // do not. Nothing is stored before all is known.
 ghost use mathlib.Core.Path.{_≡_};
 ghost use Prim.Native.Nat.{_+_};
-ghost use Rattle.types.specs.Digits.{hostName};
-ghost use Rattle.types.specs.Entries.{declsFrom};
-ghost use Rattle.types.specs.Passes.{measureOne, measured, Near, Measurable};
-use crate::digits::host_long;
-use crate::entries::decl_at;
-use crate::layout::Cursor;
-use crate::layout::Decl;
-use crate::layout::Placed;
-use crate::layout::place;
-use crate::tables::TypeTable;
+ghost use Rattle.types.specs.inside.book.Decls.{declsFrom};
+ghost use Rattle.types.specs.inside.layout.Passes.{measureOne, measured, Near, Measurable};
+ghost use Rattle.types.specs.layout.HostNames.{hostName};
+use crate::book::decls::decl_at;
+use crate::layout::host_names::host_long;
+use crate::layout::placing::Cursor;
+use crate::layout::placing::Decl;
+use crate::layout::placing::Placed;
+use crate::layout::placing::place;
+use crate::tables::lent::TypeTable;
 
 // How far a layout came, and how many bytes its names have; or which of the two refusals it meets first.
 pub enum Measured {

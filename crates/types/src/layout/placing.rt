@@ -1,13 +1,14 @@
 // Layout (document 01, "Layout"): where one declared member goes. A cursor holds how far the layout has
 // come, with the open host of the BOOLs; placing a member answers what lies where, and the next cursor.
 ghost use mathlib.Core.Path.{_≡_};
-ghost use Rattle.types.specs.Layout.{memberEnd, saidBy, Times, accessOk, isBool, alignUp, Aligned};
-ghost use Rattle.types.specs.Layout.{Able, opened as openedOf, nextBit, placeBool, closed, placeOther, placed};
-use crate::atomic::Atomic;
-use crate::member::Bit;
-use crate::member::Member;
-use crate::member::Span;
-use crate::member::Ty;
+ghost use Rattle.types.specs.inside.layout.Placing.{Times, Aligned, Able};
+ghost use Rattle.types.specs.layout.Placing.{memberEnd, saidBy, accessOk, isBool, alignUp, opened as openedOf};
+ghost use Rattle.types.specs.layout.Placing.{nextBit, placeBool, closed, placeOther, placed};
+use crate::atomics::atomic::Atomic;
+use crate::tables::member::Bit;
+use crate::tables::member::Member;
+use crate::tables::member::Span;
+use crate::tables::member::Ty;
 use words::wide64;
 
 // The most bytes of a member's end.

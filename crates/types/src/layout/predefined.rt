@@ -2,23 +2,26 @@
 // STRING, the first four types of every registry, under the ids that the caller gives (else refusal 22).
 ghost use mathlib.Core.Path.{_≡_};
 ghost use mathlib.Core.Bool.{true};
-ghost use Rattle.types.specs.declared.member.StructKind.the-variants.{Predefined};
-ghost use Rattle.types.specs.declared.used.Turn.the-variants.{Added};
-ghost use Rattle.types.specs.Add.{Took, yes, newDef};
-ghost use Rattle.types.specs.Predefined.{predefinedId, distinct, predefinedIds, predefined, ControlReady};
-ghost use Rattle.types.specs.Registry.{viewIn, noTypes, noMembers, noNames, Stands};
-ghost use Rattle.types.specs.Structs.{controlOf};
-use crate::digits::put_bytes;
-use crate::fixed::put_control;
-use crate::member::StructKind;
-use crate::new_row::bare_head;
-use crate::new_row::enter;
-use crate::new_types::store_string;
-use crate::tables::MemberTable;
-use crate::tables::NameTable;
-use crate::tables::TypeTable;
-use crate::used::Used;
-use crate::used::used_more;
+ghost use Rattle.types.specs.adding.Add.{yes, newDef};
+ghost use Rattle.types.specs.inside.adding.Add.{Took};
+ghost use Rattle.types.specs.inside.layout.Predefined.{ControlReady};
+ghost use Rattle.types.specs.inside.layout.Structs.{controlOf};
+ghost use Rattle.types.specs.inside.tables.Registry.{viewIn, Stands};
+ghost use Rattle.types.specs.layout.Predefined.{predefinedId, distinct, predefinedIds, predefined};
+ghost use Rattle.types.specs.tables.Registry.{noTypes, noMembers, noNames};
+ghost use Rattle.types.specs.declared.adding.progress.Progress.the-variants.{Added};
+ghost use Rattle.types.specs.declared.tables.member.StructKind.the-variants.{Predefined};
+use crate::adding::new_row::bare_head;
+use crate::adding::new_row::enter;
+use crate::adding::new_types::store_string;
+use crate::adding::used::Used;
+use crate::adding::used::used_more;
+use crate::layout::fixed::put_control;
+use crate::tables::lent::MemberTable;
+use crate::tables::lent::NameTable;
+use crate::tables::lent::TypeTable;
+use crate::tables::lent::put_bytes;
+use crate::tables::member::StructKind;
 
 // The ids that the caller gives for the four predefined types.
 pub struct PredefinedIds {

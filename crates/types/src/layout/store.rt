@@ -4,27 +4,25 @@ ghost use Prim.Native.Nat.{_+_, _*_, _<_, _≤_};
 ghost use mathlib.Core.List.{[], _∷_};
 ghost use lib.ListN.{length};
 ghost use lib.Seq.{sets};
-ghost use Rattle.types.specs.Digits.{hostName};
-ghost use Rattle.types.specs.Passes.{oneParts, storedOne, Fits};
-ghost use Rattle.types.specs.Structs.{namesOf, rowsOf, named};
-ghost use Rattle.types.specs.Passes.{partsFrom, Storable};
-ghost use Rattle.types.specs.Structs.{namedIn};
-ghost use Rattle.types.specs.Entries.{declsFrom};
-ghost use Rattle.types.specs.Tables.{TyFits};
-use crate::digits::host_long;
-use crate::digits::put_bytes;
-use crate::digits::put_host_name;
-use crate::entries::decl_at;
-use crate::layout::Cursor;
-use crate::layout::Decl;
-use crate::layout::Placed;
-use crate::layout::place;
-use crate::member::Member;
-use crate::member::Span;
-use crate::tables::MemberTable;
-use crate::tables::NameTable;
-use crate::tables::TypeTable;
-use crate::tables::put_member;
+ghost use Rattle.types.specs.inside.book.Decls.{declsFrom};
+ghost use Rattle.types.specs.inside.layout.Passes.{oneParts, storedOne, StepFits, partsFrom, Storable};
+ghost use Rattle.types.specs.inside.tables.Lent.{TyFits};
+ghost use Rattle.types.specs.layout.HostNames.{hostName};
+ghost use Rattle.types.specs.layout.Structs.{namesOf, rowsOf, named, namedIn};
+use crate::book::decls::decl_at;
+use crate::layout::host_names::host_long;
+use crate::layout::host_names::put_host_name;
+use crate::layout::placing::Cursor;
+use crate::layout::placing::Decl;
+use crate::layout::placing::Placed;
+use crate::layout::placing::place;
+use crate::tables::lent::MemberTable;
+use crate::tables::lent::NameTable;
+use crate::tables::lent::TypeTable;
+use crate::tables::lent::put_bytes;
+use crate::tables::lent::put_member;
+use crate::tables::member::Member;
+use crate::tables::member::Span;
 use words::wide;
 
 // A member's row, and its name among the names.
@@ -104,7 +102,7 @@ fn store_one(
     names: &mut NameTable,
     at: usize,
 ) -> Stored
-    requires { ⌜ Fits (now book) (now name) c d row at ⌝ }
+    requires { ⌜ StepFits (now book) (now name) c d row at ⌝ }
     ensures next { λ r. ⌜ r ≡ storedOne (now (name .entry)) c d row at ⌝ }
     ensures rows { λ _. ⌜ now (members .exit) ≡ sets (now (members .entry)) (8 * row)
         (rowsOf at (oneParts (now (book .entry)) (now (name .entry)) c d)) ⌝ }

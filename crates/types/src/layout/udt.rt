@@ -2,24 +2,24 @@
 ghost use mathlib.Core.Path.{_≡_};
 ghost use Prim.Native.Nat.{_*_, _^_, _≤_};
 ghost use lib.Seq.{sets};
-ghost use Rattle.types.specs.Digits.{hostName};
-ghost use Rattle.types.specs.Entries.{declsFrom, Found};
-ghost use Rattle.types.specs.Passes.{udtParts, measured, Storable};
-ghost use Rattle.types.specs.Structs.{namesOf, rowsOf, namedIn, sizeAt, udtStart};
-use crate::layout::Cursor;
-use crate::layout::Host;
-use crate::layout::align_up;
-use crate::measure::Measured;
-use crate::measure::measure;
-use crate::store::store;
-use crate::tables::MemberTable;
-use crate::tables::NameTable;
-use crate::tables::TypeTable;
+ghost use Rattle.types.specs.inside.book.Decls.{declsFrom, Found};
+ghost use Rattle.types.specs.inside.layout.Passes.{udtParts, measured, Storable};
+ghost use Rattle.types.specs.layout.HostNames.{hostName};
+ghost use Rattle.types.specs.layout.Structs.{namesOf, rowsOf, namedIn, roundedSize, udtStart};
+use crate::layout::measure::Measured;
+use crate::layout::measure::measure;
+use crate::layout::placing::Cursor;
+use crate::layout::placing::Host;
+use crate::layout::placing::align_up;
+use crate::layout::store::store;
+use crate::tables::lent::MemberTable;
+use crate::tables::lent::NameTable;
+use crate::tables::lent::TypeTable;
 
 // The size of what was laid out so far.
-pub fn size_at(c: Cursor) -> u32
+pub fn rounded_size(c: Cursor) -> u32
     requires { ⌜ c .offset ≤ 2 ^ 27 ⌝ }
-    ensures { λ r. ⌜ r ≡ sizeAt c ⌝ }
+    ensures { λ r. ⌜ r ≡ roundedSize c ⌝ }
 {
     align_up(c.offset, 4)
 }

@@ -5,34 +5,34 @@ ghost use Prim.Native.Nat.{_+_, _%_, _<_, _≤_};
 ghost use mathlib.Core.Bool.{true};
 ghost use mathlib.Core.List.{[], _∷_};
 ghost use lib.ListN.{length};
-ghost use Rattle.types.specs.Atomic.{nameOf};
-ghost use Rattle.types.specs.Defs.{nameIn};
-ghost use Rattle.types.specs.Digits.{digits};
-ghost use Rattle.types.specs.Given.{Given};
-ghost use Rattle.types.specs.Kept.{Kept};
-ghost use Rattle.types.specs.Listing.{ended, line, typeNumbers, seen, bitText, memberPlace, refusedLine};
-ghost use Rattle.types.specs.Listing.{typeName, structNames, typeLineIn, memberLineIn, TypeNamed, Listable};
-ghost use Rattle.types.specs.Listing.{Fits, Added, Lined, Spelt, hasMember};
-ghost use Rattle.types.specs.Tables.{typeAt};
-ghost use Rattle.types.specs.Template.{hasTemplate};
-use crate::atomic::Atomic;
-use crate::given::Wrote;
-use crate::given::give;
-use crate::member::Bit;
-use crate::member::Member;
-use crate::member::Span;
-use crate::member::StructDef;
-use crate::member::Ty;
-use crate::refusal::Refusal;
-use crate::shape::is_there;
-use crate::tables::MemberTable;
-use crate::tables::NameTable;
-use crate::tables::TypeTable;
-use crate::tables::member_row;
-use crate::tables::name_row;
-use crate::tables::type_row;
-use crate::templates::template_bytes;
-use crate::waste_bits::lost_bits;
+ghost use Rattle.types.specs.atomics.Atomic.{nameOf};
+ghost use Rattle.types.specs.inside.listing.Lines.{TypeNamed, Listable, FieldFits, FieldPut, Lined, Spelt};
+ghost use Rattle.types.specs.layout.HostNames.{digits};
+ghost use Rattle.types.specs.listing.Lines.{ended, line, typeNumbers, seen, bitText, memberPlace, refusedLine};
+ghost use Rattle.types.specs.listing.Lines.{printedType, structNames, typeLineIn, memberLineIn, hasMember};
+ghost use Rattle.types.specs.refusals.Given.{Given};
+ghost use Rattle.types.specs.tables.Defs.{nameIn};
+ghost use Rattle.types.specs.tables.Kept.{Kept};
+ghost use Rattle.types.specs.tables.Lent.{typeAt};
+ghost use Rattle.types.specs.templates.Template.{hasTemplate};
+use crate::atomics::atomic::Atomic;
+use crate::refusals::given::Wrote;
+use crate::refusals::given::give;
+use crate::refusals::refusal::Refusal;
+use crate::tables::lent::MemberTable;
+use crate::tables::lent::NameTable;
+use crate::tables::lent::TypeTable;
+use crate::tables::lent::member_row;
+use crate::tables::lent::name_row;
+use crate::tables::lent::type_row;
+use crate::tables::member::Bit;
+use crate::tables::member::Member;
+use crate::tables::member::Span;
+use crate::tables::member::StructDef;
+use crate::tables::member::Ty;
+use crate::tables::there::is_there;
+use crate::templates::template::template_bytes;
+use crate::templates::waste::lost_bits;
 use words::copy;
 use words::wide;
 use words::wide16;
@@ -72,8 +72,8 @@ fn decimal_of(x: u64) -> Decimal
 
 // Some bytes from a place on; answers the place after them, as all these functions do.
 fn put_text(out: &mut [u8], at: usize, s: &[u8]) -> usize
-    requires { ⌜ Fits (now s) at (now out) ⌝ }
-    ensures { λ r. ⌜ Added (now (s .entry)) at (now (out .entry)) r (now (out .exit)) ⌝ }
+    requires { ⌜ FieldFits (now s) at (now out) ⌝ }
+    ensures { λ r. ⌜ FieldPut (now (s .entry)) at (now (out .entry)) r (now (out .exit)) ⌝ }
 {
     copy(out, at, s);
     at + s.len()
@@ -81,8 +81,8 @@ fn put_text(out: &mut [u8], at: usize, s: &[u8]) -> usize
 
 // A number's digits.
 fn put_decimal(out: &mut [u8], at: usize, x: u64) -> usize
-    requires { ⌜ Fits (digits x) at (now out) ⌝ }
-    ensures { λ r. ⌜ Added (digits x) at (now (out .entry)) r (now (out .exit)) ⌝ }
+    requires { ⌜ FieldFits (digits x) at (now out) ⌝ }
+    ensures { λ r. ⌜ FieldPut (digits x) at (now (out .entry)) r (now (out .exit)) ⌝ }
 {
     let d = decimal_of(x);
     let bytes = d.bytes;
@@ -92,8 +92,8 @@ fn put_decimal(out: &mut [u8], at: usize, x: u64) -> usize
 
 // The byte that ends a field: a space, or a newline after the last.
 fn put_stop(out: &mut [u8], at: usize, stop: u8) -> usize
-    requires { ⌜ Fits (stop ∷ []) at (now out) ⌝ }
-    ensures { λ r. ⌜ Added (stop ∷ []) at (now (out .entry)) r (now (out .exit)) ⌝ }
+    requires { ⌜ FieldFits (stop ∷ []) at (now out) ⌝ }
+    ensures { λ r. ⌜ FieldPut (stop ∷ []) at (now (out .entry)) r (now (out .exit)) ⌝ }
 {
     out[at] = stop;
     at + 1
@@ -101,8 +101,8 @@ fn put_stop(out: &mut [u8], at: usize, stop: u8) -> usize
 
 // A field of some bytes.
 fn put_field(out: &mut [u8], at: usize, s: &[u8], stop: u8) -> usize
-    requires { ⌜ Fits (ended (now s) stop) at (now out) ⌝ }
-    ensures { λ r. ⌜ Added (ended (now (s .entry)) stop) at (now (out .entry)) r (now (out .exit)) ⌝ }
+    requires { ⌜ FieldFits (ended (now s) stop) at (now out) ⌝ }
+    ensures { λ r. ⌜ FieldPut (ended (now (s .entry)) stop) at (now (out .entry)) r (now (out .exit)) ⌝ }
 {
     let next = put_text(out, at, s);
     put_stop(out, next, stop)
@@ -110,8 +110,8 @@ fn put_field(out: &mut [u8], at: usize, s: &[u8], stop: u8) -> usize
 
 // A field that is a number.
 fn put_number(out: &mut [u8], at: usize, x: u64, stop: u8) -> usize
-    requires { ⌜ Fits (ended (digits x) stop) at (now out) ⌝ }
-    ensures { λ r. ⌜ Added (ended (digits x) stop) at (now (out .entry)) r (now (out .exit)) ⌝ }
+    requires { ⌜ FieldFits (ended (digits x) stop) at (now out) ⌝ }
+    ensures { λ r. ⌜ FieldPut (ended (digits x) stop) at (now (out .entry)) r (now (out .exit)) ⌝ }
 {
     let next = put_decimal(out, at, x);
     put_stop(out, next, stop)
@@ -120,8 +120,8 @@ fn put_number(out: &mut [u8], at: usize, x: u64, stop: u8) -> usize
 // A field that is a name of the table.
 fn put_name(out: &mut [u8], at: usize, names: &[u8], name: Span, stop: u8) -> usize
     requires { ⌜ (name .at + name .long ≤ length (now names))
-        × Fits (ended (nameIn (now names) name) stop) at (now out) ⌝ }
-    ensures { λ r. ⌜ Added (ended (nameIn (now (names .entry)) name) stop) at
+        × FieldFits (ended (nameIn (now names) name) stop) at (now out) ⌝ }
+    ensures { λ r. ⌜ FieldPut (ended (nameIn (now (names .entry)) name) stop) at
         (now (out .entry)) r (now (out .exit)) ⌝ }
 {
     let from = wide(name.at);
@@ -131,8 +131,8 @@ fn put_name(out: &mut [u8], at: usize, names: &[u8], name: Span, stop: u8) -> us
 
 // A field that is an atomic's name.
 fn put_atomic(out: &mut [u8], at: usize, a: Atomic) -> usize
-    requires { ⌜ Fits (ended (nameOf a) 32) at (now out) ⌝ }
-    ensures { λ r. ⌜ Added (ended (nameOf a) 32) at (now (out .entry)) r (now (out .exit)) ⌝ }
+    requires { ⌜ FieldFits (ended (nameOf a) 32) at (now out) ⌝ }
+    ensures { λ r. ⌜ FieldPut (ended (nameOf a) 32) at (now (out .entry)) r (now (out .exit)) ⌝ }
 {
     let row = a.row();
     let bytes = row.3;
@@ -143,8 +143,8 @@ fn put_atomic(out: &mut [u8], at: usize, a: Atomic) -> usize
 // A member's stored type.
 fn put_type_name(types: &TypeTable, names: &[u8], ty: Ty, out: &mut [u8], at: usize) -> usize
     requires { ⌜ TypeNamed (now types) ty × ((length (now names) ≡ 32768)
-        × Fits (ended (typeName (structNames (now types) (now names)) ty) 32) at (now out)) ⌝ }
-    ensures { λ r. ⌜ Added (ended (typeName (structNames (now (types .entry)) (now (names .entry))) ty) 32) at
+        × FieldFits (ended (printedType (structNames (now types) (now names)) ty) 32) at (now out)) ⌝ }
+    ensures { λ r. ⌜ FieldPut (ended (printedType (structNames (now (types .entry)) (now (names .entry))) ty) 32) at
         (now (out .entry)) r (now (out .exit)) ⌝ }
 {
     match ty {
@@ -160,8 +160,8 @@ fn put_type_name(types: &TypeTable, names: &[u8], ty: Ty, out: &mut [u8], at: us
 
 // Whether a member is hidden or visible.
 fn put_seen(out: &mut [u8], at: usize, hidden: bool) -> usize
-    requires { ⌜ Fits (ended (seen hidden) 32) at (now out) ⌝ }
-    ensures { λ r. ⌜ Added (ended (seen hidden) 32) at (now (out .entry)) r (now (out .exit)) ⌝ }
+    requires { ⌜ FieldFits (ended (seen hidden) 32) at (now out) ⌝ }
+    ensures { λ r. ⌜ FieldPut (ended (seen hidden) 32) at (now (out .entry)) r (now (out .exit)) ⌝ }
 {
     if hidden {
         return put_field(out, at, b"h", b' ');
@@ -171,8 +171,8 @@ fn put_seen(out: &mut [u8], at: usize, hidden: bool) -> usize
 
 // A member's bit.
 fn put_bit(out: &mut [u8], at: usize, bit: Bit) -> usize
-    requires { ⌜ Fits (ended (bitText bit) 32) at (now out) ⌝ }
-    ensures { λ r. ⌜ Added (ended (bitText bit) 32) at (now (out .entry)) r (now (out .exit)) ⌝ }
+    requires { ⌜ FieldFits (ended (bitText bit) 32) at (now out) ⌝ }
+    ensures { λ r. ⌜ FieldPut (ended (bitText bit) 32) at (now (out .entry)) r (now (out .exit)) ⌝ }
 {
     match bit {
         Bit::None => {
@@ -186,8 +186,8 @@ fn put_bit(out: &mut [u8], at: usize, bit: Bit) -> usize
 
 // The numbers of a type line, to its end.
 fn put_numbers(d: StructDef, bytes: u32, bits: u64, out: &mut [u8], at: usize) -> usize
-    requires { ⌜ Fits (line (typeNumbers (d .id) (d .size) (d .count) bytes bits)) at (now out) ⌝ }
-    ensures { λ r. ⌜ Added (line (typeNumbers (d .id) (d .size) (d .count) bytes bits)) at
+    requires { ⌜ FieldFits (line (typeNumbers (d .id) (d .size) (d .count) bytes bits)) at (now out) ⌝ }
+    ensures { λ r. ⌜ FieldPut (line (typeNumbers (d .id) (d .size) (d .count) bytes bits)) at
         (now (out .entry)) r (now (out .exit)) ⌝ }
 {
     let id = wide64(wide16(d.id));
@@ -224,8 +224,8 @@ fn type_line(
 // Where a member is and its name, to the line's end.
 fn put_place(m: Member, names: &[u8], name: Span, out: &mut [u8], at: usize) -> usize
     requires { ⌜ (name .at + name .long ≤ length (now names))
-        × Fits (line (memberPlace m (nameIn (now names) name))) at (now out) ⌝ }
-    ensures { λ r. ⌜ Added (line (memberPlace m (nameIn (now (names .entry)) name))) at
+        × FieldFits (line (memberPlace m (nameIn (now names) name))) at (now out) ⌝ }
+    ensures { λ r. ⌜ FieldPut (line (memberPlace m (nameIn (now (names .entry)) name))) at
         (now (out .entry)) r (now (out .exit)) ⌝ }
 {
     let bit = m.bit;

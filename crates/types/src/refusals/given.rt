@@ -2,8 +2,8 @@
 ghost use Prim.Native.Nat.{_^_, _<_};
 ghost use mathlib.Core.Bool.{true};
 ghost use lib.ListN.{length};
-ghost use Rattle.types.specs.Given.{Given};
-use crate::refusal::Refusal;
+ghost use Rattle.types.specs.refusals.Given.{Given};
+use crate::refusals::refusal::Refusal;
 use words::copy;
 
 // So many bytes, or why there are none.

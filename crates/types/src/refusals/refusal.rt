@@ -1,6 +1,6 @@
 // Refusals (document 01, "Refusal numbers"): a case for each number, with its place where it has one.
 ghost use mathlib.Core.Path.{_≡_};
-ghost use Rattle.types.specs.Refusal.{numberOf, placeOf};
+ghost use Rattle.types.specs.refusals.Refusal.{numberOf, placeOf};
 
 pub enum Refusal {
     BookMalformed,

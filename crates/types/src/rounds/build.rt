@@ -4,25 +4,26 @@ ghost use mathlib.Core.Path.{_≡_};
 ghost use mathlib.Core.Bool.{true};
 ghost use Prim.Native.Nat.{_<_, _≤_};
 ghost use lib.ListN.{length};
-ghost use Rattle.types.specs.Build.{buildOf, Ended, FirstWaits, Cleared, AtMost, Scratch, RunIn};
-ghost use Rattle.types.specs.Predefined.{predefined};
-ghost use Rattle.types.specs.Turns.{roundsFrom};
-use crate::book::book_ok;
-use crate::book::count_of;
-use crate::predefined::PredefinedIds;
-use crate::predefined::ids_ok;
-use crate::predefined::put_predefined;
-use crate::refusal::Refusal;
-use crate::round::Round;
-use crate::round::turns;
-use crate::tables::MEMBER_WORDS;
-use crate::tables::MEMBERS;
-use crate::tables::MemberTable;
-use crate::tables::NAME_BYTES;
-use crate::tables::NameTable;
-use crate::tables::TYPE_WORDS;
-use crate::tables::TYPES;
-use crate::tables::TypeTable;
+ghost use Rattle.types.specs.inside.rounds.Build.{FirstWaits, Cleared, AtMost, Scratch, RunIn};
+ghost use Rattle.types.specs.layout.Predefined.{predefined};
+ghost use Rattle.types.specs.rounds.Build.{buildOf, Ended};
+ghost use Rattle.types.specs.rounds.Turns.{roundsFrom};
+use crate::book::contents::book_ok;
+use crate::book::contents::count_of;
+use crate::layout::predefined::PredefinedIds;
+use crate::layout::predefined::ids_ok;
+use crate::layout::predefined::put_predefined;
+use crate::refusals::refusal::Refusal;
+use crate::rounds::round::Round;
+use crate::rounds::round::one_round;
+use crate::tables::lent::MEMBER_WORDS;
+use crate::tables::lent::MEMBERS;
+use crate::tables::lent::MemberTable;
+use crate::tables::lent::NAME_BYTES;
+use crate::tables::lent::NameTable;
+use crate::tables::lent::TYPE_WORDS;
+use crate::tables::lent::TYPES;
+use crate::tables::lent::TypeTable;
 use words::load16;
 
 // So many types stand in the tables, or the book was refused.
@@ -76,7 +77,7 @@ fn run(
     let mut u = put_predefined(types, members, names, ids);
     let mut left = t;
     while 0 < left {
-        let r = turns(
+        let r = one_round(
             book,
             t,
             u,

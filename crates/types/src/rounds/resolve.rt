@@ -2,14 +2,15 @@
 // its word is kept in a scratch for the layout.
 ghost use mathlib.Core.Path.{_≡_};
 ghost use mathlib.Core.Bool.{true};
-ghost use Rattle.types.specs.Lookup.{rowNames};
-ghost use Rattle.types.specs.Resolve.{typeNames, Resolves, Resolvable, StillIn, Still};
-use crate::book::entry_at;
-use crate::lookups::FoundTy;
-use crate::lookups::find_type;
-use crate::lookups::lookup;
-use crate::tables::TypeTable;
-use crate::tables::word_of;
+ghost use Rattle.types.specs.atomics.Lookup.{rowNames};
+ghost use Rattle.types.specs.inside.rounds.Resolve.{Resolves, Resolvable, StillIn, Still};
+ghost use Rattle.types.specs.rounds.Resolve.{typeNames};
+use crate::atomics::lookup::FoundTy;
+use crate::atomics::lookup::find_type;
+use crate::atomics::lookup::lookup;
+use crate::book::contents::entry_at;
+use crate::tables::lent::TypeTable;
+use crate::tables::lent::word_of;
 use words::wide;
 
 // Looks n members' types up among the first `known` types; answers how many were found before the first that

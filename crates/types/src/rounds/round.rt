@@ -1,14 +1,14 @@
 // One round over the types of a book (document 01, "Order of building"): each type that waits takes its turn.
-ghost use Rattle.types.specs.OneRound.{RoundIn, RoundMade};
-use crate::book::count_of;
-use crate::book::type_entry;
-use crate::refusal::Refusal;
-use crate::tables::MemberTable;
-use crate::tables::NameTable;
-use crate::tables::TypeTable;
-use crate::turn::take_turn;
-use crate::used::Turn;
-use crate::used::Used;
+ghost use Rattle.types.specs.inside.rounds.OneRound.{RoundIn, RoundMade};
+use crate::adding::progress::Progress;
+use crate::adding::used::Used;
+use crate::book::contents::count_of;
+use crate::book::contents::type_entry;
+use crate::refusals::refusal::Refusal;
+use crate::rounds::turn::take_turn;
+use crate::tables::lent::MemberTable;
+use crate::tables::lent::NameTable;
+use crate::tables::lent::TypeTable;
 
 // A type was refused, or so much of the tables is used after the round, and so many types still wait.
 pub enum Round {
@@ -16,9 +16,9 @@ pub enum Round {
     Went(Used, usize),
 }
 
-// The turns of the types that wait, in book order: of the t types of a good book so many, with so much of the tables
+// The one_round of the types that wait, in book order: of the t types of a good book so many, with so much of the tables
 // used.
-pub fn turns(
+pub fn one_round(
     book: &[u8],
     t: usize,
     u: Used,
@@ -48,11 +48,11 @@ pub fn turns(
         if done[i] == 0 {
             let r = take_turn(book, i, at, types, members, names, used, tys, stuck, tried);
             match r {
-                Turn::Waits => {}
-                Turn::Refused(x) => {
+                Progress::Waits => {}
+                Progress::Refused(x) => {
                     return Round::Refused(x);
                 }
-                Turn::Added(next) => {
+                Progress::Added(next) => {
                     used = next;
                     done[i] = 1;
                     rest -= 1;

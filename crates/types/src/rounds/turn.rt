@@ -1,24 +1,25 @@
 // One type's turn in a round (document 01, "Order of building"): it is added when all its member types are
 // known, those of the same round included.
 ghost use Prim.Native.Nat.{_+_};
-ghost use Rattle.types.specs.Add.{addTo};
-ghost use Rattle.types.specs.Checks.{entriesFrom};
-ghost use Rattle.types.specs.Lookup.{rowNames};
-ghost use Rattle.types.specs.Registry.{viewIn};
-ghost use Rattle.types.specs.Order.{allKnown};
-ghost use Rattle.types.specs.Resolve.{typeNames, hasName};
-ghost use Rattle.types.specs.Turns.{countOf, declsOf, TurnIn, Turned, Tries};
-use crate::add::Waiting;
-use crate::add::add_entry;
-use crate::book::count_of;
-use crate::book::type_entry;
-use crate::resolve::resolve;
-use crate::resolve::waits_still;
-use crate::tables::MemberTable;
-use crate::tables::NameTable;
-use crate::tables::TypeTable;
-use crate::used::Turn;
-use crate::used::Used;
+ghost use Rattle.types.specs.adding.Add.{addTo};
+ghost use Rattle.types.specs.adding.Checks.{entriesFrom};
+ghost use Rattle.types.specs.atomics.Lookup.{rowNames};
+ghost use Rattle.types.specs.inside.rounds.Turns.{TurnIn, Turned, Tries};
+ghost use Rattle.types.specs.inside.tables.Registry.{viewIn};
+ghost use Rattle.types.specs.rounds.Order.{allKnown};
+ghost use Rattle.types.specs.rounds.Resolve.{typeNames, hasName};
+ghost use Rattle.types.specs.rounds.Turns.{countOf, declsOf};
+use crate::adding::add::Waiting;
+use crate::adding::add::add_entry;
+use crate::adding::progress::Progress;
+use crate::adding::used::Used;
+use crate::book::contents::count_of;
+use crate::book::contents::type_entry;
+use crate::rounds::resolve::resolve;
+use crate::rounds::resolve::waits_still;
+use crate::tables::lent::MemberTable;
+use crate::tables::lent::NameTable;
+use crate::tables::lent::TypeTable;
 use words::wide;
 use words::wide8;
 
@@ -35,7 +36,7 @@ pub fn take_turn(
     tys: &mut [u16],
     stuck: &mut [u16],
     tried: &mut [u8],
-) -> Turn
+) -> Progress
     requires { ⌜ TurnIn (now types) (now members) (now names) (now book) (now tys) (now stuck) (now tried) i at u ⌝ }
     ensures { λ r. ⌜ (Turned (allKnown hasName (rowNames (now (types .entry)) (now (names .entry)) (u .types))
         (typeNames (now (book .entry)) at 0 (countOf (now (book .entry)) i)))
@@ -53,7 +54,7 @@ pub fn take_turn(
     let still = waits_still(types, names, book, at, k, from, known);
     if still {
         tried[i] = known as u8;
-        return Turn::Waits;
+        return Progress::Waits;
     }
     let e = type_entry(book, i);
     let n = count_of(e.count);
@@ -61,7 +62,7 @@ pub fn take_turn(
     if found < n {
         stuck[i] = found as u16;
         tried[i] = known as u8;
-        return Turn::Waits;
+        return Progress::Waits;
     }
     let start = wide(e.name.at);
     let end = start + wide(e.name.long);

@@ -5,22 +5,23 @@ ghost use Prim.Native.Nat.{_*_};
 ghost use mathlib.Core.Bool.{true};
 ghost use lib.Dec.{leb};
 ghost use lib.ListN.{getD};
-ghost use Rattle.types.specs.Kept.{KeptTypes};
-ghost use Rattle.types.specs.Refusal.{numberOf, placeOf};
-ghost use Rattle.types.specs.Shape.{isThere, mostLengths, noneZero, lengthsOk, boolTag, three, productOf, within};
-ghost use Rattle.types.specs.Shape.{refused as refusedFor, boolShape, plainShape, shapeOf, symbolFor};
-ghost use Rattle.types.specs.Shape.{Plain, symbolSays, saidBy};
-ghost use Rattle.types.specs.Tables.{TyFits};
-ghost use Rattle.types.specs.Waste.{sizesIn};
-use crate::atomic::Atomic;
-use crate::layout::is_bool;
-use crate::member::Ty;
-use crate::pieces::type_in;
-use crate::refusal::Refusal;
-use crate::tables::TYPES;
-use crate::tables::TypeTable;
-use crate::tables::type_row;
-use crate::waste_bits::size_in;
+ghost use Rattle.types.specs.inside.shape.Tags.{productOf, PlainTag};
+ghost use Rattle.types.specs.inside.tables.Lent.{TyFits};
+ghost use Rattle.types.specs.refusals.Refusal.{numberOf, placeOf};
+ghost use Rattle.types.specs.shape.Tags.{mostLengths, noneZero, lengthsOk, boolTag, three, within};
+ghost use Rattle.types.specs.shape.Tags.{refusedShape as refusedFor, boolShape, plainShape, shapeOf, symbolFor};
+ghost use Rattle.types.specs.shape.Tags.{symbolSays, saidBy};
+ghost use Rattle.types.specs.tables.Kept.{KeptTypes};
+ghost use Rattle.types.specs.tables.Sizes.{sizesIn};
+use crate::atomics::atomic::Atomic;
+use crate::layout::placing::is_bool;
+use crate::refusals::fit::Fit;
+use crate::refusals::refusal::Refusal;
+use crate::tables::lent::TypeTable;
+use crate::tables::member::Ty;
+use crate::tables::sizes::size_in;
+use crate::tables::there::is_there;
+use crate::tables::type_word::type_in;
 use words::wide64;
 
 // The most bytes of a tag.
@@ -40,12 +41,6 @@ pub struct Shape {
     pub used: usize,
     pub elements: u64,
     pub bytes: u64,
-}
-
-// Whether there is what was asked for.
-pub enum Fit {
-    Fits,
-    Refused(Refusal),
 }
 
 // A tag's shape, or why there is none; then the shape has zeros. (The array stands beside the enum: one that
@@ -81,25 +76,6 @@ fn refused(why: Refusal) -> Shaped
     Shaped {
         fit: Fit::Refused(why),
         shape: none,
-    }
-}
-
-// An atomic, or a structure of the table.
-pub fn is_there(types: &TypeTable, ty: Ty) -> bool
-    ensures { λ r. ⌜ r ≡ isThere (now (types .entry)) ty ⌝ }
-{
-    match ty {
-        Ty::Atomic(_) => {
-            return true;
-        }
-        Ty::Struct(n) => {
-            if TYPES <= n {
-                return false;
-            }
-            let d = type_row(types, n);
-            let id = d.id;
-            return id != 0;
-        }
     }
 }
 
@@ -234,7 +210,7 @@ fn bool_shape(types: &TypeTable, n: u32) -> Shaped
 
 // A tag of any other type, or of one BOOL.
 fn plain_shape(types: &TypeTable, ty: Ty, lengths: &[u32]) -> Shaped
-    requires { ⌜ Plain ty (now lengths) ⌝ }
+    requires { ⌜ PlainTag ty (now lengths) ⌝ }
     ensures { λ r. ⌜ saidBy r ≡ plainShape (sizesIn (now (types .entry))) ty (now (lengths .entry)) ⌝ }
 {
     let all = multiplied(lengths);

@@ -2,19 +2,30 @@
 // value and stored from one. A template id of 0 marks an unused row. The readers ask for a row of the table;
 // `rows` has those for any number.
 ghost use mathlib.Core.Path.{_≡_};
-ghost use Prim.Native.Nat.{_*_, _<_, _%_};
+ghost use Prim.Native.Nat.{_+_, _<_, _≤_, _%_, _*_};
+ghost use lib.ListN.{length};
 ghost use lib.Seq.{sets};
-ghost use Rattle.types.specs.Registry.{noTypes, noMembers, noNames};
-ghost use Rattle.types.specs.Tables.{tyWord, tyOf, bitWord, bitOf, flagsOf, kindWord, kindOf, TyFits};
-ghost use Rattle.types.specs.Tables.{memberRow, memberAt, nameAt, typeRow, typeAt};
-use crate::atomic::Atomic;
-use crate::member::Bit;
-use crate::member::Member;
-use crate::member::Span;
-use crate::member::StructDef;
-use crate::member::StructKind;
-use crate::member::Ty;
+ghost use Rattle.types.specs.inside.tables.Lent.{TyFits};
+ghost use Rattle.types.specs.tables.Lent.{tyWord, tyOf, bitWord, bitOf, flagsOf, kindWord, kindOf, memberRow};
+ghost use Rattle.types.specs.tables.Lent.{memberAt, nameAt, typeRow, typeAt};
+ghost use Rattle.types.specs.tables.Registry.{noTypes, noMembers, noNames};
+use crate::atomics::atomic::Atomic;
+use crate::tables::member::Bit;
+use crate::tables::member::Member;
+use crate::tables::member::Span;
+use crate::tables::member::StructDef;
+use crate::tables::member::StructKind;
+use crate::tables::member::Ty;
+use words::copy;
 use words::wide;
+
+// Bytes among the names, from a place on; the other bytes stay.
+pub fn put_bytes(names: &mut NameTable, at: usize, s: &[u8])
+    requires { ⌜ at + length (now s) ≤ 32768 ⌝ }
+    ensures { λ _. ⌜ now (names .exit) ≡ sets (now (names .entry)) at (now (s .entry)) ⌝ }
+{
+    copy(names, at, s);
+}
 
 pub const TYPES: usize = 200;
 

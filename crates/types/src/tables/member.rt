@@ -1,5 +1,5 @@
 // What a member and a structure are (document 01, "Atomic types" and "Layout"), as values.
-use crate::atomic::Atomic;
+use crate::atomics::atomic::Atomic;
 
 // A member's type: an atomic, or the number of an earlier structure.
 pub enum Ty {

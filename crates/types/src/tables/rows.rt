@@ -2,21 +2,21 @@
 ghost use mathlib.Core.Path.{_≡_};
 ghost use Prim.Native.Nat.{_*_, _≤_};
 ghost use lib.ListN.{length};
-ghost use Rattle.types.specs.Tables.{memberAt, memberSaid, memberSays, nameAt, typeAt, typeRow, typeSaid};
-use crate::atomic::Atomic;
-use crate::member::Bit;
-use crate::member::Member;
-use crate::member::Span;
-use crate::member::StructDef;
-use crate::member::StructKind;
-use crate::member::Ty;
-use crate::tables::MEMBERS;
-use crate::tables::MemberTable;
-use crate::tables::TYPES;
-use crate::tables::TypeTable;
-use crate::tables::member_row;
-use crate::tables::name_row;
-use crate::tables::type_row;
+ghost use Rattle.types.specs.tables.Lent.{memberAt, memberSaid, memberSays, nameAt, typeAt, typeRow, typeSaid};
+use crate::atomics::atomic::Atomic;
+use crate::tables::lent::MEMBERS;
+use crate::tables::lent::MemberTable;
+use crate::tables::lent::TYPES;
+use crate::tables::lent::TypeTable;
+use crate::tables::lent::member_row;
+use crate::tables::lent::name_row;
+use crate::tables::lent::type_row;
+use crate::tables::member::Bit;
+use crate::tables::member::Member;
+use crate::tables::member::Span;
+use crate::tables::member::StructDef;
+use crate::tables::member::StructKind;
+use crate::tables::member::Ty;
 
 // What stands past the last row. The table is lent for its length alone, which the promise speaks of.
 fn type_past(types: &[u32], i: usize) -> StructDef

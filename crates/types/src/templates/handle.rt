@@ -1,7 +1,7 @@
 // The structure handle (document 01, "Template and handle"): a fold over the template's bytes that can
 // be taken piece by piece, as the template is produced.
 ghost use mathlib.Core.Path.{_≡_};
-ghost use Rattle.types.specs.Handle.{turnOf, foldFrom, notZero, handleOf};
+ghost use Rattle.types.specs.templates.Handle.{foldByte, foldFrom, notZero, handleOf};
 use words::wide8;
 use words::wide16;
 
@@ -9,8 +9,8 @@ use words::wide16;
 pub const START: u16 = 0x1D0F;
 
 // One byte: rotate left 5 in 16 bits, xor the byte, times 0x9E37, modulo 65,536.
-fn turn(h: u16, b: u8) -> u16
-    ensures { λ r. ⌜ r ≡ turnOf h b ⌝ }
+fn fold_byte(h: u16, b: u8) -> u16
+    ensures { λ r. ⌜ r ≡ foldByte h b ⌝ }
 {
     let x = wide16(h);
     let rotated = x * 32 % 65536 + x / 2048;
@@ -24,7 +24,7 @@ pub fn fold_handle(h: u16, s: &[u8]) -> u16
     let mut fold = h;
     let mut i: usize = 0;
     while i < s.len() {
-        fold = turn(fold, s[i]);
+        fold = fold_byte(fold, s[i]);
         i += 1;
     }
     fold

@@ -4,24 +4,26 @@ ghost use mathlib.Core.Path.{_≡_};
 ghost use Prim.Native.Nat.{_+_, _<_, _≤_};
 ghost use mathlib.Core.List.{_++_};
 ghost use lib.ListN.{length};
-ghost use Rattle.types.specs.Defs.{Readable, nameIn};
-ghost use Rattle.types.specs.Pieces.{infosIn, shownIn, namesIn, Walkable};
-ghost use Rattle.types.specs.Sink.{Room, Emitted};
-ghost use Rattle.types.specs.Tables.{TyFits, memberAt};
-ghost use Rattle.types.specs.Template.{idsIn, infoOf, typeIn, infoBytes, userId, semicolonN, padding, memberIds};
-use crate::member::Bit;
-use crate::member::Span;
-use crate::member::StructDef;
-use crate::member::StructKind;
-use crate::member::Ty;
-use crate::sink::Sink;
-use crate::sink::emit;
-use crate::tables::MemberTable;
-use crate::tables::TypeTable;
-use crate::tables::low16;
-use crate::tables::member_row;
-use crate::tables::name_row;
-use crate::tables::type_row;
+ghost use Rattle.types.specs.inside.tables.Defs.{Readable};
+ghost use Rattle.types.specs.inside.tables.Lent.{TyFits};
+ghost use Rattle.types.specs.inside.templates.Pieces.{infosIn, shownIn, namesIn, Emittable};
+ghost use Rattle.types.specs.inside.templates.Sink.{Room, Emitted};
+ghost use Rattle.types.specs.tables.Defs.{nameIn};
+ghost use Rattle.types.specs.tables.Lent.{memberAt};
+ghost use Rattle.types.specs.tables.TypeWord.{idsIn};
+ghost use Rattle.types.specs.templates.Template.{infoOf, infoBytes, userId, semicolonN, padding, memberIds};
+use crate::tables::lent::MemberTable;
+use crate::tables::lent::TypeTable;
+use crate::tables::lent::low16;
+use crate::tables::lent::member_row;
+use crate::tables::lent::name_row;
+use crate::tables::member::Bit;
+use crate::tables::member::Span;
+use crate::tables::member::StructDef;
+use crate::tables::member::StructKind;
+use crate::tables::type_word::type_in;
+use crate::templates::sink::Sink;
+use crate::templates::sink::emit;
 use words::wide;
 
 // Bit number, else the low 16 bits of the count.
@@ -31,20 +33,6 @@ fn info_of(bit: Bit, count: u32) -> u16
     match bit {
         Bit::None => low16(count),
         Bit::At(k) => k as u16,
-    }
-}
-
-// Code, or 0x8000 plus the id of the structure.
-pub fn type_in(types: &TypeTable, ty: Ty) -> u32
-    requires { ⌜ TyFits ty ⌝ }
-    ensures { λ r. ⌜ r ≡ typeIn (idsIn (now (types .entry))) ty ⌝ }
-{
-    match ty {
-        Ty::Atomic(a) => a.code() as u32,
-        Ty::Struct(n) => {
-            let d = type_row(types, n);
-            0x8000 + (d.id as u32)
-        }
     }
 }
 
@@ -153,7 +141,7 @@ pub fn emit_names(
     sink: Sink,
     out: &mut [u8],
 ) -> Sink
-    requires { ⌜ Walkable (now members) (now names) d (namesIn (now members) (now names) d) sink (now out) ⌝ }
+    requires { ⌜ Emittable (now members) (now names) d (namesIn (now members) (now names) d) sink (now out) ⌝ }
     ensures { λ r. ⌜ Emitted (namesIn (now (members .entry)) (now (names .entry)) d)
         sink (now (out .entry)) r (now (out .exit)) ⌝ }
 {

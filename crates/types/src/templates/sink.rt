@@ -1,8 +1,8 @@
 // Where a template's bytes go (document 01, "Template and handle"): a sink counts them, folds them for
 // the handle and, if it writes, stores them. So one walk gives a template, its length and its handle.
 ghost use Prim.Native.Nat.{_+_};
-ghost use Rattle.types.specs.Sink.{Room, Emitted};
-use crate::handle::fold_handle;
+ghost use Rattle.types.specs.inside.templates.Sink.{Room, Emitted};
+use crate::templates::handle::fold_handle;
 use words::copy;
 
 // How many bytes came, the fold over them, and whether they are stored.

@@ -4,32 +4,33 @@ ghost use mathlib.Core.Path.{_≡_};
 ghost use Prim.Native.Nat.{_≤_, _<_};
 ghost use lib.ListN.{length};
 ghost use lib.Seq.{sets};
-ghost use Rattle.types.specs.Defs.{Readable};
-ghost use Rattle.types.specs.Given.{Given, saidBy};
-ghost use Rattle.types.specs.Handle.{handleOf};
-ghost use Rattle.types.specs.Kept.{Kept};
-ghost use Rattle.types.specs.Pieces.{Walkable, Walked, frontIn};
-ghost use Rattle.types.specs.Sink.{Emitted};
-ghost use Rattle.types.specs.Template.{hasTemplate, objectSize, templateFor, templateIn, templateLength};
-use crate::given::Wrote;
-use crate::handle::START;
-use crate::handle::finish_handle;
-use crate::member::StructDef;
-use crate::member::Ty;
-use crate::pieces::emit_ids;
-use crate::pieces::emit_infos;
-use crate::pieces::emit_names;
-use crate::pieces::emit_padding;
-use crate::pieces::emit_shown;
-use crate::pieces::user_id;
-use crate::refusal::Refusal;
-use crate::shape::is_there;
-use crate::sink::Sink;
-use crate::sink::emit;
-use crate::tables::MemberTable;
-use crate::tables::NameTable;
-use crate::tables::TypeTable;
-use crate::tables::type_row;
+ghost use Rattle.types.specs.inside.tables.Defs.{Readable};
+ghost use Rattle.types.specs.inside.templates.Pieces.{Emittable, EmittedAll, frontIn};
+ghost use Rattle.types.specs.inside.templates.Sink.{Emitted};
+ghost use Rattle.types.specs.refusals.Given.{Given, saidBy};
+ghost use Rattle.types.specs.tables.Kept.{Kept};
+ghost use Rattle.types.specs.templates.Handle.{handleOf};
+ghost use Rattle.types.specs.templates.Template.{hasTemplate, objectSize, templateFor, templateIn};
+ghost use Rattle.types.specs.templates.Template.{templateLength};
+use crate::refusals::given::Wrote;
+use crate::refusals::refusal::Refusal;
+use crate::tables::lent::MemberTable;
+use crate::tables::lent::NameTable;
+use crate::tables::lent::TypeTable;
+use crate::tables::lent::type_row;
+use crate::tables::member::StructDef;
+use crate::tables::member::Ty;
+use crate::tables::there::is_there;
+use crate::templates::handle::START;
+use crate::templates::handle::finish_handle;
+use crate::templates::pieces::emit_ids;
+use crate::templates::pieces::emit_infos;
+use crate::templates::pieces::emit_names;
+use crate::templates::pieces::emit_padding;
+use crate::templates::pieces::emit_shown;
+use crate::templates::pieces::user_id;
+use crate::templates::sink::Sink;
+use crate::templates::sink::emit;
 use words::wide;
 
 // What every template has.
@@ -41,7 +42,7 @@ fn emit_front(
     sink: Sink,
     out: &mut [u8],
 ) -> Sink
-    requires { ⌜ Walkable (now members) (now names) d (frontIn (now types) (now members) (now names) d)
+    requires { ⌜ Emittable (now members) (now names) d (frontIn (now types) (now members) (now names) d)
         sink (now out) ⌝ }
     ensures { λ r. ⌜ Emitted (frontIn (now (types .entry)) (now (members .entry)) (now (names .entry)) d)
         sink (now (out .entry)) r (now (out .exit)) ⌝ }
@@ -62,7 +63,7 @@ fn walk(
     out: &mut [u8],
 ) -> Sink
     requires { ⌜ (sink .at ≡ 0)
-        × Walkable (now members) (now names) d (templateIn (now types) (now members) (now names) d) sink (now out) ⌝ }
+        × Emittable (now members) (now names) d (templateIn (now types) (now members) (now names) d) sink (now out) ⌝ }
     ensures { λ r. ⌜ Emitted (templateIn (now (types .entry)) (now (members .entry)) (now (names .entry)) d)
         sink (now (out .entry)) r (now (out .exit)) ⌝ }
 {
@@ -78,7 +79,7 @@ fn walk(
 // The walk that stores nothing.
 fn measure(types: &TypeTable, members: &MemberTable, names: &NameTable, d: StructDef) -> Sink
     requires { ⌜ Readable (now members) d ⌝ }
-    ensures { λ r. ⌜ Walked (templateIn (now (types .entry)) (now (members .entry)) (now (names .entry)) d) r ⌝ }
+    ensures { λ r. ⌜ EmittedAll (templateIn (now (types .entry)) (now (members .entry)) (now (names .entry)) d) r ⌝ }
 {
     let mut none = [0u8; 1];
     let start = Sink {

@@ -3,20 +3,21 @@
 ghost use mathlib.Core.Path.{_≡_};
 ghost use Prim.Native.Nat.{ℕ};
 ghost use mathlib.Core.List.{List};
-ghost use Rattle.types.specs.Kept.{KeptRows};
-ghost use Rattle.types.specs.Tables.{TyFits};
-ghost use Rattle.types.specs.Waste.{sizeIn, sizesIn, Fitting, SeenBits, Countable, wasteIn, saidBy, wasteAt};
-use crate::layout::elements;
-use crate::member::Bit;
-use crate::member::Member;
-use crate::member::StructDef;
-use crate::member::Ty;
-use crate::refusal::Refusal;
-use crate::shape::is_there;
-use crate::tables::MemberTable;
-use crate::tables::TypeTable;
-use crate::tables::member_row;
-use crate::tables::type_row;
+ghost use Rattle.types.specs.inside.templates.Waste.{Fitting, SeenBits, Countable};
+ghost use Rattle.types.specs.tables.Kept.{KeptRows};
+ghost use Rattle.types.specs.templates.Waste.{wasteIn, saidBy, wasteAt};
+use crate::layout::placing::elements;
+use crate::refusals::refusal::Refusal;
+use crate::tables::lent::MemberTable;
+use crate::tables::lent::TypeTable;
+use crate::tables::lent::member_row;
+use crate::tables::lent::type_row;
+use crate::tables::member::Bit;
+use crate::tables::member::Member;
+use crate::tables::member::StructDef;
+use crate::tables::member::Ty;
+use crate::tables::sizes::size_in;
+use crate::tables::there::is_there;
 use words::wide;
 use words::wide64;
 
@@ -24,20 +25,6 @@ use words::wide64;
 pub enum Wasted {
     Bits(u64),
     Refused(Refusal),
-}
-
-// The bytes of a type.
-pub fn size_in(types: &TypeTable, ty: Ty) -> u64
-    requires { ⌜ TyFits ty ⌝ }
-    ensures { λ r. ⌜ r ≡ sizeIn (sizesIn (now (types .entry))) ty ⌝ }
-{
-    match ty {
-        Ty::Atomic(a) => a.size() as u64,
-        Ty::Struct(n) => {
-            let d = type_row(types, n);
-            wide64(d.size)
-        }
-    }
 }
 
 // The bits of a member that is visible, 0 for a hidden one.

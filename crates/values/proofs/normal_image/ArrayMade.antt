@@ -7,14 +7,15 @@ use mathlib.Core.Bool.{Bool, true, false, cond}
 use mathlib.Core.List.{List}
 use Rattle.words.specs.Bits.{Bits, inside}
 use Rattle.words.proofs.BitLaws.{Lies, among, beside, lies}
-use Rattle.values.specs.InPlace.{eachMade, made}
-use Rattle.values.specs.Normal.{held, normal}
-use Rattle.values.specs.Placed.{Placed}
-use Rattle.values.specs.Tree.{Item, Tree, array, each, items, span}
-use Rattle.values.proofs.MadeLaws.{made-beside, made-inside, normal-around, normal-first, normal-local}
-use Rattle.values.proofs.MadeLaws.{normal-second}
-use Rattle.values.proofs.OnlyHeld.{not-inside}
-use Rattle.values.proofs.PlacedLaws.{each-between, not-true, tree-between, yes-inside}
+use Rattle.values.specs.inside.normal_image.InPlace.{eachMade, made}
+use Rattle.values.specs.inside.normal_image.Placed.{Placed}
+use Rattle.values.specs.normal_image.Normal.{held, normal}
+use Rattle.values.specs.reading.Tree.{Item, Tree, array, each, items, span}
+use Rattle.values.proofs.normal_image.MadeLaws.{made-beside, made-inside, normal-around, normal-first}
+use Rattle.values.proofs.normal_image.MadeLaws.{normal-local}
+use Rattle.values.proofs.normal_image.MadeLaws.{normal-second}
+use Rattle.values.proofs.normal_image.PlacedLaws.{each-between, not-true, tree-between, yes-inside}
+use Rattle.values.proofs.writing.OnlyHeld.{not-inside}
 
 module _ (t : Tree) (placed : Placed t) where
   abbrev w : ℕ

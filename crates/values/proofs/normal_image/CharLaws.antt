@@ -11,7 +11,7 @@ use lib.ListN.{length, getD}
 use borrow.Author.Tests.{ltb-true, ltb-false}
 use Rattle.words.specs.Bits.{Bits, bitOf, flat, from, val}
 use Rattle.words.proofs.BitLaws.{bit-none, bit-val, val-ext}
-use Rattle.values.specs.Leaf.{chars}
+use Rattle.values.specs.reading.Leaf.{chars}
 
 pub length-chars : (n : ℕ) (b : Bits) → length (chars n b) ≡ n
 unfolding chars

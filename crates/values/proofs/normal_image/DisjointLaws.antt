@@ -5,20 +5,20 @@ use native.Mathlib.Omega.{arith}
 use mathlib.Core.Bool.{Bool, true, false, cond}
 use mathlib.Core.List.{List}
 use lib.Dec.{eqb}
-use Rattle.types.specs.Atomic.{bitString, sizeOf}
-use Rattle.types.specs.Laid.{Earlier}
-use Rattle.types.specs.Tables.{TyFits}
-use Rattle.types.specs.declared.atomic.Atomic.{Atomic}
-use Rattle.types.specs.declared.atomic.Atomic.the-variants as atomic
-use Rattle.types.specs.declared.member.Bit.{Bit}
-use Rattle.types.specs.declared.member.Bit.the-variants.{None, At}
-use Rattle.types.specs.declared.member.Ty.{Ty}
-use Rattle.types.specs.declared.member.Ty.the-variants as ty
-use Rattle.values.specs.Leaf.{leafOf}
-use Rattle.values.specs.Placed.{Disjoint, Good, Placed}
-use Rattle.values.specs.Rows.{treeIn}
-use Rattle.values.specs.Tree.{Tree, leaf, bits, array}
-use Rattle.values.specs.Trees.{atomicsTree, bitTree, knownIn, structsTree, treeOfValue, valueTree}
+use Rattle.types.specs.atomics.Atomic.{bitString, sizeOf}
+use Rattle.types.specs.inside.tables.Lent.{TyFits}
+use Rattle.types.specs.layout.Laid.{Earlier}
+use Rattle.types.specs.declared.atomics.atomic.Atomic.{Atomic}
+use Rattle.types.specs.declared.atomics.atomic.Atomic.the-variants as atomic
+use Rattle.types.specs.declared.tables.member.Bit.{Bit}
+use Rattle.types.specs.declared.tables.member.Bit.the-variants.{None, At}
+use Rattle.types.specs.declared.tables.member.Ty.{Ty}
+use Rattle.types.specs.declared.tables.member.Ty.the-variants as ty
+use Rattle.values.specs.inside.normal_image.Placed.{Disjoint, Good, Placed}
+use Rattle.values.specs.inside.writing.Rows.{treeIn}
+use Rattle.values.specs.reading.Leaf.{leafOf}
+use Rattle.values.specs.reading.Tree.{Tree, leaf, bits, array}
+use Rattle.values.specs.reading.Trees.{atomicsTree, bitTree, knownIn, structsTree, treeOfValue, valueTree}
 
 leaf-good : (a : Atomic) → Good (leafOf a)
 leaf-good atomic.Bool = tt

@@ -10,15 +10,15 @@ use mathlib.Core.List.{List}
 use lib.ListN.{length}
 use Rattle.words.specs.Bits.{Bits, flat, from, inside, stamp}
 use Rattle.words.proofs.BitLaws.{Lies, among, beside, lies}
-use Rattle.types.specs.Laid.{firstBit}
-use Rattle.types.specs.Tables.{memberAt}
-use Rattle.types.specs.declared.member.Bit.the-variants.{None, At}
-use Rattle.types.specs.declared.member.Member.{Member}
-use Rattle.values.specs.InPlace.{RowsHere, flagged, isFlag, isPlain}
-use Rattle.values.specs.Rows.{MemberHere}
-use Rattle.values.specs.Trees.{membersAt}
-use Rattle.values.proofs.LeafLaws.{row-bit}
-use Rattle.values.proofs.StampLaws.{stamp-ext}
+use Rattle.types.specs.layout.Laid.{firstBit}
+use Rattle.types.specs.tables.Lent.{memberAt}
+use Rattle.types.specs.declared.tables.member.Bit.the-variants.{None, At}
+use Rattle.types.specs.declared.tables.member.Member.{Member}
+use Rattle.values.specs.inside.normal_image.InPlace.{RowsHere, flagged, isFlag, isPlain}
+use Rattle.values.specs.inside.writing.Rows.{MemberHere}
+use Rattle.values.specs.reading.Trees.{membersAt}
+use Rattle.values.proofs.reading.LeafLaws.{row-bit}
+use Rattle.values.proofs.writing.StampLaws.{stamp-ext}
 
 -- ---- plain rows
 

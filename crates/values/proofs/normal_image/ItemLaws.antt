@@ -7,12 +7,12 @@ use mathlib.Core.Bool.{Bool, true, false, cond, _||_, true≢false}
 use mathlib.Core.List.{List, [], _∷_}
 use Rattle.words.specs.Bits.{Bits, from, inside}
 use Rattle.words.proofs.BitLaws.{Lies, among, beside, lies}
-use Rattle.values.specs.Leaf.{Leaf, width, emit}
-use Rattle.values.specs.Normal.{norm, held, normal}
-use Rattle.values.specs.Placed.{Good}
-use Rattle.values.specs.Stream.{Token}
-use Rattle.values.specs.Tree.{Item, say, at, read}
-use Rattle.values.proofs.NormalLaws.{emit-norm, emit-tells}
+use Rattle.values.specs.inside.normal_image.Placed.{Good}
+use Rattle.values.specs.normal_image.Normal.{norm, held, normal}
+use Rattle.values.specs.reading.Leaf.{Leaf, width, emit}
+use Rattle.values.specs.reading.Tree.{Item, say, at, read}
+use Rattle.values.specs.stream.Stream.{Token}
+use Rattle.values.proofs.normal_image.NormalLaws.{emit-norm, emit-tells}
 
 -- no bit of n bits from p on is held
 abbrev pub Free : ℕ → ℕ → List Item → Type 0

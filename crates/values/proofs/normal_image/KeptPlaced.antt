@@ -6,22 +6,23 @@ use mathlib.Core.Path.{_≡_, refl}
 use mathlib.Core.Bool.{Bool, true, false, cond}
 use mathlib.Core.List.{List, [], _∷_}
 use mathlib.Core.Logic.{_⊎_, inl, inr, ⊎-elim}
-use Rattle.types.specs.Defs.{partAt, partsAt}
-use Rattle.types.specs.Kept.{Kept}
-use Rattle.types.specs.Laid.{Earlier, firstBit, Laid}
-use Rattle.types.specs.Laid.{Clear as ClearOf}
-use Rattle.types.specs.Tables.{memberAt, typeAt}
-use Rattle.types.specs.Waste.{bitsOf, sizesIn}
-use Rattle.types.specs.declared.member.Member.{Member}
-use Rattle.types.proofs.KeptLaws.{RowIs, holds, empty, kept-row}
-use Rattle.values.specs.Leaf.{str}
-use Rattle.values.specs.Placed.{AllPlaced, Clear, Disjoint, Numbered, Placed}
-use Rattle.values.specs.Tree.{Tree, leaf, struct, span}
-use Rattle.values.specs.Trees.{bitTree, branchesFrom, isString, knownIn, membersAt, secondCount, seen, structTree}
-use Rattle.values.specs.Trees.{treeOf, treeWithin, valueTree}
-use Rattle.values.proofs.DisjointLaws.{member-placed}
-use Rattle.values.proofs.KeptWalkable.{kept-walkable}
-use Rattle.values.proofs.SpanLaws.{Sized, sound-below, sound-within, bit-span}
+use Rattle.types.specs.layout.Laid.{Earlier, firstBit, Laid}
+use Rattle.types.specs.layout.Laid.{Clear as ClearOf}
+use Rattle.types.specs.tables.Defs.{partAt, partsAt}
+use Rattle.types.specs.tables.Kept.{Kept}
+use Rattle.types.specs.tables.Lent.{memberAt, typeAt}
+use Rattle.types.specs.tables.Sizes.{bitsOf, sizesIn}
+use Rattle.types.specs.declared.tables.member.Member.{Member}
+use Rattle.types.proofs.Face.{RowIs, holds, empty, kept-row}
+use Rattle.values.specs.inside.normal_image.Placed.{AllPlaced, Clear, Disjoint, Numbered, Placed}
+use Rattle.values.specs.reading.Leaf.{str}
+use Rattle.values.specs.reading.Tree.{Tree, leaf, struct, span}
+use Rattle.values.specs.reading.Trees.{bitTree, branchesFrom, isString, knownIn, membersAt, secondCount, seen}
+use Rattle.values.specs.reading.Trees.{structTree}
+use Rattle.values.specs.reading.Trees.{treeOf, treeWithin, valueTree}
+use Rattle.values.proofs.normal_image.DisjointLaws.{member-placed}
+use Rattle.values.proofs.reading.KeptWalkable.{kept-walkable}
+use Rattle.values.proofs.reading.SpanLaws.{Sized, sound-below, sound-within, bit-span}
 
 -- ---- a structure whose earlier ones are placed
 

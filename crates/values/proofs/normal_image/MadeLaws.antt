@@ -7,14 +7,14 @@ use mathlib.Core.Bool.{true, false, cond, or-true}
 use mathlib.Core.List.{List, [], _∷_, _++_}
 use Rattle.words.specs.Bits.{Bits, bitOf, digit, from, inside}
 use Rattle.words.proofs.BitLaws.{Lies, among, beside, lies, val-ext}
-use Rattle.values.specs.InPlace.{made}
-use Rattle.values.specs.Leaf.{Leaf, flag, byte, int, word, str, isTrue, width}
-use Rattle.values.specs.Normal.{held, norm, normal}
-use Rattle.values.specs.Stream.{mark}
-use Rattle.values.specs.Tree.{Item, say, at, Tree, between, items, span}
-use Rattle.values.proofs.ItemLaws.{normal-unheld}
-use Rattle.values.proofs.OnlyHeld.{or-first, or-second}
-use Rattle.values.proofs.PlacedLaws.{yes-inside}
+use Rattle.values.specs.inside.normal_image.InPlace.{made}
+use Rattle.values.specs.normal_image.Normal.{held, norm, normal}
+use Rattle.values.specs.reading.Leaf.{Leaf, flag, byte, int, word, str, isTrue, width}
+use Rattle.values.specs.reading.Tree.{Item, say, at, Tree, between, items, span}
+use Rattle.values.specs.stream.Stream.{mark}
+use Rattle.values.proofs.normal_image.ItemLaws.{normal-unheld}
+use Rattle.values.proofs.normal_image.PlacedLaws.{yes-inside}
+use Rattle.values.proofs.writing.OnlyHeld.{or-first, or-second}
 
 -- ---- locality
 

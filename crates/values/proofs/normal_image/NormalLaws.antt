@@ -12,11 +12,12 @@ use lib.Pow.{pow-mono}
 use borrow.Author.Tests.{lt-ltb, le-ltb, ltb-true, ltb-false}
 use Rattle.words.specs.Bits.{Bits, from, bitOf, digit, val}
 use Rattle.words.proofs.BitLaws.{bit-val, val-below, val-bit, val-ext}
-use Rattle.values.specs.Leaf.{Leaf, flag, byte, int, word, str, width, isTrue, chars, clipped, emit, signed}
-use Rattle.values.specs.Normal.{norm}
-use Rattle.values.specs.Placed.{Good}
-use Rattle.values.specs.Stream.{bool, number, text}
-use Rattle.values.proofs.CharLaws.{chars-ext, chars-tell, length-chars}
+use Rattle.values.specs.inside.normal_image.Placed.{Good}
+use Rattle.values.specs.normal_image.Normal.{norm}
+use Rattle.values.specs.reading.Leaf.{Leaf, flag, byte, int, word, str, width, isTrue, chars, clipped, emit}
+use Rattle.values.specs.reading.Leaf.{signed}
+use Rattle.values.specs.stream.Stream.{bool, number, text}
+use Rattle.values.proofs.normal_image.CharLaws.{chars-ext, chars-tell, length-chars}
 
 -- ---- one leaf: its normal bits read the same
 

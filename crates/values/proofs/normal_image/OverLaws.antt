@@ -8,11 +8,11 @@ use mathlib.Core.Bool.{Bool, true, false, cond, _||_}
 use mathlib.Core.List.{List, [], _∷_, _++_}
 use Rattle.words.specs.Bits.{Bits, from, inside, stamp}
 use Rattle.words.proofs.BitLaws.{Lies, among, beside, lies}
-use Rattle.values.specs.Leaf.{width}
-use Rattle.values.specs.Normal.{norm, held, normal}
-use Rattle.values.specs.Tree.{Item, say, at, each, oneFlag}
-use Rattle.values.proofs.ItemLaws.{Apart}
-use Rattle.values.proofs.StampLaws.{stamp-none, stamp-two}
+use Rattle.values.specs.normal_image.Normal.{norm, held, normal}
+use Rattle.values.specs.reading.Leaf.{width}
+use Rattle.values.specs.reading.Tree.{Item, say, at, each, oneFlag}
+use Rattle.values.proofs.normal_image.ItemLaws.{Apart}
+use Rattle.values.proofs.writing.StampLaws.{stamp-none, stamp-two}
 
 -- what stands at the end where the leaves' normal bits in x are put over z
 unfoldable pub over : List Item → Bits → Bits → Bits

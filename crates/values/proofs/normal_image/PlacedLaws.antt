@@ -9,14 +9,15 @@ use mathlib.Core.List.{List, [], _∷_, _++_}
 use mathlib.Core.Logic.{_⊎_, inl, inr}
 use Rattle.words.specs.Bits.{inside}
 use Rattle.words.proofs.BitLaws.{Lies, among, beside, lies}
-use Rattle.values.specs.Leaf.{Leaf, flag, width}
-use Rattle.values.specs.Normal.{held}
-use Rattle.values.specs.Placed.{AllPlaced, Clear, Placed}
-use Rattle.values.specs.Stream.{mark}
-use Rattle.values.specs.Tree.{Tree, leaf, bits, array, struct, Branches, none, branch, room, allBits, span}
-use Rattle.values.specs.Tree.{Item, say, at, each, between, oneFlag, items, branchItems}
-use Rattle.values.proofs.ItemLaws.{Apart, AllGood}
-use Rattle.values.proofs.TreeLaws.{width-room}
+use Rattle.values.specs.inside.normal_image.Placed.{AllPlaced, Clear, Placed}
+use Rattle.values.specs.normal_image.Normal.{held}
+use Rattle.values.specs.reading.Leaf.{Leaf, flag, width}
+use Rattle.values.specs.reading.Tree.{Tree, leaf, bits, array, struct, Branches, none, branch, room, allBits}
+use Rattle.values.specs.reading.Tree.{span}
+use Rattle.values.specs.reading.Tree.{Item, say, at, each, between, oneFlag, items, branchItems}
+use Rattle.values.specs.stream.Stream.{mark}
+use Rattle.values.proofs.normal_image.ItemLaws.{Apart, AllGood}
+use Rattle.values.proofs.reading.TreeLaws.{width-room}
 
 -- ---- held bits of lists
 

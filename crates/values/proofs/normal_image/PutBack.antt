@@ -15,13 +15,13 @@ use Rattle.words.specs.Bits.{Bits, from, bitOf, digit, flat, val}
 use Rattle.words.specs.Words.{bytesOf}
 use Rattle.words.proofs.BitLaws.{bit-val, val-below}
 use Rattle.words.proofs.WordLaws.{length-bytes}
-use Rattle.values.specs.Effects.{put, ofKind, inRange, whole, textBits, asText, taken}
-use Rattle.values.specs.Leaf.{Leaf, flag, byte, int, word, str, width, chars, clipped, emit, signed}
-use Rattle.values.specs.Normal.{norm}
-use Rattle.values.specs.Placed.{Good}
-use Rattle.values.specs.Stream.{number, text, kindOf}
-use Rattle.values.proofs.CharLaws.{chars-ext, flat-chars, length-chars}
-use Rattle.values.proofs.StampLaws.{flat-bytes}
+use Rattle.values.specs.inside.normal_image.Placed.{Good}
+use Rattle.values.specs.normal_image.Normal.{norm}
+use Rattle.values.specs.reading.Leaf.{Leaf, flag, byte, int, word, str, width, chars, clipped, emit, signed}
+use Rattle.values.specs.stream.Stream.{number, text, kindOf}
+use Rattle.values.specs.writing.Effects.{put, ofKind, inRange, whole, textBits, asText, taken}
+use Rattle.values.proofs.normal_image.CharLaws.{chars-ext, flat-chars, length-chars}
+use Rattle.values.proofs.writing.StampLaws.{flat-bytes}
 
 pub record PutBack (l : Leaf) (b : Bits) : Type 0 where
   pub bits : Bits

@@ -8,17 +8,17 @@ use mathlib.Core.List.{List}
 use borrow.Author.Tests.{eq-eqb}
 use lib.ListN.{length, take}
 use Rattle.words.specs.Words.{Bytes}
-use Rattle.types.specs.Kept.{KeptRows}
-use Rattle.types.specs.Layout.{times}
-use Rattle.types.specs.Waste.{sizeIn, sizesIn}
-use Rattle.types.specs.declared.member.Ty.{Ty}
-use Rattle.values.specs.Normalised.{MadeNormal, normalResult, valueNormal}
-use Rattle.values.specs.Reading.{Answered}
-use Rattle.values.specs.declared.reading.Streamed.the-variants.{Length}
-use Rattle.values.specs.declared.writing.Taken.{Taken}
-use Rattle.values.proofs.KeptPlaced.{kept-disjoint}
-use Rattle.values.proofs.ReadingLaws.{LengthTold, length-told}
-use Rattle.values.proofs.SameStream.{same-stream}
+use Rattle.types.specs.layout.Placing.{times}
+use Rattle.types.specs.tables.Kept.{KeptRows}
+use Rattle.types.specs.tables.Sizes.{sizeIn, sizesIn}
+use Rattle.types.specs.declared.tables.member.Ty.{Ty}
+use Rattle.values.specs.normal_image.Normalised.{MadeNormal, normalResult, valueNormal}
+use Rattle.values.specs.reading.Read.{Answered}
+use Rattle.values.specs.declared.reading.read.Streamed.the-variants.{Length}
+use Rattle.values.specs.declared.writing.write.Taken.{Taken}
+use Rattle.values.proofs.normal_image.KeptPlaced.{kept-disjoint}
+use Rattle.values.proofs.normal_image.SameStream.{same-stream}
+use Rattle.values.proofs.reading.ReadingLaws.{LengthTold, length-told}
 
 -- two streams are the same exactly when two images are
 pub record SameExactly (stream stream′ image image′ : List ℕ) : Type 0 where

@@ -10,30 +10,31 @@ use mathlib.Core.Logic.{_↔_}
 use lib.ListN.{length}
 use Rattle.words.specs.Bits.{Bits, flat}
 use Rattle.words.specs.Words.{Bytes}
-use Rattle.types.specs.Layout.{times}
-use Rattle.types.specs.Tables.{TyFits}
-use Rattle.types.specs.Waste.{sizeIn, sizesIn}
-use Rattle.types.specs.declared.member.Ty.{Ty}
-use Rattle.values.specs.Decode.{tokensIn}
-use Rattle.values.specs.Form.{streamOk}
-use Rattle.values.specs.Leaf.{chars}
-use Rattle.values.specs.Normal.{held, normal, normalImage}
-use Rattle.values.specs.Placed.{Disjoint, Placed}
-use Rattle.values.specs.Reading.{streamOf, valueStream}
-use Rattle.values.specs.Stream.{streamBytes, mostBytes}
-use Rattle.values.specs.Tree.{Item, Tree, items, read}
-use Rattle.values.specs.Trees.{knownIn, treeOfValue}
-use Rattle.values.specs.Walk.{valueOut}
-use Rattle.values.specs.Walkable.{ValueImage, Walkable}
-use Rattle.values.proofs.CharLaws.{flat-chars, length-chars}
-use Rattle.values.proofs.DecodeBack.{Back}
-use Rattle.values.proofs.DisjointLaws.{disjoint-value}
-use Rattle.values.proofs.ItemLaws.{Apart, AllGood, normal-unheld, same-normal, same-read, normal-twice}
-use Rattle.values.proofs.Meaning.{meaning}
-use Rattle.values.proofs.PlacedLaws.{tree-apart, tree-between, tree-good}
-use Rattle.values.proofs.ReadingLaws.{stream-is}
-use Rattle.values.proofs.SayLaws.{reading-back}
-use Rattle.values.proofs.SpanLaws.{tree-value-span}
+use Rattle.types.specs.inside.tables.Lent.{TyFits}
+use Rattle.types.specs.layout.Placing.{times}
+use Rattle.types.specs.tables.Sizes.{sizeIn, sizesIn}
+use Rattle.types.specs.declared.tables.member.Ty.{Ty}
+use Rattle.values.specs.inside.normal_image.Placed.{Disjoint, Placed}
+use Rattle.values.specs.inside.reading.Walk.{valueOut}
+use Rattle.values.specs.inside.reading.Walkable.{ValueImage, Walkable}
+use Rattle.values.specs.normal_image.Normal.{held, normal, normalImage}
+use Rattle.values.specs.reading.Leaf.{chars}
+use Rattle.values.specs.reading.Read.{streamOf, valueStream}
+use Rattle.values.specs.reading.Tree.{Item, Tree, items, read}
+use Rattle.values.specs.reading.Trees.{knownIn, treeOfValue}
+use Rattle.values.specs.stream.Decode.{tokensIn}
+use Rattle.values.specs.stream.Form.{streamOk}
+use Rattle.values.specs.stream.Stream.{streamBytes, mostBytes}
+use Rattle.values.proofs.normal_image.CharLaws.{flat-chars, length-chars}
+use Rattle.values.proofs.normal_image.DisjointLaws.{disjoint-value}
+use Rattle.values.proofs.normal_image.ItemLaws.{Apart, AllGood, normal-unheld, same-normal, same-read}
+use Rattle.values.proofs.normal_image.ItemLaws.{normal-twice}
+use Rattle.values.proofs.normal_image.PlacedLaws.{tree-apart, tree-between, tree-good}
+use Rattle.values.proofs.reading.Meaning.{meaning}
+use Rattle.values.proofs.reading.ReadingLaws.{stream-is}
+use Rattle.values.proofs.reading.SpanLaws.{tree-value-span}
+use Rattle.values.proofs.stream.DecodeBack.{Back}
+use Rattle.values.proofs.stream.SayLaws.{reading-back}
 
 module _ {types members : List ℕ} (d : Disjoint types members) (t : Ty) (n : ℕ) (fits : TyFits t) where
   abbrev tree : Tree

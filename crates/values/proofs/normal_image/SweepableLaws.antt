@@ -5,18 +5,18 @@ use native.Mathlib.Omega.{arith}
 use mathlib.Core.Path.{_≡_, refl, sym, subst}
 use mathlib.Core.Bool.{Bool, true, false, cond, not, true≢false}
 use mathlib.Core.List.{List}
-use Rattle.types.specs.Laid.{Plain, hasBit}
-use Rattle.types.specs.Tables.{typeAt}
-use Rattle.types.specs.Waste.{sizesIn}
-use Rattle.types.specs.declared.member.Bit.{Bit}
-use Rattle.types.specs.declared.member.Bit.the-variants.{None, At}
-use Rattle.types.specs.declared.member.Member.{Member}
-use Rattle.values.specs.InPlace.{RowsHere, isPlain}
-use Rattle.values.specs.Placed.{AllPlaced, Placed, Sweepable}
-use Rattle.values.specs.Rows.{Here, branchesIn}
-use Rattle.values.specs.Trees.{isString}
-use Rattle.values.specs.Walkable.{Walkable}
-use Rattle.values.proofs.BranchLaws.{members-tree}
+use Rattle.types.specs.layout.Laid.{Plain, hasBit}
+use Rattle.types.specs.tables.Lent.{typeAt}
+use Rattle.types.specs.tables.Sizes.{sizesIn}
+use Rattle.types.specs.declared.tables.member.Bit.{Bit}
+use Rattle.types.specs.declared.tables.member.Bit.the-variants.{None, At}
+use Rattle.types.specs.declared.tables.member.Member.{Member}
+use Rattle.values.specs.inside.normal_image.InPlace.{RowsHere, isPlain}
+use Rattle.values.specs.inside.normal_image.Placed.{AllPlaced, Placed, Sweepable}
+use Rattle.values.specs.inside.reading.Walkable.{Walkable}
+use Rattle.values.specs.inside.writing.Rows.{Here, branchesIn}
+use Rattle.values.specs.reading.Trees.{isString}
+use Rattle.values.proofs.writing.BranchLaws.{members-tree}
 
 -- a member is plain where the test says so
 pub plain-is : (m : Member) → isPlain m ≡ true → Plain m

@@ -8,21 +8,21 @@ use mathlib.Core.List.{List, [], _∷_, _++_, append-assoc}
 use lib.ListN.{length, length-append}
 use borrow.Author.Tests.{eq-eqb, ne-eqb}
 use Rattle.words.specs.Bits.{Bits, from, stamp}
-use Rattle.values.specs.Effects.{Effect, put, orNull, taken}
-use Rattle.values.specs.Leaf.{Leaf, flag, width, emit}
-use Rattle.values.specs.Normal.{norm}
-use Rattle.values.specs.Placed.{AllPlaced, Good, Numbered, Placed}
-use Rattle.values.specs.Stream.{Token, member, mark, kindOf}
-use Rattle.values.specs.Tree.{Tree, leaf, bits, array, struct, Branches, none, branch, allBits, span}
-use Rattle.values.specs.Tree.{Item, say, at, each, between, oneFlag, items, branchItems, read}
-use Rattle.values.specs.Writing.{Outcome, ok, writeOne, opened, elements, membersIn}
-use Rattle.values.specs.Writing.{boolsIn, wholesIn, firstIs, noBits, writeBits, write, writeBranch}
-use Rattle.values.proofs.FitLaws.{not-null}
-use Rattle.values.proofs.OutcomeLaws.{elements-next}
-use Rattle.values.proofs.OverLaws.{over, over-append, flags-hide}
-use Rattle.values.proofs.PutBack.{PutBack, emit-value, put-back}
-use Rattle.values.proofs.StampLaws.{stamp-ext}
-use Rattle.values.proofs.TreeLaws.{read-append}
+use Rattle.values.specs.inside.normal_image.Placed.{AllPlaced, Good, Numbered, Placed}
+use Rattle.values.specs.normal_image.Normal.{norm}
+use Rattle.values.specs.reading.Leaf.{Leaf, flag, width, emit}
+use Rattle.values.specs.reading.Tree.{Tree, leaf, bits, array, struct, Branches, none, branch, allBits, span}
+use Rattle.values.specs.reading.Tree.{Item, say, at, each, between, oneFlag, items, branchItems, read}
+use Rattle.values.specs.stream.Stream.{Token, member, mark, kindOf}
+use Rattle.values.specs.writing.Effects.{Effect, put, orNull, taken}
+use Rattle.values.specs.writing.Writing.{Outcome, ok, writeOne, opened, elements, membersIn}
+use Rattle.values.specs.writing.Writing.{boolsIn, wholesIn, firstIs, noBits, writeBits, write, writeBranch}
+use Rattle.values.proofs.normal_image.OverLaws.{over, over-append, flags-hide}
+use Rattle.values.proofs.normal_image.PutBack.{PutBack, emit-value, put-back}
+use Rattle.values.proofs.reading.TreeLaws.{read-append}
+use Rattle.values.proofs.writing.FitLaws.{not-null}
+use Rattle.values.proofs.writing.OutcomeLaws.{elements-next}
+use Rattle.values.proofs.writing.StampLaws.{stamp-ext}
 
 -- the entries of some items are taken, and more are left
 abbrev pub Back : (List Token → Bits → Outcome) → List Item → Bits → Type 0

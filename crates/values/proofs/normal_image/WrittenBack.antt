@@ -9,29 +9,29 @@ use lib.ListN.{length}
 use borrow.Author.Tests.{eq-eqb}
 use Rattle.words.specs.Bits.{Bits, flat}
 use Rattle.words.specs.Words.{Bytes}
-use Rattle.types.specs.Layout.{times}
-use Rattle.types.specs.Shape.{isThere}
-use Rattle.types.specs.Waste.{sizeIn, sizesIn}
-use Rattle.types.specs.declared.member.Ty.{Ty}
-use Rattle.values.specs.Form.{countIn}
-use Rattle.values.specs.Leaf.{chars}
-use Rattle.values.specs.Normal.{held, normalImage}
-use Rattle.values.specs.Placed.{Disjoint, Placed}
-use Rattle.values.specs.Reading.{valueStream}
-use Rattle.types.specs.Said.{done}
-use Rattle.values.specs.Stream.{Token, mostBytes}
-use Rattle.values.specs.Tree.{Item, Tree, items, read}
-use Rattle.values.specs.Trees.{knownIn, treeOfValue}
-use Rattle.values.specs.Walkable.{ValueImage}
-use Rattle.values.specs.Writing.{Outcome, ok, ended, write, written}
-use Rattle.values.specs.Written.{Result, taking, valueWritten, writeResult}
-use Rattle.values.proofs.CharLaws.{length-chars}
-use Rattle.values.proofs.DisjointLaws.{disjoint-value}
-use Rattle.values.proofs.OverLaws.{over, over-bit}
-use Rattle.values.proofs.PlacedLaws.{tree-apart}
-use Rattle.values.proofs.SameStream.{stream-ok, tokens-are, normal-bits}
-use Rattle.values.proofs.WriteBack.{tree-back}
-use Rattle.values.proofs.WrittenHeld.{bytes-bit}
+use Rattle.types.specs.layout.Placing.{times}
+use Rattle.types.specs.refusals.Said.{done}
+use Rattle.types.specs.tables.Sizes.{sizeIn, sizesIn}
+use Rattle.types.specs.tables.There.{isThere}
+use Rattle.types.specs.declared.tables.member.Ty.{Ty}
+use Rattle.values.specs.inside.normal_image.Placed.{Disjoint, Placed}
+use Rattle.values.specs.inside.reading.Walkable.{ValueImage}
+use Rattle.values.specs.normal_image.Normal.{held, normalImage}
+use Rattle.values.specs.reading.Leaf.{chars}
+use Rattle.values.specs.reading.Read.{valueStream}
+use Rattle.values.specs.reading.Tree.{Item, Tree, items, read}
+use Rattle.values.specs.reading.Trees.{knownIn, treeOfValue}
+use Rattle.values.specs.stream.Form.{countIn}
+use Rattle.values.specs.stream.Stream.{Token, mostBytes}
+use Rattle.values.specs.writing.Writing.{Outcome, ok, ended, write, written}
+use Rattle.values.specs.writing.Written.{Result, taking, valueWritten, writeResult}
+use Rattle.values.proofs.normal_image.CharLaws.{length-chars}
+use Rattle.values.proofs.normal_image.DisjointLaws.{disjoint-value}
+use Rattle.values.proofs.normal_image.OverLaws.{over, over-bit}
+use Rattle.values.proofs.normal_image.PlacedLaws.{tree-apart}
+use Rattle.values.proofs.normal_image.SameStream.{stream-ok, tokens-are, normal-bits}
+use Rattle.values.proofs.normal_image.WriteBack.{tree-back}
+use Rattle.values.proofs.writing.WrittenHeld.{bytes-bit}
 
 -- what a write of the stream of x over z answers and leaves
 pub record WrittenBack (tree : Tree) (x z : List ℕ) (r : Result) : Type 0 where

@@ -5,18 +5,19 @@ use native.Mathlib.Omega.{arith}
 use mathlib.Core.Path.{_≡_, refl, sym, ap, _∙_}
 use mathlib.Core.Bool.{true, true≢false}
 use mathlib.Core.List.{List}
-use Rattle.types.specs.Kept.{Kept}
-use Rattle.types.specs.Tables.{memberAt, noType, typeAt}
-use Rattle.types.specs.Waste.{sizesIn}
-use Rattle.types.specs.declared.member.Member.{Member}
-use Rattle.types.specs.declared.member.StructDef.{StructDef}
-use Rattle.types.specs.declared.member.StructKind.{StructKind}
-use Rattle.types.specs.declared.member.StructKind.the-variants.{Udt, Predefined, Str, Aoi}
-use Rattle.types.proofs.GoodLaws.{row-lies}
-use Rattle.types.proofs.KeptLaws.{TypeRow, RowIs, holds, empty, kept-row}
-use Rattle.types.proofs.StringLaws.{StringRow}
-use Rattle.values.specs.Trees.{isString}
-use Rattle.values.specs.Walkable.{Within, IsString, WalkableType, Walkable}
+use Rattle.types.specs.inside.tables.Lent.{noType}
+use Rattle.types.specs.tables.Kept.{Kept}
+use Rattle.types.specs.tables.Lent.{memberAt, typeAt}
+use Rattle.types.specs.tables.Sizes.{sizesIn}
+use Rattle.types.specs.declared.tables.member.Member.{Member}
+use Rattle.types.specs.declared.tables.member.StructDef.{StructDef}
+use Rattle.types.specs.declared.tables.member.StructKind.{StructKind}
+use Rattle.types.specs.declared.tables.member.StructKind.the-variants.{Udt, Predefined, Str, Aoi}
+use Rattle.types.proofs.Face.{row-lies}
+use Rattle.types.proofs.Face.{TypeRow, RowIs, holds, empty, kept-row}
+use Rattle.types.proofs.Face.{StringRow}
+use Rattle.values.specs.inside.reading.Walkable.{Within, IsString, WalkableType, Walkable}
+use Rattle.values.specs.reading.Trees.{isString}
 
 string-kind : (k : StructKind) → isString k ≡ true → k ≡ Str
 string-kind Str e = refl

@@ -10,27 +10,28 @@ use lib.ListN.{length, getD}
 use lib.Seq.{sets, length-sets}
 use Rattle.words.specs.Bits.{Bits, flat, digit}
 use Rattle.words.specs.Words.{part}
-use Rattle.types.specs.Atomic.{bitString, sizeOf}
-use Rattle.types.specs.Layout.{times}
-use Rattle.types.specs.Tables.{memberAt, bitOf}
-use Rattle.types.specs.Waste.{sizesIn}
-use Rattle.types.specs.declared.atomic.Atomic.{Atomic}
-use Rattle.types.specs.declared.atomic.Atomic.the-variants as atomic
-use Rattle.types.specs.declared.member.Bit.{Bit}
-use Rattle.types.specs.declared.member.Bit.the-variants.{None, At}
-use Rattle.types.specs.declared.member.Member.{Member}
-use Rattle.types.specs.declared.member.Ty.{Ty}
-use Rattle.types.specs.declared.member.Ty.the-variants as ty
-use Rattle.values.specs.Laying.{Put}
-use Rattle.values.specs.Leaf.{emit, leafOf}
-use Rattle.values.specs.Stream.{Token, bool, member, entryBytes}
-use Rattle.values.specs.Walk.{wrap, bitToken, bitsOut, elementOut, numbersOut, atomicsOut}
-use Rattle.values.specs.Walk.{bitOut, leafValue, leafOut}
-use Rattle.values.specs.Walkable.{RowOf, ImageOf}
-use Rattle.values.proofs.HeadLaws.{Textless, textless-none, textless-bool, textless-number, textless-member}
-use Rattle.values.proofs.HeadLaws.{textless-mark, textless-append, textless-up}
-use Rattle.values.proofs.PartLaws.{lent, lent-part, lent-long}
-use Rattle.values.proofs.PutLaws.{put-none, put-one, put-first}
+use Rattle.types.specs.atomics.Atomic.{bitString, sizeOf}
+use Rattle.types.specs.layout.Placing.{times}
+use Rattle.types.specs.tables.Lent.{memberAt, bitOf}
+use Rattle.types.specs.tables.Sizes.{sizesIn}
+use Rattle.types.specs.declared.atomics.atomic.Atomic.{Atomic}
+use Rattle.types.specs.declared.atomics.atomic.Atomic.the-variants as atomic
+use Rattle.types.specs.declared.tables.member.Bit.{Bit}
+use Rattle.types.specs.declared.tables.member.Bit.the-variants.{None, At}
+use Rattle.types.specs.declared.tables.member.Member.{Member}
+use Rattle.types.specs.declared.tables.member.Ty.{Ty}
+use Rattle.types.specs.declared.tables.member.Ty.the-variants as ty
+use Rattle.values.specs.inside.reading.Walk.{wrap, bitToken, bitsOut, elementOut, numbersOut, atomicsOut}
+use Rattle.values.specs.inside.reading.Walk.{bitOut, leafValue, leafOut}
+use Rattle.values.specs.inside.reading.Walkable.{RowOf, ImageOf}
+use Rattle.values.specs.inside.stream.Laying.{Put}
+use Rattle.values.specs.reading.Leaf.{emit, leafOf}
+use Rattle.values.specs.stream.Stream.{Token, bool, member, entryBytes}
+use Rattle.values.proofs.reading.PartLaws.{lent, lent-part, lent-long}
+use Rattle.values.proofs.stream.HeadLaws.{Textless, textless-none, textless-bool, textless-number}
+use Rattle.values.proofs.stream.HeadLaws.{textless-member}
+use Rattle.values.proofs.stream.HeadLaws.{textless-mark, textless-append, textless-up}
+use Rattle.values.proofs.stream.PutLaws.{put-none, put-one, put-first}
 
 -- ---- no text
 

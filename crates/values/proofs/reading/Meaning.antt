@@ -12,31 +12,37 @@ use lib.Seq.{getD-drop}
 use Rattle.words.specs.Bits.{Bits, flat}
 use Rattle.words.specs.Words.{Bytes, part}
 use Rattle.words.proofs.Lists.{length-part}
-use Rattle.types.specs.Atomic.{bitString, sizeOf}
-use Rattle.types.specs.Laid.{Earlier, firstIn, firstBit}
-use Rattle.types.specs.Layout.{times}
-use Rattle.types.specs.Tables.{TyFits, memberAt, typeAt}
-use Rattle.types.specs.Waste.{bitsOf, sizeIn, sizesIn}
-use Rattle.types.specs.declared.atomic.Atomic.{Atomic}
-use Rattle.types.specs.declared.member.Bit.{Bit}
-use Rattle.types.specs.declared.member.Bit.the-variants.{None, At}
-use Rattle.types.specs.declared.member.Member.{Member}
-use Rattle.types.specs.declared.member.Ty.{Ty}
-use Rattle.types.specs.declared.member.Ty.the-variants as ty
-use Rattle.values.specs.Leaf.{Leaf, flag, str, leafOf, emit, clipped}
-use Rattle.values.specs.Stream.{Token, bool, text, member}
-use Rattle.values.specs.Tree.{Tree, leaf, bits, array, struct, Branches, allBits, span, each, oneFlag}
-use Rattle.values.specs.Tree.{items, branchItems, read}
-use Rattle.values.specs.Trees.{membersAt, knownIn, secondCount, isString, atomicsTree, bitTree, seen, structsTree}
-use Rattle.values.specs.Trees.{valueTree, branchesFrom, structTree, treeWithin, treeOf, treeOfValue}
-use Rattle.values.specs.Walk.{upTo, wrap, bitToken, bitsOut, numberOut, elementOut, numbersOut, atomicsOut}
-use Rattle.values.specs.Walk.{textOut, capacityAt, bitOut, elementBy, elementsBy, structsBy, valueBy}
-use Rattle.values.specs.Walk.{bytesBy, memberBy, rowBy, membersBy, structBy, structWithin, structOut, valueOut}
-use Rattle.values.specs.Walkable.{Within, IsString, WalkableType, Walkable}
-use Rattle.values.proofs.SpanLaws.{Many, one, some, many, leaf-room, all-bits, Sized, value-span, value-inside}
-use Rattle.values.proofs.SpanLaws.{sound-below, capacity-is, earlier, sound-within, sound-all}
-use Rattle.values.proofs.TreeLaws.{Inside, read-append, read-between, part-read, chars-part, each-up}
-use Rattle.values.proofs.UpLaws.{up-cons, up-ext}
+use Rattle.types.specs.atomics.Atomic.{bitString, sizeOf}
+use Rattle.types.specs.inside.tables.Lent.{TyFits}
+use Rattle.types.specs.layout.Laid.{Earlier, firstIn, firstBit}
+use Rattle.types.specs.layout.Placing.{times}
+use Rattle.types.specs.tables.Lent.{memberAt, typeAt}
+use Rattle.types.specs.tables.Sizes.{bitsOf, sizeIn, sizesIn}
+use Rattle.types.specs.declared.atomics.atomic.Atomic.{Atomic}
+use Rattle.types.specs.declared.tables.member.Bit.{Bit}
+use Rattle.types.specs.declared.tables.member.Bit.the-variants.{None, At}
+use Rattle.types.specs.declared.tables.member.Member.{Member}
+use Rattle.types.specs.declared.tables.member.Ty.{Ty}
+use Rattle.types.specs.declared.tables.member.Ty.the-variants as ty
+use Rattle.values.specs.inside.reading.Walk.{upTo, wrap, bitToken, bitsOut, numberOut, elementOut, numbersOut}
+use Rattle.values.specs.inside.reading.Walk.{atomicsOut}
+use Rattle.values.specs.inside.reading.Walk.{textOut, bitOut, elementBy, elementsBy, structsBy, valueBy}
+use Rattle.values.specs.inside.reading.Walk.{bytesBy, memberBy, rowBy, membersBy, structBy, structWithin}
+use Rattle.values.specs.inside.reading.Walk.{structOut, valueOut}
+use Rattle.values.specs.inside.reading.Walkable.{Within, IsString, WalkableType, Walkable}
+use Rattle.values.specs.reading.Leaf.{Leaf, flag, str, leafOf, emit, clipped}
+use Rattle.values.specs.reading.Texts.{capacityAt}
+use Rattle.values.specs.reading.Tree.{Tree, leaf, bits, array, struct, Branches, allBits, span, each, oneFlag}
+use Rattle.values.specs.reading.Tree.{items, branchItems, read}
+use Rattle.values.specs.reading.Trees.{membersAt, knownIn, secondCount, isString, atomicsTree, bitTree, seen}
+use Rattle.values.specs.reading.Trees.{structsTree}
+use Rattle.values.specs.reading.Trees.{valueTree, branchesFrom, structTree, treeWithin, treeOf, treeOfValue}
+use Rattle.values.specs.stream.Stream.{Token, bool, text, member}
+use Rattle.values.proofs.reading.SpanLaws.{Many, one, some, many, leaf-room, all-bits, Sized, value-span}
+use Rattle.values.proofs.reading.SpanLaws.{value-inside}
+use Rattle.values.proofs.reading.SpanLaws.{sound-below, capacity-is, earlier, sound-within, sound-all}
+use Rattle.values.proofs.reading.TreeLaws.{Inside, read-append, read-between, part-read, chars-part, each-up}
+use Rattle.values.proofs.reading.UpLaws.{up-cons, up-ext}
 
 -- ---- parts of an image have bytes
 

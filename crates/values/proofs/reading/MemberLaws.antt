@@ -7,19 +7,20 @@ use mathlib.Core.Bool.{Bool, true, false, cond}
 use mathlib.Core.List.{List, [], _∷_}
 use Rattle.words.specs.Bits.{flat}
 use Rattle.words.specs.Words.{part}
-use Rattle.types.specs.Layout.{times}
-use Rattle.types.specs.Tables.{memberAt, typeAt}
-use Rattle.types.specs.Waste.{sizeIn, sizesIn}
-use Rattle.types.specs.declared.atomic.Atomic.{Atomic}
-use Rattle.types.specs.declared.member.Bit.{Bit}
-use Rattle.types.specs.declared.member.Bit.the-variants.{None, At}
-use Rattle.types.specs.declared.member.Member.{Member}
-use Rattle.types.specs.declared.member.Ty.{Ty}
-use Rattle.types.specs.declared.member.Ty.the-variants as ty
-use Rattle.types.proofs.TestLaws.{clash}
-use Rattle.values.specs.Stream.{Token, bool, member}
-use Rattle.values.specs.Walk.{bitNested, isNested, bitOut, leafValue, leafOut, structsBy, valueBy, memberBy}
-use Rattle.values.specs.Walkable.{Walkable, RowOf, NestedRow}
+use Rattle.words.proofs.TestLaws.{clash}
+use Rattle.types.specs.layout.Placing.{times}
+use Rattle.types.specs.tables.Lent.{memberAt, typeAt}
+use Rattle.types.specs.tables.Sizes.{sizeIn, sizesIn}
+use Rattle.types.specs.declared.atomics.atomic.Atomic.{Atomic}
+use Rattle.types.specs.declared.tables.member.Bit.{Bit}
+use Rattle.types.specs.declared.tables.member.Bit.the-variants.{None, At}
+use Rattle.types.specs.declared.tables.member.Member.{Member}
+use Rattle.types.specs.declared.tables.member.Ty.{Ty}
+use Rattle.types.specs.declared.tables.member.Ty.the-variants as ty
+use Rattle.values.specs.inside.reading.Walk.{bitNested, isNested, bitOut, leafValue, leafOut, structsBy, valueBy}
+use Rattle.values.specs.inside.reading.Walk.{memberBy}
+use Rattle.values.specs.inside.reading.Walkable.{Walkable, RowOf, NestedRow}
+use Rattle.values.specs.stream.Stream.{Token, bool, member}
 
 -- ---- which rows are structures
 

@@ -13,13 +13,13 @@ use Rattle.words.specs.Bits.{from, flat, val}
 use Rattle.words.specs.Words.{part, wordAt, Bytes}
 use Rattle.words.proofs.BitLaws.{val-ext, word-val}
 use Rattle.words.proofs.WordLaws.{word-below}
-use Rattle.types.specs.Atomic.{sizeOf}
-use Rattle.types.specs.declared.atomic.Atomic.{Atomic}
-use Rattle.types.specs.declared.atomic.Atomic.the-variants as atomic
-use Rattle.values.specs.Leaf.{int, word, byte, emit, isTrue, leafOf, signed}
-use Rattle.values.specs.Numbers.{extended, formOf, plainForm, signedForm}
-use Rattle.values.specs.Stream.{bool, number}
-use Rattle.values.specs.declared.numbers.Form.{Form}
+use Rattle.types.specs.atomics.Atomic.{sizeOf}
+use Rattle.types.specs.declared.atomics.atomic.Atomic.{Atomic}
+use Rattle.types.specs.declared.atomics.atomic.Atomic.the-variants as atomic
+use Rattle.values.specs.inside.reading.Numbers.{extended, formOf, plainForm, signedForm}
+use Rattle.values.specs.reading.Leaf.{int, word, byte, emit, isTrue, leafOf, signed}
+use Rattle.values.specs.stream.Stream.{bool, number}
+use Rattle.values.specs.declared.reading.numbers.Form.{Form}
 
 -- ---- the bits of a part
 

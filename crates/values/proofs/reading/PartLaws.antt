@@ -8,14 +8,14 @@ use mathlib.Core.Path.{_≡_, sym, ap, _∙_, subst}
 use mathlib.Core.List.{List, _∷_}
 use lib.ListN.{length, take, drop, length-take, length-drop}
 use Rattle.words.specs.Words.{part}
-use Rattle.types.specs.Layout.{times}
-use Rattle.types.specs.Tables.{memberAt}
-use Rattle.types.specs.Waste.{sizesIn}
-use Rattle.types.specs.declared.member.Ty.the-variants as ty
-use Rattle.values.specs.Stream.{Token, member}
-use Rattle.values.specs.Walk.{elementBy, elementsBy, structsBy, memberBy}
-use Rattle.values.specs.Walkable.{NestedRow, ImageOf, ImagesOf}
-use Rattle.values.proofs.MemberLaws.{nested-whole, nested-earlier, member-nested}
+use Rattle.types.specs.layout.Placing.{times}
+use Rattle.types.specs.tables.Lent.{memberAt}
+use Rattle.types.specs.tables.Sizes.{sizesIn}
+use Rattle.types.specs.declared.tables.member.Ty.the-variants as ty
+use Rattle.values.specs.inside.reading.Walk.{elementBy, elementsBy, structsBy, memberBy}
+use Rattle.values.specs.inside.reading.Walkable.{NestedRow, ImageOf, ImagesOf}
+use Rattle.values.specs.stream.Stream.{Token, member}
+use Rattle.values.proofs.reading.MemberLaws.{nested-whole, nested-earlier, member-nested}
 
 -- the bytes from a start to an end
 abbrev pub lent : List ℕ → ℕ → ℕ → List ℕ

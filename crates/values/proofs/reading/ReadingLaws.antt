@@ -13,30 +13,31 @@ use borrow.Author.Tests.{eq-eqb, ne-eqb, eqb-true, eqb-false, le-leb, lt-leb, le
 use Rattle.words.specs.Bits.{flat}
 use Rattle.words.specs.Words.{Bytes, bytesOf, part}
 use Rattle.words.proofs.Lists.{part-run}
-use Rattle.types.specs.Layout.{times}
-use Rattle.types.specs.Shape.{isThere}
-use Rattle.types.specs.Waste.{sizeIn, sizesIn}
-use Rattle.types.specs.declared.atomic.Atomic.{Atomic}
-use Rattle.types.specs.declared.member.Ty.{Ty}
-use Rattle.types.specs.declared.member.Ty.the-variants as ty
-use Rattle.types.specs.declared.refusal.Refusal.the-variants.{ImageLength, NoSuchType, NoRoom}
-use Rattle.types.proofs.LayoutLaws.{times-one, times-same}
-use Rattle.types.proofs.ShapeLaws.{there-fits}
-use Rattle.values.specs.declared.place.Place.{Place}
-use Rattle.values.specs.declared.reading.Streamed.{Streamed}
-use Rattle.values.specs.declared.reading.Streamed.the-variants.{Length, Refused}
-use Rattle.values.specs.Counting.{Texts}
-use Rattle.values.specs.Laying.{laid, Wrote}
-use Rattle.types.specs.Said.{done, refused}
-use Rattle.values.specs.Stream.{Token, bodies, mostBytes, streamBytes}
-use Rattle.values.specs.Tree.{items, read}
-use Rattle.values.specs.Trees.{knownIn, treeOfValue}
-use Rattle.values.specs.Walk.{atomicsOut, elementsBy, structOut, structsBy, valueOut}
-use Rattle.values.specs.Walkable.{ImageOf, ImagesOf, ValueImage, Walkable}
-use Rattle.values.proofs.Meaning.{meaning}
-use Rattle.values.proofs.StreamLaws.{stream-long, stream-laid}
-use Rattle.values.specs.Reading.{streamOf, valueStream, imageFits, hasRoom, streamAnswer, readAnswer}
-use Rattle.values.specs.Reading.{Answered, Written}
+use Rattle.types.specs.layout.Placing.{times}
+use Rattle.types.specs.refusals.Said.{done, refused}
+use Rattle.types.specs.tables.Sizes.{sizeIn, sizesIn}
+use Rattle.types.specs.tables.There.{isThere}
+use Rattle.types.specs.declared.atomics.atomic.Atomic.{Atomic}
+use Rattle.types.specs.declared.refusals.refusal.Refusal.the-variants.{ImageLength, NoSuchType, NoRoom}
+use Rattle.types.specs.declared.tables.member.Ty.{Ty}
+use Rattle.types.specs.declared.tables.member.Ty.the-variants as ty
+use Rattle.types.proofs.Face.{times-one, times-same}
+use Rattle.types.proofs.Face.{there-fits}
+use Rattle.values.specs.inside.reading.Read.{StreamWritten}
+use Rattle.values.specs.inside.reading.Walk.{atomicsOut, elementsBy, structOut, structsBy, valueOut}
+use Rattle.values.specs.inside.reading.Walkable.{ImageOf, ImagesOf, ValueImage, Walkable}
+use Rattle.values.specs.inside.stream.Counting.{Texts}
+use Rattle.values.specs.inside.stream.Laying.{laidIn, Wrote}
+use Rattle.values.specs.reading.Read.{streamOf, valueStream, imageFits, hasRoom, streamAnswer, readAnswer}
+use Rattle.values.specs.reading.Read.{Answered}
+use Rattle.values.specs.reading.Tree.{items, read}
+use Rattle.values.specs.reading.Trees.{knownIn, treeOfValue}
+use Rattle.values.specs.stream.Stream.{Token, bodies, mostBytes, streamBytes}
+use Rattle.values.specs.declared.reading.read.Streamed.{Streamed}
+use Rattle.values.specs.declared.reading.read.Streamed.the-variants.{Length, Refused}
+use Rattle.values.specs.declared.stream.place.Place.{Place}
+use Rattle.values.proofs.reading.Meaning.{meaning}
+use Rattle.values.proofs.stream.StreamLaws.{stream-long, stream-laid}
 
 -- ---- one way out each
 
@@ -51,18 +52,18 @@ module _ (types members : List ℕ) (t : Ty) (n : ℕ) (image out : List ℕ) wh
   no-image e f = record { answer = rw (e, f) refl; leaves = rw (e, f) refl }
 
   pub answered : {r : Streamed} {new : List ℕ} → isThere types t ≡ true → imageFits types t n image ≡ true
-      → Written types members t n image out r new → Answered types members t n image out r new
+      → StreamWritten types members t n image out r new → Answered types members t n image out r new
   unfolding readAnswer
   answered e f w = record { answer = rw (e, f) (w .answer); leaves = rw (e, f) (w .leaves) }
 
   pub no-room : hasRoom (valueStream types members t n image) (length out) ≡ false
-      → Written types members t n image out (Refused NoRoom) out
+      → StreamWritten types members t n image out (Refused NoRoom) out
   unfolding streamAnswer
   no-room e = record { answer = rw e refl; leaves = rw e refl }
 
   all-room : {k : ℕ} {new : List ℕ} → hasRoom (valueStream types members t n image) (length out) ≡ true
       → k ≡ length (valueStream types members t n image) → new ≡ sets out 0 (valueStream types members t n image)
-      → Written types members t n image out (Length k) new
+      → StreamWritten types members t n image out (Length k) new
   unfolding streamAnswer
   all-room e f g = record { answer = rw e (ap done f); leaves = rw e g }
 
@@ -171,11 +172,11 @@ module _ (types members : List ℕ) (t : Ty) (n : ℕ) (image out : List ℕ) (r
   pub read-all : {entries text : ℕ} {mid new : List ℕ} {p : Place} → entries ≡ length ts → text ≡ length (bodies ts)
       → 12 * length ts + length (bodies ts) ≤ room → mid ≡ sets out 0 (bytesOf 4 entries)
       → Wrote mid (4 + 12 * entries) 4 0 ts new p
-      → Written types members t n image out (Length (4 + 12 * entries + text)) new
+      → StreamWritten types members t n image out (Length (4 + 12 * entries + text)) new
   read-all {entries} {text} {mid} e f l m w =
       all-room types members t n image out (in-room l) (omega (arith, long, e, f))
-      (w .bytes ∙ ap (λ (o : List ℕ). laid o (4 + 12 * entries) 4 0 ts) m
-      ∙ ap (λ (k : ℕ). laid (sets out 0 (bytesOf 4 k)) (4 + 12 * k) 4 0 ts) e
+      (w .bytes ∙ ap (λ (o : List ℕ). laidIn o (4 + 12 * entries) 4 0 ts) m
+      ∙ ap (λ (k : ℕ). laidIn (sets out 0 (bytesOf 4 k)) (4 + 12 * k) 4 0 ts) e
       ∙ stream-laid out ts ∙ ap (sets out 0) (sym same))
 
 -- an empty buffer has no room for any stream

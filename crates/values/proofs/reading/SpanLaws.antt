@@ -7,26 +7,28 @@ use mathlib.Core.Path.{_≡_, refl, ap, _∙_}
 use mathlib.Core.Bool.{Bool, true, false, cond}
 use mathlib.Core.List.{List}
 use lib.Dec.{eqb}
-use Rattle.types.specs.Atomic.{bitString, sizeOf}
-use Rattle.types.specs.Laid.{Earlier, firstBit}
-use Rattle.types.specs.Layout.{times}
-use Rattle.types.specs.Tables.{TyFits, memberAt, typeAt}
-use Rattle.types.specs.Waste.{bitsOf, sizeIn, sizesIn}
-use Rattle.types.specs.declared.atomic.Atomic.{Atomic}
-use Rattle.types.specs.declared.atomic.Atomic.the-variants as atomic
-use Rattle.types.specs.declared.member.Bit.{Bit}
-use Rattle.types.specs.declared.member.Bit.the-variants.{None, At}
-use Rattle.types.specs.declared.member.Member.{Member}
-use Rattle.types.specs.declared.member.Ty.{Ty}
-use Rattle.types.specs.declared.member.Ty.the-variants as ty
-use Rattle.types.proofs.LayoutLaws.{times-same}
-use Rattle.values.specs.Leaf.{str, leafOf}
-use Rattle.values.specs.Tree.{Tree, leaf, bits, array, struct, Branches, room, allBits, span}
-use Rattle.values.specs.Trees.{membersAt, knownIn, secondCount, isString, atomicsTree, bitTree, seen}
-use Rattle.values.specs.Trees.{structsTree, valueTree, branchesFrom, structTree, treeWithin, treeOf, treeOfValue}
-use Rattle.values.specs.Walk.{capacityAt}
-use Rattle.values.specs.Walkable.{Within, IsString, WalkableType, Walkable}
-use Rattle.values.proofs.TreeLaws.{Inside, AllInside}
+use Rattle.types.specs.atomics.Atomic.{bitString, sizeOf}
+use Rattle.types.specs.inside.tables.Lent.{TyFits}
+use Rattle.types.specs.layout.Laid.{Earlier, firstBit}
+use Rattle.types.specs.layout.Placing.{times}
+use Rattle.types.specs.tables.Lent.{memberAt, typeAt}
+use Rattle.types.specs.tables.Sizes.{bitsOf, sizeIn, sizesIn}
+use Rattle.types.specs.declared.atomics.atomic.Atomic.{Atomic}
+use Rattle.types.specs.declared.atomics.atomic.Atomic.the-variants as atomic
+use Rattle.types.specs.declared.tables.member.Bit.{Bit}
+use Rattle.types.specs.declared.tables.member.Bit.the-variants.{None, At}
+use Rattle.types.specs.declared.tables.member.Member.{Member}
+use Rattle.types.specs.declared.tables.member.Ty.{Ty}
+use Rattle.types.specs.declared.tables.member.Ty.the-variants as ty
+use Rattle.types.proofs.Face.{times-same}
+use Rattle.values.specs.inside.reading.Walkable.{Within, IsString, WalkableType, Walkable}
+use Rattle.values.specs.reading.Leaf.{str, leafOf}
+use Rattle.values.specs.reading.Texts.{capacityAt}
+use Rattle.values.specs.reading.Tree.{Tree, leaf, bits, array, struct, Branches, room, allBits, span}
+use Rattle.values.specs.reading.Trees.{membersAt, knownIn, secondCount, isString, atomicsTree, bitTree, seen}
+use Rattle.values.specs.reading.Trees.{structsTree, valueTree, branchesFrom, structTree, treeWithin, treeOf}
+use Rattle.values.specs.reading.Trees.{treeOfValue}
+use Rattle.values.proofs.reading.TreeLaws.{Inside, AllInside}
 
 -- a count: 0 is one value, any other an array
 pub data Many (n : ℕ) : Type 0 where

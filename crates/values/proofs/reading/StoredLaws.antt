@@ -9,18 +9,19 @@ use borrow.Author.Tests.{eq-eqb, ne-eqb, eqb-true}
 use lib.Dec.{eqb}
 use lib.ListN.{length, take, drop}
 use Rattle.words.specs.Words.{part}
-use Rattle.types.specs.Shape.{isThere}
-use Rattle.types.specs.Tables.{typeAt}
-use Rattle.types.specs.Waste.{sizesIn}
-use Rattle.types.specs.declared.atomic.Atomic.{Atomic}
-use Rattle.types.specs.declared.member.StructDef.{StructDef}
-use Rattle.types.specs.declared.member.Ty.{Ty}
-use Rattle.types.specs.declared.member.Ty.the-variants as ty
-use Rattle.types.proofs.ShapeLaws.{there-fits}
-use Rattle.values.specs.Trees.{isString}
-use Rattle.values.specs.Walk.{capacityAt, textLength}
-use Rattle.values.specs.Walkable.{IsString, Walkable}
-use Rattle.values.specs.Texts.{Address, Held, Stored, capacityOf, stringNumber, textNumber, textPart}
+use Rattle.types.specs.tables.Lent.{typeAt}
+use Rattle.types.specs.tables.Sizes.{sizesIn}
+use Rattle.types.specs.tables.There.{isThere}
+use Rattle.types.specs.declared.atomics.atomic.Atomic.{Atomic}
+use Rattle.types.specs.declared.tables.member.StructDef.{StructDef}
+use Rattle.types.specs.declared.tables.member.Ty.{Ty}
+use Rattle.types.specs.declared.tables.member.Ty.the-variants as ty
+use Rattle.types.proofs.Face.{there-fits}
+use Rattle.values.specs.inside.reading.Texts.{TextHeld}
+use Rattle.values.specs.inside.reading.Walkable.{IsString, Walkable}
+use Rattle.values.specs.reading.Texts.{capacityAt, textLength}
+use Rattle.values.specs.reading.Texts.{Address, Stored, capacityOf, stringNumber, textNumber, textPart}
+use Rattle.values.specs.reading.Trees.{isString}
 
 -- ---- the numbers
 
@@ -110,7 +111,7 @@ readable {types} {members} t {i} image w e n =
 
 pub held-struct : {types members : List ℕ} {t : Ty} {i : ℕ} {image : List ℕ} {n : ℕ} → t ≡ ty.Struct i
     → Readable types members i image → n ≡ textLength (capacityAt members (typeAt types i .first)) image
-    → Held types members t image n
+    → TextHeld types members t image n
 held-struct {types} {members} {t} {i} {image} e r h = record { long = rw e h; inside = omega (arith, r .inside) }
 
 -- no atomic has a text
@@ -119,14 +120,14 @@ unfolding textNumber
 no-atomic types image a n = let z : _≡_ {A = ℕ} 15 0 = n in absurd (let y : ⊥ = omega arith in y)
 
 pub held-atomic : {types members : List ℕ} {t : Ty} {a : Atomic} {image : List ℕ} {n : ℕ} → t ≡ ty.Atomic a
-    → textNumber types t image ≡ 0 → Held types members t image n
+    → textNumber types t image ≡ 0 → TextHeld types members t image n
 held-atomic {types} {a = a} {image = image} e n = no-atomic types image a (rw e at n)
 
 -- ---- what is handed back
 
 module _ {types members : List ℕ} {t : Ty} {image : List ℕ} {whole place : Address} {number : ℕ}
     (e : number ≡ textNumber types t image) (block : place .0 ≡ whole .0) where
-  pub stored-text : {n : ℕ} → number ≡ 0 → Held types members t image n → place .1 ≡ 4 + whole .1
+  pub stored-text : {n : ℕ} → number ≡ 0 → TextHeld types members t image n → place .1 ≡ 4 + whole .1
       → Stored types members t image whole number (take (4 + n - 4) (drop 4 image)) place
   unfolding textPart part
   stored-text {n} z h s =

@@ -6,21 +6,22 @@ use mathlib.Core.Path.{_≡_, refl, sym, ap, _∙_}
 use mathlib.Core.Bool.{true}
 use mathlib.Core.List.{List, [], _∷_}
 use Rattle.words.specs.Words.{Bytes}
-use Rattle.types.specs.Kept.{KeptRows}
-use Rattle.types.specs.Tables.{typeAt}
-use Rattle.types.specs.Waste.{sizesIn}
-use Rattle.types.specs.declared.member.Ty.{Ty}
-use Rattle.types.specs.declared.member.Ty.the-variants as ty
-use Rattle.types.proofs.LayoutLaws.{times-one}
-use Rattle.values.specs.Reading.{valueStream}
-use Rattle.values.specs.Stream.{streamBytes, text}
-use Rattle.values.specs.Texts.{Address, Stored, capacityOf, textNumber, textPart}
-use Rattle.values.specs.Trees.{isString}
-use Rattle.values.specs.Walk.{capacityAt, structBy, structOut, structWithin, textIn, textOut}
-use Rattle.values.specs.Walkable.{ValueImage}
-use Rattle.values.proofs.KeptWalkable.{kept-walkable}
-use Rattle.values.proofs.ReadingLaws.{stream-is, value-one}
-use Rattle.values.proofs.StoredLaws.{Accepted, accepted, no-atomic}
+use Rattle.types.specs.tables.Kept.{KeptRows}
+use Rattle.types.specs.tables.Lent.{typeAt}
+use Rattle.types.specs.tables.Sizes.{sizesIn}
+use Rattle.types.specs.declared.tables.member.Ty.{Ty}
+use Rattle.types.specs.declared.tables.member.Ty.the-variants as ty
+use Rattle.types.proofs.Face.{times-one}
+use Rattle.values.specs.inside.reading.Walk.{structBy, structOut, structWithin, textOut}
+use Rattle.values.specs.inside.reading.Walkable.{ValueImage}
+use Rattle.values.specs.reading.Read.{valueStream}
+use Rattle.values.specs.reading.Texts.{Address, Stored, capacityOf, textNumber, textPart}
+use Rattle.values.specs.reading.Texts.{capacityAt, textIn}
+use Rattle.values.specs.reading.Trees.{isString}
+use Rattle.values.specs.stream.Stream.{streamBytes, text}
+use Rattle.values.proofs.reading.KeptWalkable.{kept-walkable}
+use Rattle.values.proofs.reading.ReadingLaws.{stream-is, value-one}
+use Rattle.values.proofs.reading.StoredLaws.{Accepted, accepted, no-atomic}
 
 -- a string is read as one text
 string-out : (types members : List ℕ) (i : ℕ) (image : List ℕ) → isString (typeAt types i .kind) ≡ true

@@ -10,14 +10,16 @@ use lib.Seq.{drop-cons}
 use Rattle.words.specs.Bits.{Bits, flat, from, val}
 use Rattle.words.specs.Words.{Bytes, part}
 use Rattle.words.proofs.BitLaws.{byte-val, val-ext}
-use Rattle.values.specs.Leaf.{Leaf, flag, byte, int, word, str, width, signed, isTrue, chars, clipped, emit}
-use Rattle.values.specs.Stream.{Token, bool, number, text, member, mark}
-use Rattle.values.specs.Tree.{Tree, leaf, bits, array, struct, Branches, none, branch, room, allBits, span}
-use Rattle.values.specs.Tree.{Item, say, at, each, between, oneFlag, items, branchItems, read}
-use Rattle.values.specs.Walk.{upTo, wrap}
-use Rattle.values.proofs.CharLaws.{chars-ext}
-use Rattle.values.proofs.NumberLaws.{flat-part}
-use Rattle.values.proofs.UpLaws.{up-cons}
+use Rattle.values.specs.inside.reading.Walk.{upTo, wrap}
+use Rattle.values.specs.reading.Leaf.{Leaf, flag, byte, int, word, str, width, signed, isTrue, chars, clipped}
+use Rattle.values.specs.reading.Leaf.{emit}
+use Rattle.values.specs.reading.Tree.{Tree, leaf, bits, array, struct, Branches, none, branch, room, allBits}
+use Rattle.values.specs.reading.Tree.{span}
+use Rattle.values.specs.reading.Tree.{Item, say, at, each, between, oneFlag, items, branchItems, read}
+use Rattle.values.specs.stream.Stream.{Token, bool, number, text, member, mark}
+use Rattle.values.proofs.normal_image.CharLaws.{chars-ext}
+use Rattle.values.proofs.reading.NumberLaws.{flat-part}
+use Rattle.values.proofs.reading.UpLaws.{up-cons}
 
 -- ---- reading some items
 

@@ -8,9 +8,9 @@ use native.Mathlib.Omega.{arith}
 use mathlib.Core.Path.{_≡_, refl, sym, ap, ap₂, _∙_}
 use mathlib.Core.List.{List, [], _∷_, _++_, append-assoc, append-nil}
 use lib.ListN.{length, length-append}
-use Rattle.values.specs.Stream.{Token, mark, bodies}
-use Rattle.values.specs.Walk.{upTo, wrap}
-use Rattle.values.proofs.HeadLaws.{bodies-append}
+use Rattle.values.specs.inside.reading.Walk.{upTo, wrap}
+use Rattle.values.specs.stream.Stream.{Token, mark, bodies}
+use Rattle.values.proofs.stream.HeadLaws.{bodies-append}
 
 -- runs that agree element for element
 pub up-ext : (g h : ℕ → List Token) (n : ℕ) → ((k : ℕ) → k < n → g k ≡ h k) → upTo g n ≡ upTo h n

@@ -8,18 +8,20 @@ use mathlib.Core.List.{List, [], _∷_}
 use lib.Dec.{eqb}
 use Rattle.words.specs.Bits.{flat}
 use Rattle.words.specs.Words.{part}
-use Rattle.types.specs.Laid.{Earlier}
-use Rattle.types.specs.Tables.{memberAt, typeAt}
-use Rattle.types.specs.Waste.{sizesIn}
-use Rattle.types.specs.declared.member.Member.{Member}
-use Rattle.types.specs.declared.member.Ty.{Ty}
-use Rattle.types.specs.declared.member.Ty.the-variants as ty
-use Rattle.values.specs.Stream.{Token, bool, member}
-use Rattle.values.specs.Trees.{isString}
-use Rattle.values.specs.Walk.{wrap, textOut, capacityAt, bitOut, elementBy, elementsBy, structsBy}
-use Rattle.values.specs.Walk.{valueBy, bytesBy, memberBy, rowBy, membersBy, structBy, structWithin, structOut}
-use Rattle.values.specs.Walkable.{WalkableType, Walkable}
-use Rattle.values.proofs.UpLaws.{up-ext}
+use Rattle.types.specs.layout.Laid.{Earlier}
+use Rattle.types.specs.tables.Lent.{memberAt, typeAt}
+use Rattle.types.specs.tables.Sizes.{sizesIn}
+use Rattle.types.specs.declared.tables.member.Member.{Member}
+use Rattle.types.specs.declared.tables.member.Ty.{Ty}
+use Rattle.types.specs.declared.tables.member.Ty.the-variants as ty
+use Rattle.values.specs.inside.reading.Walk.{wrap, textOut, bitOut, elementBy, elementsBy, structsBy}
+use Rattle.values.specs.inside.reading.Walk.{valueBy, bytesBy, memberBy, rowBy, membersBy, structBy, structWithin}
+use Rattle.values.specs.inside.reading.Walk.{structOut}
+use Rattle.values.specs.inside.reading.Walkable.{WalkableType, Walkable}
+use Rattle.values.specs.reading.Texts.{capacityAt}
+use Rattle.values.specs.reading.Trees.{isString}
+use Rattle.values.specs.stream.Stream.{Token, bool, member}
+use Rattle.values.proofs.reading.UpLaws.{up-ext}
 
 -- ---- what the nested structures give is all that matters
 

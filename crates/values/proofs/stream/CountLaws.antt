@@ -9,22 +9,23 @@ use mathlib.Core.List.{List, _∷_}
 use borrow.Author.Tests.{eq-eqb, ne-eqb}
 use lib.ListN.{length}
 use Rattle.words.specs.Words.{part}
-use Rattle.types.specs.Tables.{typeAt}
-use Rattle.types.specs.Waste.{sizesIn}
-use Rattle.types.proofs.TestLaws.{clash}
-use Rattle.values.specs.Counting.{Counted, Plain}
-use Rattle.values.specs.Stream.{Token, member, bodies}
-use Rattle.values.specs.Trees.{isString}
-use Rattle.values.specs.Walk.{upTo, wrap, textOut, capacityAt, elementBy, elementsBy, structsBy, membersBy}
-use Rattle.values.specs.Walk.{structBy, structWithin, structOut}
-use Rattle.values.specs.Walkable.{Walkable}
-use Rattle.values.proofs.UpLaws.{up-length, up-least, up-first, up-bodies, wrap-length, wrap-bodies}
-use Rattle.values.proofs.WalkLaws.{struct-out}
+use Rattle.words.proofs.TestLaws.{clash}
+use Rattle.types.specs.tables.Lent.{typeAt}
+use Rattle.types.specs.tables.Sizes.{sizesIn}
+use Rattle.values.specs.inside.reading.Walk.{upTo, wrap, textOut, elementBy, elementsBy, structsBy, membersBy}
+use Rattle.values.specs.inside.reading.Walk.{structBy, structWithin, structOut}
+use Rattle.values.specs.inside.reading.Walkable.{Walkable}
+use Rattle.values.specs.inside.stream.Counting.{Counted, TextFree}
+use Rattle.values.specs.reading.Texts.{capacityAt}
+use Rattle.values.specs.reading.Trees.{isString}
+use Rattle.values.specs.stream.Stream.{Token, member, bodies}
+use Rattle.values.proofs.reading.UpLaws.{up-length, up-least, up-first, up-bodies, wrap-length, wrap-bodies}
+use Rattle.values.proofs.reading.WalkLaws.{struct-out}
 
 -- ---- counts that go on from a number
 
 -- entries of which none is a text
-pub plain-counted : {most from sum r : ℕ} {f : List ℕ → List Token} {b : Bool} → Plain f r → sum ≡ from + r
+pub plain-counted : {most from sum r : ℕ} {f : List ℕ → List Token} {b : Bool} → TextFree f r → sum ≡ from + r
     → Counted most from f b b sum
 plain-counted p q =
     record {
@@ -45,7 +46,7 @@ counted-same w q =
       still = w .still;
     }
 
-pub plain-same : {f g : List ℕ → List Token} {r : ℕ} → Plain f r → ((image : List ℕ) → f image ≡ g image) → Plain g r
+pub plain-same : {f g : List ℕ → List Token} {r : ℕ} → TextFree f r → ((image : List ℕ) → f image ≡ g image) → TextFree g r
 plain-same w q =
     record {
       exact = λ image. ap length (sym (q image)) ∙ w .exact image;

@@ -10,19 +10,20 @@ use borrow.Author.Tests.{eqb-true, eqb-false, eq-eqb, ne-eqb}
 use lib.Dec.{eqb, lit≤}
 use Rattle.words.specs.Bits.{Bits, flat}
 use Rattle.words.specs.Words.{part}
-use Rattle.types.specs.Atomic.{bitString, sizeOf}
-use Rattle.types.specs.Layout.{times}
-use Rattle.types.specs.declared.atomic.Atomic.{Atomic}
-use Rattle.types.specs.declared.atomic.Atomic.the-variants as atomic
-use Rattle.types.specs.declared.member.Bit.the-variants.{None, At}
-use Rattle.types.specs.declared.member.Member.{Member}
-use Rattle.types.specs.declared.member.Ty.the-variants as ty
-use Rattle.values.specs.Counting.{Counted, Plain}
-use Rattle.values.specs.Leaf.{leafOf, emit}
-use Rattle.values.specs.Stream.{bodyOf, bodies}
-use Rattle.values.specs.Walk.{upTo, bitToken, bitsOut, numberOut, elementOut, numbersOut, atomicsOut, leafOut}
-use Rattle.values.proofs.CountLaws.{plain-same}
-use Rattle.values.proofs.UpLaws.{wrap-length, wrap-bodies, up-length, up-bodies}
+use Rattle.types.specs.atomics.Atomic.{bitString, sizeOf}
+use Rattle.types.specs.layout.Placing.{times}
+use Rattle.types.specs.declared.atomics.atomic.Atomic.{Atomic}
+use Rattle.types.specs.declared.atomics.atomic.Atomic.the-variants as atomic
+use Rattle.types.specs.declared.tables.member.Bit.the-variants.{None, At}
+use Rattle.types.specs.declared.tables.member.Member.{Member}
+use Rattle.types.specs.declared.tables.member.Ty.the-variants as ty
+use Rattle.values.specs.inside.reading.Walk.{upTo, bitToken, bitsOut, numberOut, elementOut, numbersOut}
+use Rattle.values.specs.inside.reading.Walk.{atomicsOut, leafOut}
+use Rattle.values.specs.inside.stream.Counting.{Counted, TextFree}
+use Rattle.values.specs.reading.Leaf.{leafOf, emit}
+use Rattle.values.specs.stream.Stream.{bodyOf, bodies}
+use Rattle.values.proofs.reading.UpLaws.{wrap-length, wrap-bodies, up-length, up-bodies}
+use Rattle.values.proofs.stream.CountLaws.{plain-same}
 
 -- ---- atomics
 
@@ -65,7 +66,7 @@ number-bodies : (a : Atomic) (image : List ℕ) → bodies (numberOut a image) �
 unfolding bodies
 number-bodies a image = rw (emit-body a (flat image))
 
-bits-plain : (n : ℕ) → Plain (λ image. bitsOut image n) (2 + n)
+bits-plain : (n : ℕ) → TextFree (λ image. bitsOut image n) (2 + n)
 unfolding bitsOut
 bits-plain n =
     record {
@@ -76,7 +77,7 @@ bits-plain n =
           ∙ up-bodies (bitToken image) (λ k. unfold bodies in refl) n;
     }
 
-numbers-plain : (a : Atomic) (n : ℕ) → Plain (numbersOut a n) (2 + n)
+numbers-plain : (a : Atomic) (n : ℕ) → TextFree (numbersOut a n) (2 + n)
 unfolding numbersOut
 numbers-plain a n =
     record {
@@ -92,15 +93,15 @@ numbers-plain a n =
     }
 
 module _ (a : Atomic) (n : ℕ) where
-  pub atomics-bits : bitString a ≡ true → Plain (atomicsOut a n) (2 + 8 * (sizeOf a * times n))
+  pub atomics-bits : bitString a ≡ true → TextFree (atomicsOut a n) (2 + 8 * (sizeOf a * times n))
   atomics-bits e = plain-same (bits-plain (8 * (sizeOf a * times n))) (λ image. unfold atomicsOut in rw e)
 
-  pub atomics-one : bitString a ≡ false → n ≡ 0 → Plain (atomicsOut a n) 1
+  pub atomics-one : bitString a ≡ false → n ≡ 0 → TextFree (atomicsOut a n) 1
   atomics-one e z =
       plain-same {f = numberOut a} (record { exact = λ image. refl; plain = number-bodies a })
       (λ image. unfold atomicsOut in rw (e, eq-eqb n 0 z))
 
-  pub atomics-many : bitString a ≡ false → (n ≡ 0 → ⊥) → Plain (atomicsOut a n) (2 + n)
+  pub atomics-many : bitString a ≡ false → (n ≡ 0 → ⊥) → TextFree (atomicsOut a n) (2 + n)
   atomics-many e z = plain-same (numbers-plain a n) (λ image. unfold atomicsOut in rw (e, ne-eqb n 0 z))
 
   times-near : (n ≤ times n) × (times n ≤ n + 1)
@@ -124,7 +125,7 @@ module _ (a : Atomic) (n : ℕ) where
 
   record Sized : Type 0 where
     pub entries : ℕ
-    pub is : Plain (atomicsOut a n) entries
+    pub is : TextFree (atomicsOut a n) entries
     pub enough : n ≤ entries
     pub few : entries ≤ 2 + 64 * times n
 
@@ -152,7 +153,7 @@ module _ (a : Atomic) (n : ℕ) where
       }
 
   -- there are few enough entries to add one
-  pub atomics-few : {r : ℕ} → Plain (atomicsOut a n) r → n ≤ 2 ^ 32 → r ≤ 2 ^ 39
+  pub atomics-few : {r : ℕ} → TextFree (atomicsOut a n) r → n ≤ 2 ^ 32 → r ≤ 2 ^ 39
   atomics-few w h = omega (arith, w .exact [], sized .is .exact [], sized .few, times-near .1)
 
   -- more elements than `most` are more entries
@@ -168,17 +169,17 @@ module _ (a : Atomic) (n : ℕ) where
 -- ---- members that are no structures
 
 module _ (m : Member) (j : ℕ) where
-  pub leaf-hidden : m .hidden ≡ true → Plain (leafOut j m) 0
+  pub leaf-hidden : m .hidden ≡ true → TextFree (leafOut j m) 0
   unfolding leafOut bodies
   leaf-hidden e = record { exact = λ image. rw e; plain = λ image. rw e }
 
   module _ (shown : m .hidden ≡ false) where
-    pub leaf-bit : {k : ℕ} → m .bit ≡ At k → Plain (leafOut j m) 2
+    pub leaf-bit : {k : ℕ} → m .bit ≡ At k → TextFree (leafOut j m) 2
     unfolding leafOut bodies
     leaf-bit b = record { exact = λ image. rw (shown, b); plain = λ image. rw (shown, b) }
 
     pub leaf-atomic : {a : Atomic} {n r : ℕ} → m .bit ≡ None → m .ty ≡ ty.Atomic a → n ≡ m .count
-        → Plain (atomicsOut a n) r → Plain (leafOut j m) (1 + r)
+        → TextFree (atomicsOut a n) r → TextFree (leafOut j m) (1 + r)
     unfolding leafOut bodies
     leaf-atomic {a} {n} b t q w =
         record {
@@ -187,6 +188,6 @@ module _ (m : Member) (j : ℕ) where
           plain = λ image. rw (shown, b, t, ← q) (w .plain (part image (m .offset) (sizeOf a * times n)));
         }
 
-    pub leaf-struct : {s : ℕ} → m .bit ≡ None → m .ty ≡ ty.Struct s → Plain (leafOut j m) 1
+    pub leaf-struct : {s : ℕ} → m .bit ≡ None → m .ty ≡ ty.Struct s → TextFree (leafOut j m) 1
     unfolding leafOut bodies
     leaf-struct b t = record { exact = λ image. rw (shown, b, t); plain = λ image. rw (shown, b, t) }

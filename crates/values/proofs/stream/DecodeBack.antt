@@ -11,18 +11,18 @@ use lib.Seq.{sets, sets-eq, take-append-seam, drop-append-seam, drop-append-add}
 use borrow.Author.Tests.{eq-eqb, le-leb}
 use Rattle.words.specs.Words.{bytesOf, part, wordAt}
 use Rattle.words.proofs.WordLaws.{length-bytes, word-back}
-use Rattle.values.specs.Decode.{tokenOf, tokenIn, tokensFrom, tokensIn}
-use Rattle.values.specs.Entry.{EntryFits, entryIn, entryKind, entryPayload, bytesOfEntry}
-use Rattle.values.specs.Form.{At, entryStep, formed, countIn, streamOk}
-use Rattle.values.specs.Stream.{Token, kindOf, payloadOf, bodyOf, entryBytes, heads, bodies, streamBytes}
-use Rattle.values.specs.Stream.{mostBytes}
-use Rattle.values.specs.declared.entries.Entry.{Entry}
-use Rattle.values.specs.declared.entries.Loaded.{Loaded}
-use Rattle.values.specs.declared.entries.Loaded.the-variants.{Is}
-use Rattle.values.proofs.EntryLaws.{entry-back, length-entry}
-use Rattle.values.proofs.HeadLaws.{bodies-append, bodies-one, heads-append}
-use Rattle.values.proofs.HeadLaws.{length-heads}
-use Rattle.values.proofs.StreamLaws.{stream-long}
+use Rattle.values.specs.stream.Decode.{tokenOf, tokenIn, tokensFrom, tokensIn}
+use Rattle.values.specs.stream.Entry.{EntryFits, entryIn, entryKind, entryPayload, bytesOfEntry}
+use Rattle.values.specs.stream.Form.{At, entryStep, formed, countIn, streamOk}
+use Rattle.values.specs.stream.Stream.{Token, kindOf, payloadOf, bodyOf, entryBytes, heads, bodies, streamBytes}
+use Rattle.values.specs.stream.Stream.{mostBytes}
+use Rattle.values.specs.declared.stream.entry.Entry.{Entry}
+use Rattle.values.specs.declared.stream.entry.Loaded.{Loaded}
+use Rattle.values.specs.declared.stream.entry.Loaded.the-variants.{Is}
+use Rattle.values.proofs.stream.EntryLaws.{entry-back, length-entry}
+use Rattle.values.proofs.stream.HeadLaws.{bodies-append, bodies-one, heads-append}
+use Rattle.values.proofs.stream.HeadLaws.{length-heads}
+use Rattle.values.proofs.stream.StreamLaws.{stream-long}
 
 -- the entry that says a token, where the next text begins at a place
 pub record Says (place : ℕ) (t : Token) : Type 0 where

@@ -13,18 +13,18 @@ use borrow.Author.Tests.{eqb-true, leb-true}
 use Rattle.words.specs.Words.{Bytes, bytesOf, part}
 use Rattle.words.proofs.Lists.{length-part}
 use Rattle.words.proofs.WordLaws.{bytes-back}
-use Rattle.values.specs.Decode.{tokenOf, tokenIn, tokensFrom, tokensIn}
-use Rattle.values.specs.Entry.{entryIn, bytesOfEntry}
-use Rattle.values.specs.Form.{Step, At, Broken, textStep, entryStep, loadedStep, onStep, formed}
-use Rattle.values.specs.Form.{countIn, baseIn, streamOk}
-use Rattle.values.specs.Stream.{Token, kindOf, payloadOf, bodyOf, entryBytes, heads, bodies, streamBytes}
-use Rattle.values.specs.Stream.{mostBytes}
-use Rattle.values.specs.declared.entries.Entry.{Entry}
-use Rattle.values.specs.declared.entries.Entry.the-variants as entry
-use Rattle.values.specs.declared.entries.Loaded.{Loaded}
-use Rattle.values.specs.declared.entries.Loaded.the-variants.{Is, Malformed}
-use Rattle.values.proofs.EntryLaws.{entry-only}
-use Rattle.values.proofs.FormLaws.{at-same}
+use Rattle.values.specs.stream.Decode.{tokenOf, tokenIn, tokensFrom, tokensIn}
+use Rattle.values.specs.stream.Entry.{entryIn, bytesOfEntry}
+use Rattle.values.specs.stream.Form.{Step, At, Broken, textStep, entryStep, loadedStep, onStep, formed}
+use Rattle.values.specs.stream.Form.{countIn, baseIn, streamOk}
+use Rattle.values.specs.stream.Stream.{Token, kindOf, payloadOf, bodyOf, entryBytes, heads, bodies, streamBytes}
+use Rattle.values.specs.stream.Stream.{mostBytes}
+use Rattle.values.specs.declared.stream.entry.Entry.{Entry}
+use Rattle.values.specs.declared.stream.entry.Entry.the-variants as entry
+use Rattle.values.specs.declared.stream.entry.Loaded.{Loaded}
+use Rattle.values.specs.declared.stream.entry.Loaded.the-variants.{Is, Malformed}
+use Rattle.values.proofs.stream.EntryLaws.{entry-only}
+use Rattle.values.proofs.stream.FormLaws.{at-same}
 
 -- ---- one entry of a stream that is well formed
 

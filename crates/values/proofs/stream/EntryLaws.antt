@@ -15,17 +15,19 @@ use Rattle.words.specs.Words.{bytesOf, part, wordAt, Bytes}
 use Rattle.words.proofs.Lists.{sets-append, getD-sets, part-cons}
 use Rattle.words.proofs.WordLaws.{length-bytes, word-back, bytes-back}
 use borrow.Author.Tests.{eq-eqb, ne-eqb, eqb-true, lt-ltb, le-ltb, le-leb, lt-leb, leb-true, leb-false}
-use Rattle.types.proofs.TestLaws.{and-left, and-right}
-use Rattle.types.specs.Said.{Said, done}
-use Rattle.values.specs.Stream.{entryBytes}
-use Rattle.values.specs.Entry.{EntryFits, EntryStored, LoadedFits, bareIn, bytesOfEntry, entryAt, entryIn}
-use Rattle.values.specs.Entry.{entryKind, entryOr17, entryPayload, entrySet, isEntry, kindAt, loadedOf, lowIn}
-use Rattle.values.specs.Entry.{payloadAt, payloadRight, payloadsIn, payloadsRight, saidBy, textIn, threeZeros}
-use Rattle.values.specs.Entry.{truthIn}
-use Rattle.values.specs.declared.entries.Entry.{Entry}
-use Rattle.values.specs.declared.entries.Entry.the-variants as entry
-use Rattle.values.specs.declared.entries.Loaded.{Loaded}
-use Rattle.values.specs.declared.entries.Loaded.the-variants.{Is, Malformed}
+use Rattle.words.proofs.TestLaws.{and-left, and-right}
+use Rattle.types.specs.refusals.Said.{Said, done}
+use Rattle.values.specs.stream.Entry.{EntryFits, EntryStored, LoadedFits, bareIn, bytesOfEntry, entryAt, entryIn}
+use Rattle.values.specs.stream.Entry.{entryKind, entryOr17, entryPayload, entrySet, isEntry, kindAt, loadedOf}
+use Rattle.values.specs.stream.Entry.{lowIn}
+use Rattle.values.specs.stream.Entry.{payloadAt, payloadRight, payloadsIn, payloadsRight, saidBy, textEntry}
+use Rattle.values.specs.stream.Entry.{threeZeros}
+use Rattle.values.specs.stream.Entry.{truthIn}
+use Rattle.values.specs.stream.Stream.{entryBytes}
+use Rattle.values.specs.declared.stream.entry.Entry.{Entry}
+use Rattle.values.specs.declared.stream.entry.Entry.the-variants as entry
+use Rattle.values.specs.declared.stream.entry.Loaded.{Loaded}
+use Rattle.values.specs.declared.stream.entry.Loaded.the-variants.{Is, Malformed}
 
 -- ---- one entry
 
@@ -88,7 +90,7 @@ payload-below entry.Close h = omega arith
 payload-below entry.ArrayOpen h = omega arith
 payload-below entry.ArrayClose h = omega arith
 
-text-back : (place long : ℕ) → place < 2 ^ 32 → textIn (place + 2 ^ 32 * long) ≡ Is (entry.Text place long)
+text-back : (place long : ℕ) → place < 2 ^ 32 → textEntry (place + 2 ^ 32 * long) ≡ Is (entry.Text place long)
 text-back place long h =
     let e : (place + 2 ^ 32 * long) % 2 ^ 32 ≡ place = omega arith in
     let f : (place + 2 ^ 32 * long) / 2 ^ 32 ≡ long = omega arith in
@@ -193,7 +195,7 @@ low-said f kind x a b = go (ltb x (2 ^ 32))
     go true = ap₂ (λ (k y : ℕ). done (k, y)) a b
     go false = refl
 
-text-said : (x : ℕ) → saidBy (textIn x) ≡ entryOr17 true 6 x
+text-said : (x : ℕ) → saidBy (textEntry x) ≡ entryOr17 true 6 x
 text-said x =
     let e : x % 2 ^ 32 + 2 ^ 32 * (x / 2 ^ 32) ≡ x = omega arith in
     ap (λ (y : ℕ). done (6, y)) e

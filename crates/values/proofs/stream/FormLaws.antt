@@ -9,18 +9,18 @@ use mathlib.Core.List.{List}
 use lib.Dec.{eqb, leb, ltb}
 use lib.ListN.{length, getD, List·getD-eq-default}
 use borrow.Author.Tests.{eq-eqb, ne-eqb, le-leb, lt-leb, lt-ltb, le-ltb}
-use Rattle.words.proofs.WordLaws.{word-split}
 use Rattle.words.specs.Words.{wordAt}
-use Rattle.values.specs.Entry.{bareIn, truthIn, lowIn, payloadsIn, loadedOf, threeZeros, entryIn}
-use Rattle.values.specs.Form.{Step, At, Broken, textStep, entryStep, loadedStep, onStep, formed}
-use Rattle.values.specs.Form.{countIn, baseIn, streamOk}
-use Rattle.values.specs.Steps.{Moved, mostOf, nowhere}
-use Rattle.values.specs.Stream.{mostBytes}
-use Rattle.values.specs.declared.entries.Entry.{Entry}
-use Rattle.values.specs.declared.entries.Entry.the-variants as entry
-use Rattle.values.specs.declared.entries.Loaded.{Loaded}
-use Rattle.values.specs.declared.entries.Loaded.the-variants.{Is, Malformed}
-use Rattle.values.proofs.EntryLaws.{zeros-read}
+use Rattle.words.proofs.WordLaws.{word-split}
+use Rattle.values.specs.inside.stream.Steps.{Moved, mostOf, nowhere}
+use Rattle.values.specs.stream.Entry.{bareIn, truthIn, lowIn, payloadsIn, loadedOf, threeZeros, entryIn}
+use Rattle.values.specs.stream.Form.{Step, At, Broken, textStep, entryStep, loadedStep, onStep, formed}
+use Rattle.values.specs.stream.Form.{countIn, baseIn, streamOk}
+use Rattle.values.specs.stream.Stream.{mostBytes}
+use Rattle.values.specs.declared.stream.entry.Entry.{Entry}
+use Rattle.values.specs.declared.stream.entry.Entry.the-variants as entry
+use Rattle.values.specs.declared.stream.entry.Loaded.{Loaded}
+use Rattle.values.specs.declared.stream.entry.Loaded.the-variants.{Is, Malformed}
+use Rattle.values.proofs.stream.EntryLaws.{zeros-read}
 
 -- ---- one entry
 

@@ -7,10 +7,10 @@ use mathlib.Core.Path.{_≡_, refl, sym, ap, ap₂, _∙_}
 use mathlib.Core.Bool.{Bool}
 use mathlib.Core.List.{List, [], _∷_, _++_, append-assoc, append-nil}
 use lib.ListN.{length, length-append}
-use Rattle.values.specs.Stream.{Token, bool, number, member, mark, kindOf, payloadOf, bodyOf, entryBytes}
-use Rattle.values.specs.Stream.{heads, bodies}
-use Rattle.values.specs.Walk.{upTo}
-use Rattle.values.proofs.EntryLaws.{length-entry}
+use Rattle.values.specs.inside.reading.Walk.{upTo}
+use Rattle.values.specs.stream.Stream.{Token, bool, number, member, mark, kindOf, payloadOf, bodyOf, entryBytes}
+use Rattle.values.specs.stream.Stream.{heads, bodies}
+use Rattle.values.proofs.stream.EntryLaws.{length-entry}
 
 pub bodies-append : (ts us : List Token) → bodies (ts ++ us) ≡ bodies ts ++ bodies us
 unfolding bodies

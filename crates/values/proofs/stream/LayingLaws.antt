@@ -7,23 +7,23 @@ use mathlib.Core.List.{List, [], _∷_, _++_, append-assoc}
 use lib.ListN.{length, length-append}
 use lib.Seq.{sets, length-sets}
 use Rattle.words.proofs.Lists.{sets-append, sets-swap}
-use Rattle.values.specs.Laying.{Room, Wrote, laid}
-use Rattle.values.specs.Stream.{Token, member, mark, entryBytes, heads, bodies, mostBytes}
-use Rattle.values.specs.Walk.{upTo, wrap}
-use Rattle.values.specs.declared.place.Place.{Place}
-use Rattle.values.proofs.HeadLaws.{heads-append, bodies-append, texts-append, length-heads}
-use Rattle.values.proofs.HeadLaws.{textless-member, textless-mark}
-use Rattle.values.proofs.PutLaws.{put-one, put-wrote}
-use Rattle.values.proofs.UpLaws.{up-more, up-split}
+use Rattle.values.specs.inside.reading.Walk.{upTo, wrap}
+use Rattle.values.specs.inside.stream.Laying.{Room, Wrote, laidIn}
+use Rattle.values.specs.stream.Stream.{Token, member, mark, entryBytes, heads, bodies, mostBytes}
+use Rattle.values.specs.declared.stream.place.Place.{Place}
+use Rattle.values.proofs.reading.UpLaws.{up-more, up-split}
+use Rattle.values.proofs.stream.HeadLaws.{heads-append, bodies-append, texts-append, length-heads}
+use Rattle.values.proofs.stream.HeadLaws.{textless-member, textless-mark}
+use Rattle.values.proofs.stream.PutLaws.{put-one, put-wrote}
 
 -- ---- one run after another
 
 -- the entries stand below the base and the texts above it, so that neither run touches the other's
 module _ (out : List ℕ) (base at text : ℕ) (ts us : List Token) where
   laid-append : at + 12 * length (ts ++ us) ≤ base
-      → laid (laid out base at text ts) base (at + 12 * length ts) (text + length (bodies ts)) us
-      ≡ laid out base at text (ts ++ us)
-  unfolding laid
+      → laidIn (laidIn out base at text ts) base (at + 12 * length ts) (text + length (bodies ts)) us
+      ≡ laidIn out base at text (ts ++ us)
+  unfolding laidIn
   laid-append h =
       let n = length-append ts us in
       let first : List ℕ = sets out at (heads text ts) in
@@ -48,7 +48,7 @@ module _ (out : List ℕ) (base at text : ℕ) (ts us : List Token) where
 
 wrote-length : {out new : List ℕ} {base at text : ℕ} {ts : List Token} {p : Place}
     → Wrote out base at text ts new p → length new ≡ length out
-unfolding laid
+unfolding laidIn
 wrote-length {out} {base = base} {at} {text} {ts} w =
     ap length (w .bytes) ∙ length-sets (sets out at (heads text ts)) (base + text) (bodies ts)
     ∙ length-sets out at (heads text ts)
@@ -58,7 +58,7 @@ wrote-none out base at text =
     record {
       entries = omega arith;
       texts = unfold bodies in omega arith;
-      bytes = unfold laid heads bodies in refl;
+      bytes = unfold laidIn heads bodies in refl;
     }
 
 wrote-then : {out mid new : List ℕ} {long base at text p t : ℕ} {ts us : List Token} {r : Place}

@@ -9,17 +9,17 @@ use mathlib.Core.List.{List, [], _∷_}
 use lib.ListN.{length, getD}
 use Rattle.words.specs.Words.{part, wordAt}
 use Rattle.words.proofs.Lists.{length-part}
-use Rattle.values.specs.Decode.{tokenOf, tokensFrom}
-use Rattle.values.specs.Entry.{entryKind, entryPayload, loadedOf}
-use Rattle.values.specs.Form.{At, baseIn, countIn, entryStep, streamOk, textStep}
-use Rattle.values.specs.Passes.{firstKind, leftAt}
-use Rattle.values.specs.Stream.{Token, bool, text, kindOf, payloadOf, bodyOf}
-use Rattle.values.specs.declared.entries.Entry.{Entry}
-use Rattle.values.specs.declared.entries.Entry.the-variants as entry
-use Rattle.values.specs.declared.entries.Loaded.the-variants.{Is}
-use Rattle.values.proofs.DecodeLaws as decode
-use Rattle.values.proofs.DecodeLaws.{entry-there, text-moved, tokens-long, whole}
-use Rattle.values.proofs.EntryLaws.{Read, entry-read}
+use Rattle.values.specs.inside.writing.Passes.{firstKind, leftAt}
+use Rattle.values.specs.stream.Decode.{tokenOf, tokensFrom}
+use Rattle.values.specs.stream.Entry.{entryKind, entryPayload, loadedOf}
+use Rattle.values.specs.stream.Form.{At, baseIn, countIn, entryStep, streamOk, textStep}
+use Rattle.values.specs.stream.Stream.{Token, bool, text, kindOf, payloadOf, bodyOf}
+use Rattle.values.specs.declared.stream.entry.Entry.{Entry}
+use Rattle.values.specs.declared.stream.entry.Entry.the-variants as entry
+use Rattle.values.specs.declared.stream.entry.Loaded.the-variants.{Is}
+use Rattle.values.proofs.stream.DecodeLaws.{entry-there, text-moved, tokens-long, whole}
+use Rattle.values.proofs.stream.DecodeLaws as decode
+use Rattle.values.proofs.stream.EntryLaws.{Read, entry-read}
 
 -- where an entry's payload stands
 abbrev pub payloadAt : List ℕ → ℕ → ℕ

@@ -8,10 +8,10 @@ use mathlib.Core.List.{List, [], _∷_, _++_}
 use lib.ListN.{length, length-append}
 use lib.Seq.{sets, length-sets}
 use Rattle.words.proofs.Lists.{sets-append}
-use Rattle.values.specs.Laying.{Put, Wrote, laid}
-use Rattle.values.specs.Stream.{Token, mark, kindOf, payloadOf, entryBytes, heads, bodies}
-use Rattle.values.specs.Walk.{wrap}
-use Rattle.values.proofs.HeadLaws.{heads-append, heads-one, length-heads, Textless}
+use Rattle.values.specs.inside.reading.Walk.{wrap}
+use Rattle.values.specs.inside.stream.Laying.{Put, Wrote, laidIn}
+use Rattle.values.specs.stream.Stream.{Token, mark, kindOf, payloadOf, entryBytes, heads, bodies}
+use Rattle.values.proofs.stream.HeadLaws.{heads-append, heads-one, length-heads, Textless}
 
 pub put-length : {out new : List ℕ} {at r : ℕ} {ts : List Token} → Put out at ts new r → length new ≡ length out
 put-length {out} {at = at} {ts = ts} w = ap length (w .bytes) ∙ length-sets out at (heads 0 ts)
@@ -60,7 +60,7 @@ put-wrote {out} {new} {at} {r} {ts} base text h w =
     record {
       entries = w .next;
       texts = rw (h .none, add-zero);
-      bytes = unfold laid in w .bytes ∙ rw (h .anywhere text, h .none);
+      bytes = unfold laidIn in w .bytes ∙ rw (h .anywhere text, h .none);
     }
 
 -- the same entries

@@ -13,34 +13,38 @@ use borrow.Author.Tests.{eq-eqb}
 use Rattle.words.specs.Bits.{Bits, flat, val}
 use Rattle.words.specs.Words.{part}
 use Rattle.words.proofs.BitLaws.{val-below}
-use Rattle.types.specs.Atomic.{bitString, sizeOf}
-use Rattle.types.specs.Laid.{Earlier, Every}
-use Rattle.types.specs.Layout.{times}
-use Rattle.types.specs.Tables.{TyFits, memberAt, typeAt}
-use Rattle.types.specs.Waste.{sizesIn}
-use Rattle.types.specs.declared.atomic.Atomic.{Atomic}
-use Rattle.types.specs.declared.atomic.Atomic.the-variants as atomic
-use Rattle.types.specs.declared.member.Bit.{Bit}
-use Rattle.types.specs.declared.member.Bit.the-variants.{None, At as BitAt}
-use Rattle.types.specs.declared.member.Member.{Member}
-use Rattle.types.specs.declared.member.Ty.{Ty}
-use Rattle.types.specs.declared.member.Ty.the-variants as ty
-use Rattle.values.specs.Decode.{tokenOf}
-use Rattle.values.specs.Entry.{EntryFits, entryKind, entryPayload}
-use Rattle.values.specs.Form.{At, entryStep}
-use Rattle.values.specs.Leaf.{emit, leafOf, signed}
-use Rattle.values.specs.Stream.{Token, null, bool, number, text, member, mark, kindOf, payloadOf, bodyOf, bodies}
-use Rattle.values.specs.Stream.{streamBytes, mostBytes}
-use Rattle.values.specs.Trees.{isString}
-use Rattle.values.specs.Walk.{upTo, wrap, bitToken, bitsOut, elementOut, numberOut, numbersOut, atomicsOut}
-use Rattle.values.specs.Walk.{bitOut}
-use Rattle.values.specs.Walk.{elementBy, elementsBy, structsBy, valueBy, memberBy, rowBy, membersBy, structBy}
-use Rattle.values.specs.Walk.{structWithin, structOut, valueOut, bytesBy}
-use Rattle.values.specs.Walkable.{Walkable, WalkableType}
-use Rattle.values.specs.declared.entries.Entry.{Entry}
-use Rattle.values.specs.declared.entries.Entry.the-variants as entry
-use Rattle.values.proofs.DecodeBack.{Says, Saying, Back, decode-back}
-use Rattle.values.proofs.StreamLaws.{stream-long}
+use Rattle.types.specs.atomics.Atomic.{bitString, sizeOf}
+use Rattle.types.specs.inside.tables.Lent.{TyFits}
+use Rattle.types.specs.layout.Laid.{Earlier, Every}
+use Rattle.types.specs.layout.Placing.{times}
+use Rattle.types.specs.tables.Lent.{memberAt, typeAt}
+use Rattle.types.specs.tables.Sizes.{sizesIn}
+use Rattle.types.specs.declared.atomics.atomic.Atomic.{Atomic}
+use Rattle.types.specs.declared.atomics.atomic.Atomic.the-variants as atomic
+use Rattle.types.specs.declared.tables.member.Bit.{Bit}
+use Rattle.types.specs.declared.tables.member.Bit.the-variants.{None, At as BitAt}
+use Rattle.types.specs.declared.tables.member.Member.{Member}
+use Rattle.types.specs.declared.tables.member.Ty.{Ty}
+use Rattle.types.specs.declared.tables.member.Ty.the-variants as ty
+use Rattle.values.specs.inside.reading.Walk.{upTo, wrap, bitToken, bitsOut, elementOut, numberOut, numbersOut}
+use Rattle.values.specs.inside.reading.Walk.{atomicsOut}
+use Rattle.values.specs.inside.reading.Walk.{bitOut}
+use Rattle.values.specs.inside.reading.Walk.{elementBy, elementsBy, structsBy, valueBy, memberBy, rowBy}
+use Rattle.values.specs.inside.reading.Walk.{membersBy, structBy}
+use Rattle.values.specs.inside.reading.Walk.{structWithin, structOut, valueOut, bytesBy}
+use Rattle.values.specs.inside.reading.Walkable.{Walkable, WalkableType}
+use Rattle.values.specs.reading.Leaf.{emit, leafOf, signed}
+use Rattle.values.specs.reading.Trees.{isString}
+use Rattle.values.specs.stream.Decode.{tokenOf}
+use Rattle.values.specs.stream.Entry.{EntryFits, entryKind, entryPayload}
+use Rattle.values.specs.stream.Form.{At, entryStep}
+use Rattle.values.specs.stream.Stream.{Token, null, bool, number, text, member, mark, kindOf, payloadOf, bodyOf}
+use Rattle.values.specs.stream.Stream.{bodies}
+use Rattle.values.specs.stream.Stream.{streamBytes, mostBytes}
+use Rattle.values.specs.declared.stream.entry.Entry.{Entry}
+use Rattle.values.specs.declared.stream.entry.Entry.the-variants as entry
+use Rattle.values.proofs.stream.DecodeBack.{Says, Saying, Back, decode-back}
+use Rattle.values.proofs.stream.StreamLaws.{stream-long}
 
 -- an entry whose kind and payload can be said
 abbrev pub Sound : Token → Type 0

@@ -9,9 +9,9 @@ use lib.Seq.{sets}
 use Rattle.words.specs.Words.{bytesOf}
 use Rattle.words.proofs.Lists.{sets-append}
 use Rattle.words.proofs.WordLaws.{length-bytes}
-use Rattle.values.specs.Laying.{laid}
-use Rattle.values.specs.Stream.{Token, heads, bodies, streamBytes}
-use Rattle.values.proofs.HeadLaws.{length-heads}
+use Rattle.values.specs.inside.stream.Laying.{laidIn}
+use Rattle.values.specs.stream.Stream.{Token, heads, bodies, streamBytes}
+use Rattle.values.proofs.stream.HeadLaws.{length-heads}
 
 pub stream-long : (ts : List Token) → length (streamBytes ts) ≡ 4 + 12 * length ts + length (bodies ts)
 unfolding streamBytes
@@ -21,8 +21,8 @@ stream-long ts =
 
 -- the number of entries first, the entries after it, the texts after them
 pub stream-laid : (out : List ℕ) (ts : List Token)
-    → laid (sets out 0 (bytesOf 4 (length ts))) (4 + 12 * length ts) 4 0 ts ≡ sets out 0 (streamBytes ts)
-unfolding laid streamBytes
+    → laidIn (sets out 0 (bytesOf 4 (length ts))) (4 + 12 * length ts) 4 0 ts ≡ sets out 0 (streamBytes ts)
+unfolding laidIn streamBytes
 stream-laid out ts =
     let n : ℕ = length ts in
     let a : 0 + length (bytesOf 4 n) ≡ 4 = omega (arith, length-bytes 4 n) in

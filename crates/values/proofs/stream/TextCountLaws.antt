@@ -10,19 +10,20 @@ use mathlib.Core.List.{List, [], _∷_, _++_, append-nil}
 use lib.ListN.{length, length-append}
 use Rattle.words.specs.Words.{part}
 use Rattle.words.proofs.Lists.{length-part}
-use Rattle.types.specs.Tables.{memberAt, typeAt}
-use Rattle.values.specs.Counting.{Texts}
-use Rattle.values.specs.Stream.{Token, member, bodies}
-use Rattle.values.specs.Trees.{isString}
-use Rattle.values.specs.Walk.{upTo, wrap}
-use Rattle.values.specs.Walk.{textLength, textOut, capacityAt, isNested}
-use Rattle.values.specs.Walk.{memberBy, rowBy, membersBy, structBy, structOut}
-use Rattle.values.specs.Walkable.{IsString, Walkable, ImageOf}
-use Rattle.values.proofs.HeadLaws.{bodies-append}
-use Rattle.values.proofs.LeafLaws.{textless-leaf}
-use Rattle.values.proofs.MemberLaws.{member-leaf}
-use Rattle.values.proofs.UpLaws.{wrap-bodies}
-use Rattle.values.proofs.WalkLaws.{struct-out}
+use Rattle.types.specs.tables.Lent.{memberAt, typeAt}
+use Rattle.values.specs.inside.reading.Walk.{upTo, wrap}
+use Rattle.values.specs.inside.reading.Walk.{textOut, isNested}
+use Rattle.values.specs.inside.reading.Walk.{memberBy, rowBy, membersBy, structBy, structOut}
+use Rattle.values.specs.inside.reading.Walkable.{IsString, Walkable, ImageOf}
+use Rattle.values.specs.inside.stream.Counting.{Texts}
+use Rattle.values.specs.reading.Texts.{textLength, capacityAt}
+use Rattle.values.specs.reading.Trees.{isString}
+use Rattle.values.specs.stream.Stream.{Token, member, bodies}
+use Rattle.values.proofs.reading.LeafLaws.{textless-leaf}
+use Rattle.values.proofs.reading.MemberLaws.{member-leaf}
+use Rattle.values.proofs.reading.UpLaws.{wrap-bodies}
+use Rattle.values.proofs.reading.WalkLaws.{struct-out}
+use Rattle.values.proofs.stream.HeadLaws.{bodies-append}
 
 -- ---- the promise
 

@@ -8,15 +8,15 @@ use mathlib.Core.Bool.{true, false, true≢false}
 use mathlib.Core.List.{List, []}
 use lib.ListN.{length}
 use Rattle.words.specs.Bits.{Bits, flat}
-use Rattle.values.specs.Effects.{Effect}
-use Rattle.values.specs.Form.{countIn, streamOk}
-use Rattle.values.specs.Passes.{Applied, accepted, firstKind, leftAt}
-use Rattle.values.specs.Stream.{Token, kindOf}
-use Rattle.values.specs.Writing.{Outcome, ok, bad, andThen, writeOne, opened, elements, membersIn}
-use Rattle.values.proofs.LeftLaws.{There, kind-there, none-left, there}
-use Rattle.values.proofs.OutcomeLaws.{one-none, opened-none, opened-null, opened-inner, opened-other}
-use Rattle.values.proofs.OutcomeLaws.{elements-none, elements-close, elements-full, elements-next}
-use Rattle.values.proofs.OutcomeLaws.{members-none, members-close, members-next, members-other}
+use Rattle.values.specs.inside.writing.Passes.{Applied, accepted, firstKind, leftAt}
+use Rattle.values.specs.stream.Form.{countIn, streamOk}
+use Rattle.values.specs.stream.Stream.{Token, kindOf}
+use Rattle.values.specs.writing.Effects.{Effect}
+use Rattle.values.specs.writing.Writing.{Outcome, ok, bad, andThen, writeOne, opened, elements, membersIn}
+use Rattle.values.proofs.stream.LeftLaws.{There, kind-there, none-left, there}
+use Rattle.values.proofs.writing.OutcomeLaws.{one-none, opened-none, opened-null, opened-inner, opened-other}
+use Rattle.values.proofs.writing.OutcomeLaws.{elements-none, elements-close, elements-full, elements-next}
+use Rattle.values.proofs.writing.OutcomeLaws.{members-none, members-close, members-next, members-other}
 
 -- ---- what is accepted
 

@@ -9,21 +9,22 @@ use mathlib.Core.List.{List, _∷_}
 use lib.Dec.{eqb}
 use borrow.Author.Tests.{eq-eqb, ne-eqb}
 use Rattle.words.specs.Bits.{Bits}
-use Rattle.types.specs.Laid.{Earlier, firstBit}
-use Rattle.types.specs.Tables.{memberAt, typeAt}
-use Rattle.types.specs.Waste.{sizesIn}
-use Rattle.types.specs.declared.member.Ty.{Ty}
-use Rattle.types.specs.declared.member.Ty.the-variants as ty
-use Rattle.values.specs.Leaf.{str}
-use Rattle.values.specs.Rows.{branchesIn, memberTree, treeIn}
-use Rattle.values.specs.Stream.{Token, payloadOf}
-use Rattle.values.specs.Tree.{Tree, leaf, array, struct, Branches}
-use Rattle.values.specs.Trees.{isString, membersAt, knownIn, secondCount, bitTree, seen, structsTree, valueTree}
-use Rattle.values.specs.Trees.{branchesFrom, structTree, treeWithin, treeOf}
-use Rattle.values.specs.Walk.{capacityAt}
-use Rattle.values.specs.Walkable.{WalkableType, Walkable}
-use Rattle.values.specs.Writing.{bad, write, writeBranch}
-use Rattle.values.proofs.SpanLaws.{capacity-is}
+use Rattle.types.specs.layout.Laid.{Earlier, firstBit}
+use Rattle.types.specs.tables.Lent.{memberAt, typeAt}
+use Rattle.types.specs.tables.Sizes.{sizesIn}
+use Rattle.types.specs.declared.tables.member.Ty.{Ty}
+use Rattle.types.specs.declared.tables.member.Ty.the-variants as ty
+use Rattle.values.specs.inside.reading.Walkable.{WalkableType, Walkable}
+use Rattle.values.specs.inside.writing.Rows.{branchesIn, memberTree, treeIn}
+use Rattle.values.specs.reading.Leaf.{str}
+use Rattle.values.specs.reading.Texts.{capacityAt}
+use Rattle.values.specs.reading.Tree.{Tree, leaf, array, struct, Branches}
+use Rattle.values.specs.reading.Trees.{isString, membersAt, knownIn, secondCount, bitTree, seen, structsTree}
+use Rattle.values.specs.reading.Trees.{valueTree}
+use Rattle.values.specs.reading.Trees.{branchesFrom, structTree, treeWithin, treeOf}
+use Rattle.values.specs.stream.Stream.{Token, payloadOf}
+use Rattle.values.specs.writing.Writing.{bad, write, writeBranch}
+use Rattle.values.proofs.reading.SpanLaws.{capacity-is}
 
 -- ---- the trees of earlier structures are all that matters
 

@@ -13,21 +13,24 @@ use borrow.Author.Tests.{eq-eqb, ne-eqb, le-leb, lt-leb, lt-ltb, le-ltb}
 use Rattle.words.specs.Bits.{Bits, bitOf}
 use Rattle.words.specs.Words.{Bytes}
 use Rattle.words.proofs.WordLaws.{word-below}
-use Rattle.types.specs.Atomic.{bitString, sizeOf}
-use Rattle.types.specs.declared.atomic.Atomic.{Atomic}
-use Rattle.types.specs.declared.atomic.Atomic.the-variants as atomic
-use Rattle.values.specs.Effects.{Effect, keep, put, refuse, Judged, kept, set, refused}
-use Rattle.values.specs.Effects.{payloadBits, textBits, isWhole, ofKind, inRange, whole, taken, atomicTakes}
-use Rattle.values.specs.Effects.{orNull, asText}
-use Rattle.values.specs.Leaf.{flag}
-use Rattle.values.specs.Limits.{aboveMisfit, signedMisfit, wholeMisfit, limitsOf, misfit, oneKind, wholes}
-use Rattle.values.specs.Form.{countIn, streamOk}
-use Rattle.values.specs.Passes.{Checked, accepted, firstKind, leftAt}
-use Rattle.values.specs.Stream.{Token, kindOf, payloadOf, bodyOf}
-use Rattle.values.specs.Writing.{onEffect, writeOne}
-use Rattle.values.specs.declared.limits.Limits.{Limits}
-use Rattle.values.proofs.LeftLaws.{There, kind-there, payloadAt, there}
-use Rattle.values.proofs.StepLaws.{one-missing, one-refused}
+use Rattle.types.specs.atomics.Atomic.{bitString, sizeOf}
+use Rattle.types.specs.declared.atomics.atomic.Atomic.{Atomic}
+use Rattle.types.specs.declared.atomics.atomic.Atomic.the-variants as atomic
+use Rattle.values.specs.inside.writing.Effects.{Judged, kept, set, refused}
+use Rattle.values.specs.inside.writing.Effects.{atomicTakes}
+use Rattle.values.specs.inside.writing.Limits.{aboveMisfit, signedMisfit, wholeMisfit, limitsOf, misfit, oneKind}
+use Rattle.values.specs.inside.writing.Limits.{wholes}
+use Rattle.values.specs.inside.writing.Passes.{Checked, accepted, firstKind, leftAt}
+use Rattle.values.specs.reading.Leaf.{flag}
+use Rattle.values.specs.stream.Form.{countIn, streamOk}
+use Rattle.values.specs.stream.Stream.{Token, kindOf, payloadOf, bodyOf}
+use Rattle.values.specs.writing.Effects.{Effect, keep, put, refuse}
+use Rattle.values.specs.writing.Effects.{payloadBits, textBits, isWhole, ofKind, inRange, whole, taken}
+use Rattle.values.specs.writing.Effects.{orNull, asText}
+use Rattle.values.specs.writing.Writing.{onEffect, writeOne}
+use Rattle.values.specs.declared.writing.limits.Limits.{Limits}
+use Rattle.values.proofs.stream.LeftLaws.{There, kind-there, payloadAt, there}
+use Rattle.values.proofs.writing.StepLaws.{one-missing, one-refused}
 
 -- ---- null
 

@@ -7,13 +7,15 @@ use mathlib.Core.List.{List, [], _∷_}
 use lib.Dec.{eqb, leb}
 use lib.ListN.{length}
 use Rattle.words.specs.Bits.{Bits, stamp}
-use Rattle.values.specs.Effects.{Effect, keep, put, refuse, ofKind, isWhole, inRange, whole, asText, taken}
-use Rattle.values.specs.Effects.{bitsWhole, orNull, payloadBits, textBits}
-use Rattle.values.specs.Leaf.{Leaf, flag, byte, int, word, str, width}
-use Rattle.values.specs.Stream.{Token, kindOf, payloadOf, bodyOf}
-use Rattle.values.specs.Tree.{Tree, leaf, bits, array, struct, Branches, none, branch, span}
-use Rattle.values.specs.Writing.{Outcome, ok, bad, andThen, onEffect, writeOne, opened, elements, membersIn}
-use Rattle.values.specs.Writing.{boolsIn, wholesIn, firstIs, noBits, rest, writeBits, write, writeBranch}
+use Rattle.values.specs.reading.Leaf.{Leaf, flag, byte, int, word, str, width}
+use Rattle.values.specs.reading.Tree.{Tree, leaf, bits, array, struct, Branches, none, branch, span}
+use Rattle.values.specs.stream.Stream.{Token, kindOf, payloadOf, bodyOf}
+use Rattle.values.specs.writing.Effects.{Effect, keep, put, refuse, ofKind, isWhole, inRange, whole, asText}
+use Rattle.values.specs.writing.Effects.{taken}
+use Rattle.values.specs.writing.Effects.{bitsWhole, orNull, payloadBits, textBits}
+use Rattle.values.specs.writing.Writing.{Outcome, ok, bad, andThen, onEffect, writeOne, opened, elements}
+use Rattle.values.specs.writing.Writing.{membersIn}
+use Rattle.values.specs.writing.Writing.{boolsIn, wholesIn, firstIs, noBits, rest, writeBits, write, writeBranch}
 
 abbrev Entry : ℕ → Type 0
 Entry number = (18 ≤ number) × (number ≤ 21)

@@ -11,14 +11,15 @@ use lib.Dec.{eqb}
 use lib.ListN.{length}
 use Rattle.words.specs.Bits.{Bits, inside, stamp}
 use Rattle.words.proofs.BitLaws.{Lies, among, beside, lies}
-use Rattle.values.specs.Effects.{Effect, keep, put, refuse, orNull, taken, bitsWhole}
-use Rattle.values.specs.Leaf.{Leaf, flag, width}
-use Rattle.values.specs.Normal.{held}
-use Rattle.values.specs.Stream.{Token, kindOf, payloadOf, mark}
-use Rattle.values.specs.Tree.{Tree, leaf, bits, array, struct, Branches, none, branch, allBits, span}
-use Rattle.values.specs.Tree.{Item, say, at, each, between, oneFlag, items, branchItems}
-use Rattle.values.specs.Writing.{Outcome, ok, bad, andThen, onEffect, writeOne, opened, elements, membersIn}
-use Rattle.values.specs.Writing.{boolsIn, wholesIn, firstIs, noBits, rest, writeBits, write, writeBranch}
+use Rattle.values.specs.normal_image.Normal.{held}
+use Rattle.values.specs.reading.Leaf.{Leaf, flag, width}
+use Rattle.values.specs.reading.Tree.{Tree, leaf, bits, array, struct, Branches, none, branch, allBits, span}
+use Rattle.values.specs.reading.Tree.{Item, say, at, each, between, oneFlag, items, branchItems}
+use Rattle.values.specs.stream.Stream.{Token, kindOf, payloadOf, mark}
+use Rattle.values.specs.writing.Effects.{Effect, keep, put, refuse, orNull, taken, bitsWhole}
+use Rattle.values.specs.writing.Writing.{Outcome, ok, bad, andThen, onEffect, writeOne, opened, elements}
+use Rattle.values.specs.writing.Writing.{membersIn}
+use Rattle.values.specs.writing.Writing.{boolsIn, wholesIn, firstIs, noBits, rest, writeBits, write, writeBranch}
 
 -- ---- bits that are not among some others
 

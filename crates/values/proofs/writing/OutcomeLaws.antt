@@ -6,9 +6,10 @@ use mathlib.Core.Path.{_≡_, refl}
 use mathlib.Core.List.{List, [], _∷_}
 use borrow.Author.Tests.{eq-eqb, ne-eqb}
 use Rattle.words.specs.Bits.{Bits}
-use Rattle.values.specs.Effects.{Effect}
-use Rattle.values.specs.Stream.{Token, kindOf}
-use Rattle.values.specs.Writing.{Outcome, ok, bad, andThen, onEffect, writeOne, opened, elements, membersIn}
+use Rattle.values.specs.stream.Stream.{Token, kindOf}
+use Rattle.values.specs.writing.Effects.{Effect}
+use Rattle.values.specs.writing.Writing.{Outcome, ok, bad, andThen, onEffect, writeOne, opened, elements}
+use Rattle.values.specs.writing.Writing.{membersIn}
 
 -- some entries that begin with one of a kind, and some that do not
 pub one-is : (takes : Token → Effect) (w p : ℕ) {us : List Token} (t : Token) (ts : List Token) (z : Bits)

@@ -8,19 +8,20 @@ use mathlib.Core.Bool.{Bool, true, false, cond}
 use mathlib.Core.List.{List, [], _∷_}
 use borrow.Author.Tests.{eq-eqb, ne-eqb}
 use Rattle.words.specs.Bits.{Bits, stamp}
-use Rattle.types.specs.Atomic.{bitString, sizeOf}
-use Rattle.types.specs.declared.atomic.Atomic.{Atomic}
-use Rattle.types.specs.declared.atomic.Atomic.the-variants as atomic
-use Rattle.values.specs.Effects.{Effect, atomicTakes, bitsWhole, orNull, taken}
-use Rattle.values.specs.Leaf.{leafOf, width}
-use Rattle.values.specs.Passes.{firstKind}
-use Rattle.values.specs.Rows.{runIn}
-use Rattle.values.specs.Stream.{Token, kindOf}
-use Rattle.values.specs.Tree.{Tree, leaf, bits, array, span}
-use Rattle.values.specs.Trees.{atomicsTree}
-use Rattle.values.specs.Writing.{boolsIn, elements, firstIs, noBits, opened, rest, wholesIn, write}
-use Rattle.values.specs.Writing.{writeBits, writeOne}
-use Rattle.values.proofs.SpanLaws.{leaf-room}
+use Rattle.types.specs.atomics.Atomic.{bitString, sizeOf}
+use Rattle.types.specs.declared.atomics.atomic.Atomic.{Atomic}
+use Rattle.types.specs.declared.atomics.atomic.Atomic.the-variants as atomic
+use Rattle.values.specs.inside.writing.Effects.{atomicTakes}
+use Rattle.values.specs.inside.writing.Passes.{firstKind}
+use Rattle.values.specs.inside.writing.Rows.{runIn}
+use Rattle.values.specs.reading.Leaf.{leafOf, width}
+use Rattle.values.specs.reading.Tree.{Tree, leaf, bits, array, span}
+use Rattle.values.specs.reading.Trees.{atomicsTree}
+use Rattle.values.specs.stream.Stream.{Token, kindOf}
+use Rattle.values.specs.writing.Effects.{Effect, bitsWhole, orNull, taken}
+use Rattle.values.specs.writing.Writing.{boolsIn, elements, firstIs, noBits, opened, rest, wholesIn, write}
+use Rattle.values.specs.writing.Writing.{writeBits, writeOne}
+use Rattle.values.proofs.reading.SpanLaws.{leaf-room}
 
 -- ---- what an atomic takes, and its tree
 

@@ -10,28 +10,28 @@ use mathlib.Core.Bool.{Bool, true, false}
 use mathlib.Core.List.{List}
 use lib.ListN.{length}
 use Rattle.words.specs.Bits.{Bits}
-use Rattle.types.specs.Atomic.{sizeOf}
-use Rattle.types.specs.Laid.{firstBit}
-use Rattle.types.specs.Layout.{times}
-use Rattle.types.specs.Tables.{memberAt, typeAt}
-use Rattle.types.specs.Waste.{sizeIn, sizesIn}
-use Rattle.types.specs.declared.atomic.Atomic.{Atomic}
-use Rattle.types.specs.declared.member.Bit.the-variants.{None}
-use Rattle.types.specs.declared.member.Member.{Member}
-use Rattle.types.specs.declared.member.StructDef.{StructDef}
-use Rattle.types.specs.declared.member.Ty.{Ty}
-use Rattle.types.specs.declared.member.Ty.the-variants as ty
-use Rattle.types.proofs.LayoutLaws.{times-one, times-same}
-use Rattle.values.specs.Effects.{asText, orNull}
-use Rattle.values.specs.Rows.{AllHere, Here, branchesIn, memberTree, treeIn}
-use Rattle.values.specs.Stream.{Token}
-use Rattle.values.specs.Tree.{Tree, array, struct}
-use Rattle.values.specs.Trees.{atomicsTree, isString, knownIn, structsTree, treeOfValue}
-use Rattle.values.specs.Walk.{capacityAt}
-use Rattle.values.specs.Walkable.{IsString, NestedRow, ValueImage, Walkable}
-use Rattle.values.specs.Writing.{write, writeOne}
-use Rattle.values.proofs.BranchLaws.{string-tree, members-tree}
-use Rattle.values.proofs.MemberLaws.{nested-whole, never-atomic, nested-earlier}
+use Rattle.types.specs.atomics.Atomic.{sizeOf}
+use Rattle.types.specs.layout.Laid.{firstBit}
+use Rattle.types.specs.layout.Placing.{times}
+use Rattle.types.specs.tables.Lent.{memberAt, typeAt}
+use Rattle.types.specs.tables.Sizes.{sizeIn, sizesIn}
+use Rattle.types.specs.declared.atomics.atomic.Atomic.{Atomic}
+use Rattle.types.specs.declared.tables.member.Bit.the-variants.{None}
+use Rattle.types.specs.declared.tables.member.Member.{Member}
+use Rattle.types.specs.declared.tables.member.StructDef.{StructDef}
+use Rattle.types.specs.declared.tables.member.Ty.{Ty}
+use Rattle.types.specs.declared.tables.member.Ty.the-variants as ty
+use Rattle.types.proofs.Face.{times-one, times-same}
+use Rattle.values.specs.inside.reading.Walkable.{IsString, NestedRow, ValueImage, Walkable}
+use Rattle.values.specs.inside.writing.Rows.{AllHere, Here, branchesIn, memberTree, treeIn}
+use Rattle.values.specs.reading.Texts.{capacityAt}
+use Rattle.values.specs.reading.Tree.{Tree, array, struct}
+use Rattle.values.specs.reading.Trees.{atomicsTree, isString, knownIn, structsTree, treeOfValue}
+use Rattle.values.specs.stream.Stream.{Token}
+use Rattle.values.specs.writing.Effects.{asText, orNull}
+use Rattle.values.specs.writing.Writing.{write, writeOne}
+use Rattle.values.proofs.reading.MemberLaws.{nested-whole, never-atomic, nested-earlier}
+use Rattle.values.proofs.writing.BranchLaws.{string-tree, members-tree}
 
 -- ---- a structure, where d was read from its row
 

@@ -17,8 +17,8 @@ use Rattle.words.specs.Words.{bytesOf}
 use Rattle.words.proofs.BitLaws.{Lies, among, beside, bit-none, lies}
 use Rattle.words.proofs.Lists.{getD-sets, getD-beside}
 use Rattle.words.proofs.WordLaws.{length-bytes}
-use Rattle.values.specs.InPlace.{cleared}
-use Rattle.values.specs.Writing.{noBits}
+use Rattle.values.specs.inside.normal_image.InPlace.{cleared}
+use Rattle.values.specs.writing.Writing.{noBits}
 
 -- ---- bits put over others
 

@@ -7,15 +7,17 @@ use mathlib.Core.Path.{_≡_, refl, sym, ap, _∙_}
 use mathlib.Core.Bool.{true}
 use mathlib.Core.List.{List}
 use Rattle.words.specs.Bits.{Bits, stamp}
-use Rattle.values.specs.Effects.{Effect, Judged, kept, set, refused}
-use Rattle.values.specs.Form.{countIn, streamOk}
-use Rattle.values.specs.Passes.{Goes, Checked, firstKind, leftAt}
-use Rattle.values.specs.Stream.{Token}
-use Rattle.values.specs.Writing.{Outcome, ok, bad, andThen, writeOne, opened, elements, membersIn}
-use Rattle.values.proofs.LeftLaws.{There, by-kind, few-entries, kind-there, none-left, there}
-use Rattle.values.proofs.OutcomeLaws.{one-is, one-none, opened-none, opened-null, opened-inner, opened-other}
-use Rattle.values.proofs.OutcomeLaws.{elements-none, elements-close, elements-full, elements-next}
-use Rattle.values.proofs.OutcomeLaws.{members-none, members-close, members-next, members-other}
+use Rattle.values.specs.inside.writing.Effects.{Judged, kept, set, refused}
+use Rattle.values.specs.inside.writing.Passes.{Goes, Checked, firstKind, leftAt}
+use Rattle.values.specs.stream.Form.{countIn, streamOk}
+use Rattle.values.specs.stream.Stream.{Token}
+use Rattle.values.specs.writing.Effects.{Effect}
+use Rattle.values.specs.writing.Writing.{Outcome, ok, bad, andThen, writeOne, opened, elements, membersIn}
+use Rattle.values.proofs.stream.LeftLaws.{There, by-kind, few-entries, kind-there, none-left, there}
+use Rattle.values.proofs.writing.OutcomeLaws.{one-is, one-none, opened-none, opened-null, opened-inner}
+use Rattle.values.proofs.writing.OutcomeLaws.{opened-other}
+use Rattle.values.proofs.writing.OutcomeLaws.{elements-none, elements-close, elements-full, elements-next}
+use Rattle.values.proofs.writing.OutcomeLaws.{members-none, members-close, members-next, members-other}
 
 -- ---- answers
 

@@ -7,19 +7,19 @@ use mathlib.Core.List.{List, [], _∷_}
 use lib.ListN.{length}
 use borrow.Author.Tests.{lt-ltb}
 use Rattle.words.specs.Bits.{Bits, flat}
-use Rattle.types.specs.Shape.{isThere}
-use Rattle.types.specs.declared.member.Ty.{Ty}
-use Rattle.values.specs.Decode.{tokensIn}
-use Rattle.values.specs.Form.{countIn, streamOk}
-use Rattle.values.specs.Leaf.{chars}
-use Rattle.values.specs.Normal.{held}
-use Rattle.values.specs.Reading.{imageFits}
-use Rattle.values.specs.Tree.{Tree, items}
-use Rattle.values.specs.Trees.{knownIn, treeOfValue}
-use Rattle.values.specs.Writing.{Outcome, ok, bad, ended, write, written}
-use Rattle.values.specs.Written.{bytesAfter, refusing, taking, valueWritten, writeResult}
-use Rattle.values.proofs.OnlyHeld.{only-held}
-use Rattle.values.proofs.PutBack.{flat-clip}
+use Rattle.types.specs.tables.There.{isThere}
+use Rattle.types.specs.declared.tables.member.Ty.{Ty}
+use Rattle.values.specs.normal_image.Normal.{held}
+use Rattle.values.specs.reading.Leaf.{chars}
+use Rattle.values.specs.reading.Read.{imageFits}
+use Rattle.values.specs.reading.Tree.{Tree, items}
+use Rattle.values.specs.reading.Trees.{knownIn, treeOfValue}
+use Rattle.values.specs.stream.Decode.{tokensIn}
+use Rattle.values.specs.stream.Form.{countIn, streamOk}
+use Rattle.values.specs.writing.Writing.{Outcome, ok, bad, ended, write, written}
+use Rattle.values.specs.writing.Written.{bytesAfter, refusing, taking, valueWritten, writeResult}
+use Rattle.values.proofs.normal_image.PutBack.{flat-clip}
+use Rattle.values.proofs.writing.OnlyHeld.{only-held}
 
 -- n bytes of some bits
 pub bytes-bit : (n : ℕ) (b : Bits) (k : ℕ) → k < 8 * n → flat (chars n b) k ≡ b k

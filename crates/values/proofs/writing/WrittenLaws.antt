@@ -10,27 +10,29 @@ use lib.ListN.{length}
 use lib.Seq.{take-length}
 use Rattle.words.specs.Bits.{Bits, flat}
 use Rattle.words.specs.Words.{Bytes, part}
-use Rattle.types.specs.Shape.{isThere}
-use Rattle.types.specs.declared.member.Ty.{Ty}
-use Rattle.types.specs.Refusal.{numberOf, placeOf}
-use Rattle.types.specs.declared.refusal.Refusal.{Refusal}
-use Rattle.types.specs.declared.refusal.Refusal.the-variants.{ImageLength, NoSuchType, StreamMalformed, EntryMisfit}
-use Rattle.values.specs.Decode.{tokensIn}
-use Rattle.values.specs.Form.{countIn, streamOk}
-use Rattle.values.specs.Leaf.{chars}
-use Rattle.values.specs.Passes.{Applied, Checked, accepted, leftAt}
-use Rattle.values.specs.Reading.{imageFits}
-use Rattle.types.specs.Said.{refused}
-use Rattle.values.specs.Stream.{Token}
-use Rattle.values.specs.Tree.{Tree}
-use Rattle.values.specs.Trees.{knownIn, treeOfValue}
-use Rattle.values.specs.Writing.{Outcome, ok, bad, ended, write, written}
-use Rattle.values.specs.Written.{Done, Entered, bytesAfter, takenOf, valueWritten, writeResult}
-use Rattle.values.specs.declared.writing.Taken.{Taken}
-use Rattle.values.specs.declared.writing.Taken.the-variants.{Whole, Refused}
-use Rattle.values.proofs.LeftLaws.{left-long, none-left, there}
-use Rattle.values.proofs.NumberedLaws.{bad-number}
-use Rattle.values.proofs.TreeLaws.{chars-part}
+use Rattle.types.specs.refusals.Refusal.{numberOf, placeOf}
+use Rattle.types.specs.refusals.Said.{refused}
+use Rattle.types.specs.tables.There.{isThere}
+use Rattle.types.specs.declared.refusals.refusal.Refusal.{Refusal}
+use Rattle.types.specs.declared.refusals.refusal.Refusal.the-variants.{ImageLength, NoSuchType, StreamMalformed}
+use Rattle.types.specs.declared.refusals.refusal.Refusal.the-variants.{EntryMisfit}
+use Rattle.types.specs.declared.tables.member.Ty.{Ty}
+use Rattle.values.specs.inside.writing.Passes.{Applied, Checked, accepted, leftAt}
+use Rattle.values.specs.inside.writing.Written.{Entered}
+use Rattle.values.specs.reading.Leaf.{chars}
+use Rattle.values.specs.reading.Read.{imageFits}
+use Rattle.values.specs.reading.Tree.{Tree}
+use Rattle.values.specs.reading.Trees.{knownIn, treeOfValue}
+use Rattle.values.specs.stream.Decode.{tokensIn}
+use Rattle.values.specs.stream.Form.{countIn, streamOk}
+use Rattle.values.specs.stream.Stream.{Token}
+use Rattle.values.specs.writing.Writing.{Outcome, ok, bad, ended, write, written}
+use Rattle.values.specs.writing.Written.{Done, bytesAfter, takenOf, valueWritten, writeResult}
+use Rattle.values.specs.declared.writing.write.Taken.{Taken}
+use Rattle.values.specs.declared.writing.write.Taken.the-variants.{Whole, Refused}
+use Rattle.values.proofs.reading.TreeLaws.{chars-part}
+use Rattle.values.proofs.stream.LeftLaws.{left-long, none-left, there}
+use Rattle.values.proofs.writing.NumberedLaws.{bad-number}
 
 -- ---- all entries
 

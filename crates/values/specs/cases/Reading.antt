@@ -1,22 +1,23 @@
 -- The reference cases of reading that document 01 marks P, each by computation: the image of Chan gives 8 entries, and
 -- a string of capacity 82 with LEN FFFFFFFF reads 82 bytes; and one DWORD gives its 32 bits as an array.
 use Prim.Native.Nat.{ℕ}
-use mathlib.Core.Path.{_≡_, refl}
 use mathlib.Core.Bool.{true, false}
 use mathlib.Core.List.{List, [], _∷_}
+use mathlib.Core.Path.{_≡_, refl}
 use lib.ListN.{length, replicate, take}
 use Rattle.words.specs.Bits.{bitOf, flat, val}
 use Rattle.words.specs.Words.{bytesOf}
-use Rattle.types.specs.Atomic.{bitString, sizeOf}
-use Rattle.types.specs.declared.atomic.Atomic.the-variants.{DWord}
-use Rattle.types.specs.declared.member.Ty.{Ty}
-use Rattle.types.specs.declared.member.Ty.the-variants.{Atomic, Struct}
-use Rattle.values.specs.CaseTables.{chanDef, knownOf, string82Def}
-use Rattle.values.specs.Leaf.{flag, int, str, signed, chars}
-use Rattle.values.specs.Stream.{Token, bool, number, text, member, mark, entryBytes, heads, bodies, streamBytes}
-use Rattle.values.specs.Tree.{Tree, leaf, struct, none, branch, span, allBits, each, items, read}
-use Rattle.values.specs.Trees.{Known, atomicsTree, structsTree, branchesFrom, structTree, treeWithin, treeOf}
-use Rattle.values.specs.Trees.{treeOfValue}
+use Rattle.types.specs.atomics.Atomic.{bitString, sizeOf}
+use Rattle.types.specs.declared.atomics.atomic.Atomic.the-variants.{DWord}
+use Rattle.types.specs.declared.tables.member.Ty.{Ty}
+use Rattle.types.specs.declared.tables.member.Ty.the-variants.{Atomic, Struct}
+use Rattle.values.specs.cases.Tables.{chanDef, knownOf, string82Def}
+use Rattle.values.specs.reading.Leaf.{flag, int, str, signed, chars}
+use Rattle.values.specs.reading.Tree.{Tree, leaf, struct, none, branch, span, allBits, each, items, read}
+use Rattle.values.specs.reading.Trees.{Known, atomicsTree, structsTree, branchesFrom, structTree, treeWithin}
+use Rattle.values.specs.reading.Trees.{treeOf, treeOfValue}
+use Rattle.values.specs.stream.Stream.{Token, bool, number, text, member, mark, entryBytes, heads, bodies}
+use Rattle.values.specs.stream.Stream.{streamBytes}
 
 -- ---- what is asked of a value
 

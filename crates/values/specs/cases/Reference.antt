@@ -1,21 +1,21 @@
 -- The reference cases that document 01 marks P ("Reference cases"), in its order, as one proved table: a field for each
 -- thing that a line says. Each is computed where its definitions stand; here they stand together.
-use mathlib.Core.Path.{_≡_}
 use mathlib.Core.List.{[], _∷_, getLast?}
 use mathlib.Core.Option.{some}
+use mathlib.Core.Path.{_≡_}
 use lib.ListN.{length, replicate}
-use Rattle.types.specs.declared.atomic.Atomic.the-variants.{DWord}
-use Rattle.types.specs.declared.member.Ty.the-variants.{Struct}
-use Rattle.types.specs.Cases.{aoi, bool, boolDim, declared, hostsAt, partsIf, sint, sizeIf, udt, visible}
-use Rattle.types.specs.Cases as layouts
-use Rattle.types.specs.Handle.{foldFrom}
-use Rattle.types.specs.Layout.{boolAt, otherAt}
-use Rattle.types.specs.Structs.{stringSize}
-use Rattle.values.specs.Normal.{normalImage}
-use Rattle.values.specs.NormalCases.{chan-normal}
-use Rattle.values.specs.ReadingCases.{chan, chan-eight, chan-image, chan-tree, entries, long-image, string82}
-use Rattle.values.specs.ReadingCases.{string-entries, tree}
-use Rattle.values.specs.Stream.{text}
+use Rattle.types.specs.cases.Layouts.{aoi, bool, boolDim, declared, hostsAt, partsIf, sint, sizeIf, udt, visible}
+use Rattle.types.specs.cases.Layouts as layouts
+use Rattle.types.specs.layout.Placing.{boolAt, otherAt}
+use Rattle.types.specs.layout.Structs.{stringSize}
+use Rattle.types.specs.templates.Handle.{foldFrom}
+use Rattle.types.specs.declared.atomics.atomic.Atomic.the-variants.{DWord}
+use Rattle.types.specs.declared.tables.member.Ty.the-variants.{Struct}
+use Rattle.values.specs.cases.Normal.{chan-normal}
+use Rattle.values.specs.cases.Reading.{chan, chan-eight, chan-image, chan-tree, entries, long-image, string82}
+use Rattle.values.specs.cases.Reading.{string-entries, tree}
+use Rattle.values.specs.normal_image.Normal.{normalImage}
+use Rattle.values.specs.stream.Stream.{text}
 
 pub record Reference : Type 0 where
   -- no members: size 0

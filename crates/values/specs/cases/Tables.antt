@@ -3,18 +3,18 @@
 use Prim.Native.Nat.{ℕ}
 use mathlib.Core.List.{List, [], _∷_}
 use mathlib.Core.Option.{Option, none, some}
-use Rattle.types.specs.declared.atomic.Atomic.the-variants.{Int}
-use Rattle.types.specs.declared.layout.Decl.{Decl}
-use Rattle.types.specs.declared.member.StructKind.the-variants.{Udt, Str}
-use Rattle.types.specs.Atomic.{atomicAt}
-use Rattle.types.specs.Cases.{bool, declared, partsIf, sizeIf, udt}
-use Rattle.types.specs.Defs.{Def}
-use Rattle.types.specs.Digits.{hostName}
-use Rattle.types.specs.Layout.{alignUp}
-use Rattle.types.specs.Registry.{memberRows, typeRows}
-use Rattle.types.specs.Structs.{rowsOf, stringParts, stringSize}
-use Rattle.types.specs.Tables.{bitOf, kindOf, memberAt, memberRow, tyOf, typeAt, typeRow}
-use Rattle.values.specs.Trees.{Known, knownIn, membersAt}
+use Rattle.types.specs.atomics.Atomic.{atomicAt}
+use Rattle.types.specs.cases.Layouts.{bool, declared, partsIf, sizeIf, udt}
+use Rattle.types.specs.layout.HostNames.{hostName}
+use Rattle.types.specs.layout.Placing.{alignUp}
+use Rattle.types.specs.layout.Structs.{rowsOf, stringParts, stringSize}
+use Rattle.types.specs.tables.Defs.{Def}
+use Rattle.types.specs.tables.Lent.{bitOf, kindOf, memberAt, memberRow, tyOf, typeAt, typeRow}
+use Rattle.types.specs.tables.Registry.{memberRows, typeRows}
+use Rattle.types.specs.declared.atomics.atomic.Atomic.the-variants.{Int}
+use Rattle.types.specs.declared.layout.placing.Decl.{Decl}
+use Rattle.types.specs.declared.tables.member.StructKind.the-variants.{Udt, Str}
+use Rattle.values.specs.reading.Trees.{Known, knownIn, membersAt}
 
 -- Good BOOL, Live BOOL, Level INT
 abbrev chanDecls : List Decl

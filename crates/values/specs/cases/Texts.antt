@@ -1,15 +1,15 @@
 -- The reference case of document 01 on stored texts that is marked P, by computation: capacity 82, LEN FFFFFFFF reads
 -- 82 bytes.
 use Prim.Native.Nat.{ℕ}
-use mathlib.Core.Path.{_≡_, refl}
 use mathlib.Core.List.{List, _++_}
+use mathlib.Core.Path.{_≡_, refl}
 use lib.ListN.{replicate}
 use Rattle.words.specs.Bits.{bitOf, flat, val}
 use Rattle.words.specs.Words.{part}
-use Rattle.types.specs.Tables.{kindOf, memberAt, typeAt}
-use Rattle.types.specs.declared.member.Ty.the-variants as ty
-use Rattle.values.specs.CaseTables.{membersOf, string82Def, typesOf}
-use Rattle.values.specs.Texts.{stringNumber, textNumber, textPart}
+use Rattle.types.specs.tables.Lent.{kindOf, memberAt, typeAt}
+use Rattle.types.specs.declared.tables.member.Ty.the-variants as ty
+use Rattle.values.specs.cases.Tables.{membersOf, string82Def, typesOf}
+use Rattle.values.specs.reading.Texts.{stringNumber, textNumber, textPart}
 
 -- LEN FFFFFFFF, and then 84 bytes
 abbrev pub full : List ℕ

@@ -1,18 +1,19 @@
 -- Sentences of document 01's paragraph "Writing", each on a small value, by computation: what the entries leave of an
 -- image, or the refusal's number and the entries from the bad one on.
 use Prim.Native.Nat.{ℕ}
-use mathlib.Core.Path.{_≡_, refl}
 use mathlib.Core.Bool.{true, false}
 use mathlib.Core.List.{List, [], _∷_}
+use mathlib.Core.Path.{_≡_, refl}
 use Rattle.words.specs.Bits.{bitOf, flat, inside, stamp, val}
 use Rattle.words.specs.Words.{bytesOf}
-use Rattle.values.specs.Effects.{ofKind, inRange, whole, asText, orNull}
-use Rattle.values.specs.Leaf.{chars, int, str, word}
-use Rattle.values.specs.ReadingCases.{chanTree}
-use Rattle.values.specs.Stream.{Token, null, bool, number, text, member, mark}
-use Rattle.values.specs.Tree.{Tree, leaf, bits, array, span}
-use Rattle.values.specs.Writing.{Outcome, bad, writeOne, opened, elements, membersIn, writeBits, write, written}
-use Rattle.values.specs.Written.{bytesAfter}
+use Rattle.values.specs.cases.Reading.{chanTree}
+use Rattle.values.specs.reading.Leaf.{chars, int, str, word}
+use Rattle.values.specs.reading.Tree.{Tree, leaf, bits, array, span}
+use Rattle.values.specs.stream.Stream.{Token, null, bool, number, text, member, mark}
+use Rattle.values.specs.writing.Effects.{ofKind, inRange, whole, asText, orNull}
+use Rattle.values.specs.writing.Writing.{Outcome, bad, writeOne, opened, elements, membersIn, writeBits, write}
+use Rattle.values.specs.writing.Writing.{written}
+use Rattle.values.specs.writing.Written.{bytesAfter}
 
 -- what some entries do to an image
 unfoldable pub outcome : Tree → List Token → List ℕ → Outcome

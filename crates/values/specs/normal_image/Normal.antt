@@ -6,8 +6,8 @@ use mathlib.Core.List.{List, [], _∷_}
 use lib.Dec.{ltb}
 use lib.ListN.{length}
 use Rattle.words.specs.Bits.{Bits, from, bitOf, digit, flat, inside, val}
-use Rattle.values.specs.Leaf.{Leaf, flag, byte, int, word, str, width, isTrue, chars, clipped}
-use Rattle.values.specs.Tree.{Tree, Item, say, at, items}
+use Rattle.values.specs.reading.Leaf.{Leaf, flag, byte, int, word, str, width, isTrue, chars, clipped}
+use Rattle.values.specs.reading.Tree.{Tree, Item, say, at, items}
 
 -- a BOOL byte is 1 where it is read as true, else 0; other atomics as they are; LEN becomes min(LEN, capacity), and the
 -- bytes after the text zero

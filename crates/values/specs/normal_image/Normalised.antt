@@ -1,17 +1,17 @@
 -- Making an image normal (document 01, "Normal image", "Refusal numbers"): what the call answers and leaves: 15, 14 in
 -- that order, else the normal image; and after a refusal the image is as it was.
 use Prim.Native.Nat.{ℕ}
-use mathlib.Core.Path.{_≡_}
 use mathlib.Core.Bool.{cond}
 use mathlib.Core.List.{List}
-use Rattle.types.specs.Said.{done}
-use Rattle.types.specs.Shape.{isThere}
-use Rattle.types.specs.declared.member.Ty.{Ty}
-use Rattle.values.specs.Normal.{normalImage}
-use Rattle.values.specs.Reading.{imageFits}
-use Rattle.values.specs.Trees.{knownIn, treeOfValue}
-use Rattle.values.specs.Written.{Result, refusing, saidBy}
-use Rattle.values.specs.declared.writing.Taken.{Taken}
+use mathlib.Core.Path.{_≡_}
+use Rattle.types.specs.refusals.Said.{done}
+use Rattle.types.specs.tables.There.{isThere}
+use Rattle.types.specs.declared.tables.member.Ty.{Ty}
+use Rattle.values.specs.normal_image.Normal.{normalImage}
+use Rattle.values.specs.reading.Read.{imageFits}
+use Rattle.values.specs.reading.Trees.{knownIn, treeOfValue}
+use Rattle.values.specs.writing.Written.{Result, refusing, saidBy}
+use Rattle.values.specs.declared.writing.write.Taken.{Taken}
 
 -- the normal image of a value
 abbrev pub valueNormal : List ℕ → List ℕ → Ty → ℕ → List ℕ → List ℕ

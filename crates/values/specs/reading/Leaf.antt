@@ -4,9 +4,9 @@ use mathlib.Core.Bool.{Bool, cond, not}
 use mathlib.Core.List.{List, [], _∷_}
 use lib.Dec.{eqb, ltb}
 use Rattle.words.specs.Bits.{Bits, from, val}
-use Rattle.types.specs.declared.atomic.Atomic.{Atomic}
-use Rattle.types.specs.declared.atomic.Atomic.the-variants as atomic
-use Rattle.values.specs.Stream.{Token, bool, number, text}
+use Rattle.types.specs.declared.atomics.atomic.Atomic.{Atomic}
+use Rattle.types.specs.declared.atomics.atomic.Atomic.the-variants as atomic
+use Rattle.values.specs.stream.Stream.{Token, bool, number, text}
 
 pub data Leaf : Type 0 where
   flag : Leaf

@@ -1,23 +1,23 @@
 -- Reading (document 01, "Reading", "Refusal numbers"): the stream of a value, and what the call answers and leaves: 15,
 -- 14, 16 in that order, and then nothing is written; else the stream, and the bytes past it kept.
 use Prim.Native.Nat.{ℕ, _*_, min}
-use mathlib.Core.Path.{_≡_}
 use mathlib.Core.Bool.{Bool, cond}
 use mathlib.Core.List.{List}
+use mathlib.Core.Path.{_≡_}
 use lib.Dec.{eqb, leb}
 use lib.ListN.{length}
 use lib.Seq.{sets}
 use Rattle.words.specs.Bits.{flat}
-use Rattle.types.specs.Layout.{times}
-use Rattle.types.specs.Said.{Said, done, refused, why}
-use Rattle.types.specs.Shape.{isThere}
-use Rattle.types.specs.Waste.{sizeIn, sizesIn}
-use Rattle.types.specs.declared.member.Ty.{Ty}
-use Rattle.values.specs.Stream.{streamBytes, mostBytes}
-use Rattle.values.specs.Tree.{Tree, items, read}
-use Rattle.values.specs.Trees.{knownIn, treeOfValue}
-use Rattle.values.specs.declared.reading.Streamed.{Streamed}
-use Rattle.values.specs.declared.reading.Streamed.the-variants.{Length, Refused}
+use Rattle.types.specs.layout.Placing.{times}
+use Rattle.types.specs.refusals.Said.{Said, done, refused, why}
+use Rattle.types.specs.tables.Sizes.{sizeIn, sizesIn}
+use Rattle.types.specs.tables.There.{isThere}
+use Rattle.types.specs.declared.tables.member.Ty.{Ty}
+use Rattle.values.specs.reading.Tree.{Tree, items, read}
+use Rattle.values.specs.reading.Trees.{knownIn, treeOfValue}
+use Rattle.values.specs.stream.Stream.{streamBytes, mostBytes}
+use Rattle.values.specs.declared.reading.read.Streamed.{Streamed}
+use Rattle.values.specs.declared.reading.read.Streamed.the-variants.{Length, Refused}
 
 -- what an answer says: the stream's length, or a refusal
 abbrev pub saidBy : Streamed → Said ℕ
@@ -59,10 +59,3 @@ pub record Answered (types members : List ℕ) (t : Ty) (n : ℕ) (image out : L
     : Type 0 where
   pub answer : saidBy r ≡ readAnswer types members t n image (length out)
   pub leaves : new ≡ leftBy (readAnswer types members t n image (length out)) out (valueStream types members t n image)
-
--- the same of a value whose type is there and whose image fits
-pub record Written (types members : List ℕ) (t : Ty) (n : ℕ) (image out : List ℕ) (r : Streamed) (new : List ℕ)
-    : Type 0 where
-  pub answer : saidBy r ≡ streamAnswer (valueStream types members t n image) (length out)
-  pub leaves : new ≡ leftBy (streamAnswer (valueStream types members t n image) (length out)) out
-      (valueStream types members t n image)

@@ -1,19 +1,33 @@
 -- The stored text of a string (document 01, "Reading": handed back as that part of the caller's image; "Refusal
--- numbers"): 15 for no such type or no string type, then 14 for an image that is not of the type's size; else 0, and
--- min(LEN, capacity) bytes of DATA.
-use Prim.Native.Nat.{ℕ, _+_, _≤_}
-use mathlib.Core.Path.{_≡_}
+-- numbers"): min(LEN, capacity) bytes of DATA; 15 for no such type or no string type, then 14 for an image that is not
+-- of the type's size, else 0.
+use Prim.Native.Nat.{ℕ, _+_}
 use mathlib.Core.Bool.{cond}
 use mathlib.Core.List.{List, []}
+use mathlib.Core.Path.{_≡_}
 use lib.Dec.{eqb}
 use lib.ListN.{length}
-use Rattle.types.specs.Shape.{isThere}
-use Rattle.types.specs.Tables.{typeAt}
-use Rattle.types.specs.Waste.{sizesIn}
-use Rattle.types.specs.declared.member.Ty.{Ty}
-use Rattle.types.specs.declared.member.Ty.the-variants as ty
-use Rattle.values.specs.Trees.{isString}
-use Rattle.values.specs.Walk.{capacityAt, textLength, textIn}
+use Rattle.words.specs.Bits.{flat}
+use Rattle.words.specs.Words.{part}
+use Rattle.types.specs.tables.Lent.{memberAt, typeAt}
+use Rattle.types.specs.tables.Sizes.{sizesIn}
+use Rattle.types.specs.tables.There.{isThere}
+use Rattle.types.specs.declared.tables.member.Ty.{Ty}
+use Rattle.types.specs.declared.tables.member.Ty.the-variants as ty
+use Rattle.values.specs.reading.Leaf.{clipped}
+use Rattle.values.specs.reading.Trees.{isString}
+
+-- ---- strings
+
+abbrev pub textLength : ℕ → List ℕ → ℕ
+textLength capacity image = clipped capacity (flat image)
+
+abbrev pub textIn : ℕ → List ℕ → List ℕ
+textIn capacity image = part image 4 (textLength capacity image)
+
+-- the capacity of a string whose members begin at a row
+abbrev pub capacityAt : List ℕ → ℕ → ℕ
+capacityAt members first = memberAt members (first + 1) .count
 
 -- the number for structure i and an image of so many bytes
 unfoldable pub stringNumber : List ℕ → ℕ → ℕ → ℕ
@@ -54,8 +68,3 @@ pub record Stored (types members : List ℕ) (t : Ty) (image : List ℕ) (whole 
   pub text : part ≡ textPart types members t image
   pub block : place .0 ≡ whole .0
   pub start : place .1 ≡ whole .1 + textStart number
-
--- the bytes of a text that is not refused lie in the image
-pub record Held (types members : List ℕ) (t : Ty) (image : List ℕ) (n : ℕ) : Type 0 where
-  pub long : n ≡ textLength (capacityOf types members t) image
-  pub inside : 4 + n ≤ length image

@@ -3,8 +3,8 @@
 use Prim.Native.Nat.{ℕ, zero, suc, _+_, _*_, _/_}
 use mathlib.Core.List.{List, [], _∷_, _++_}
 use Rattle.words.specs.Bits.{Bits, from}
-use Rattle.values.specs.Leaf.{Leaf, flag, byte, int, word, str, emit}
-use Rattle.values.specs.Stream.{Token, member, mark}
+use Rattle.values.specs.reading.Leaf.{Leaf, flag, byte, int, word, str, emit}
+use Rattle.values.specs.stream.Stream.{Token, member, mark}
 
 -- bits w n is a bit string of w bits, or n of them where n is not 0; array n has n elements; struct has a size in bits;
 -- a branch of it a member's number among all, and its first bit

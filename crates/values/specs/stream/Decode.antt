@@ -2,13 +2,13 @@
 use Prim.Native.Nat.{ℕ, zero, suc, _+_, _*_}
 use mathlib.Core.List.{List, [], _∷_}
 use Rattle.words.specs.Words.{part}
-use Rattle.values.specs.Entry.{entryIn}
-use Rattle.values.specs.Form.{countIn, baseIn}
-use Rattle.values.specs.Stream.{Token, null, bool, number, text, member, mark}
-use Rattle.values.specs.declared.entries.Entry.{Entry}
-use Rattle.values.specs.declared.entries.Entry.the-variants as entry
-use Rattle.values.specs.declared.entries.Loaded.{Loaded}
-use Rattle.values.specs.declared.entries.Loaded.the-variants.{Is, Malformed}
+use Rattle.values.specs.stream.Entry.{entryIn}
+use Rattle.values.specs.stream.Form.{countIn, baseIn}
+use Rattle.values.specs.stream.Stream.{Token, null, bool, number, text, member, mark}
+use Rattle.values.specs.declared.stream.entry.Entry.{Entry}
+use Rattle.values.specs.declared.stream.entry.Entry.the-variants as entry
+use Rattle.values.specs.declared.stream.entry.Loaded.{Loaded}
+use Rattle.values.specs.declared.stream.entry.Loaded.the-variants.{Is, Malformed}
 
 -- an entry with its text, where the bodies begin at a base
 abbrev pub tokenOf : List ℕ → ℕ → Entry → Token

@@ -1,20 +1,20 @@
 -- Entries by value (document 01, "Value stream"): the number of each kind, its payload, its twelve bytes, and what
 -- twelve bytes say.
 use Prim.Native.Nat.{ℕ, _+_, _*_, _/_, _%_, _^_, _<_}
-use mathlib.Core.Path.{_≡_}
 use mathlib.Core.Bool.{true, false, cond, Bool, _&&_}
 use mathlib.Core.List.{List, [], _∷_}
+use mathlib.Core.Path.{_≡_}
 use lib.Dec.{eqb, leb, ltb}
 use lib.ListN.{getD, length}
 use lib.Seq.{sets}
 use Rattle.words.specs.Bits.{digit}
 use Rattle.words.specs.Words.{wordAt}
-use Rattle.types.specs.Said.{Said, done, refused}
-use Rattle.values.specs.Stream.{entryBytes}
-use Rattle.values.specs.declared.entries.Entry.{Entry}
-use Rattle.values.specs.declared.entries.Entry.the-variants as entry
-use Rattle.values.specs.declared.entries.Loaded.{Loaded}
-use Rattle.values.specs.declared.entries.Loaded.the-variants.{Is, Malformed}
+use Rattle.types.specs.refusals.Said.{Said, done, refused}
+use Rattle.values.specs.stream.Stream.{entryBytes}
+use Rattle.values.specs.declared.stream.entry.Entry.{Entry}
+use Rattle.values.specs.declared.stream.entry.Entry.the-variants as entry
+use Rattle.values.specs.declared.stream.entry.Loaded.{Loaded}
+use Rattle.values.specs.declared.stream.entry.Loaded.the-variants.{Is, Malformed}
 
 -- 0 null, 1 bool, 2 signed, 3 unsigned, 4 REAL bits, 5 LREAL bits, 6 text, 7 member number, 8 and 9 structure open and
 -- close, 10 and 11 array open and close
@@ -122,14 +122,14 @@ truthIn x = cond (eqb x 0) (Is (entry.Bool false)) (cond (eqb x 1) (Is (entry.Bo
 unfoldable pub lowIn : (ℕ → Entry) → ℕ → Loaded
 lowIn e x = cond (ltb x (2 ^ 32)) (Is (e x)) Malformed
 
-abbrev pub textIn : ℕ → Loaded
-textIn x = Is (entry.Text (x % 2 ^ 32) (x / 2 ^ 32))
+abbrev pub textEntry : ℕ → Loaded
+textEntry x = Is (entry.Text (x % 2 ^ 32) (x / 2 ^ 32))
 
 -- by the kind, 0 to 11
 abbrev pub payloadsIn : ℕ → List Loaded
 payloadsIn x =
     bareIn entry.Null x ∷ truthIn x ∷ Is (entry.Signed x) ∷ Is (entry.Unsigned x) ∷ lowIn entry.Real x
-    ∷ Is (entry.LReal x) ∷ textIn x ∷ lowIn entry.Member x ∷ bareIn entry.Open x ∷ bareIn entry.Close x
+    ∷ Is (entry.LReal x) ∷ textEntry x ∷ lowIn entry.Member x ∷ bareIn entry.Open x ∷ bareIn entry.Close x
     ∷ bareIn entry.ArrayOpen x ∷ bareIn entry.ArrayClose x ∷ []
 
 unfoldable pub loadedOf : ℕ → ℕ → Loaded

@@ -6,12 +6,12 @@ use mathlib.Core.List.{List}
 use lib.Dec.{eqb, leb}
 use lib.ListN.{length}
 use Rattle.words.specs.Words.{wordAt}
-use Rattle.values.specs.Entry.{entryIn}
-use Rattle.values.specs.Stream.{mostBytes}
-use Rattle.values.specs.declared.entries.Entry.{Entry}
-use Rattle.values.specs.declared.entries.Entry.the-variants as entry
-use Rattle.values.specs.declared.entries.Loaded.{Loaded}
-use Rattle.values.specs.declared.entries.Loaded.the-variants.{Is, Malformed}
+use Rattle.values.specs.stream.Entry.{entryIn}
+use Rattle.values.specs.stream.Stream.{mostBytes}
+use Rattle.values.specs.declared.stream.entry.Entry.{Entry}
+use Rattle.values.specs.declared.stream.entry.Entry.the-variants as entry
+use Rattle.values.specs.declared.stream.entry.Loaded.{Loaded}
+use Rattle.values.specs.declared.stream.entry.Loaded.the-variants.{Is, Malformed}
 
 -- where the next text must begin, counted from the bodies' start; or that the stream is malformed
 pub data Step : Type 0 where

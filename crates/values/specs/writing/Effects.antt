@@ -1,17 +1,14 @@
 -- What one entry does to a place (document 01, "Writing"): null keeps what stands; a value that fits sets the bits; any
 -- other is refused, with its number: 18 does not fit here, 19 out of range, 21 a text longer than the capacity.
-use Prim.Native.Nat.{ℕ, _-_, _*_, _^_, _≤_}
-use mathlib.Core.Path.{_≡_}
+use Prim.Native.Nat.{ℕ, _-_, _^_}
 use mathlib.Core.Bool.{Bool, cond, _&&_, _||_}
 use mathlib.Core.List.{List, _++_}
 use lib.Dec.{eqb, leb, ltb}
 use lib.ListN.{length}
 use Rattle.words.specs.Bits.{Bits, bitOf, flat}
 use Rattle.words.specs.Words.{bytesOf}
-use Rattle.types.specs.Atomic.{bitString, sizeOf}
-use Rattle.types.specs.declared.atomic.Atomic.{Atomic}
-use Rattle.values.specs.Leaf.{Leaf, flag, byte, int, word, str, leafOf}
-use Rattle.values.specs.Stream.{Token, kindOf, payloadOf, bodyOf}
+use Rattle.values.specs.reading.Leaf.{Leaf, flag, byte, int, word, str}
+use Rattle.values.specs.stream.Stream.{Token, kindOf, payloadOf, bodyOf}
 
 pub data Effect : Type 0 where
   keep : Effect
@@ -67,16 +64,6 @@ taken (int n) t = whole (2 ^ (n - 1)) (2 ^ (n - 1)) t
 taken (word kind n) t = cond (eqb kind 3) (whole 0 (2 ^ n) t) (ofKind kind t)
 taken (str capacity) t = asText capacity t
 
--- and what one atomic takes, of an array too: a bit string a whole number
-unfoldable pub atomicTakes : Atomic → Token → Effect
-atomicTakes a t = cond (bitString a) (bitsWhole (8 * sizeOf a) t) (taken (leafOf a) t)
-
 -- null keeps what stands
 unfoldable pub orNull : (Token → Effect) → Token → Effect
 orNull takes t = cond (eqb (kindOf t) 0) keep (takes t)
-
--- what a number says of an effect: 0 that the entry is taken, else the refusal
-pub data Judged (e : Effect) (number : ℕ) : Type 0 where
-  kept : number ≡ 0 → e ≡ keep → Judged e number
-  set : number ≡ 0 → (b : Bits) → e ≡ put b → Judged e number
-  refused : 1 ≤ number → e ≡ refuse number → Judged e number

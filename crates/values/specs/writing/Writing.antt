@@ -7,10 +7,10 @@ use mathlib.Core.List.{List, [], _∷_}
 use lib.Dec.{eqb}
 use lib.ListN.{length}
 use Rattle.words.specs.Bits.{Bits, stamp}
-use Rattle.values.specs.Effects.{Effect, keep, put, refuse, orNull, taken, bitsWhole}
-use Rattle.values.specs.Leaf.{flag, width}
-use Rattle.values.specs.Stream.{Token, kindOf, payloadOf}
-use Rattle.values.specs.Tree.{Tree, leaf, bits, array, struct, Branches, none, branch, span}
+use Rattle.values.specs.reading.Leaf.{flag, width}
+use Rattle.values.specs.reading.Tree.{Tree, leaf, bits, array, struct, Branches, none, branch, span}
+use Rattle.values.specs.stream.Stream.{Token, kindOf, payloadOf}
+use Rattle.values.specs.writing.Effects.{Effect, keep, put, refuse, orNull, taken, bitsWhole}
 
 -- the entries that are left, and the image; or a refusal's number, and the entries from the bad one on
 pub data Outcome : Type 0 where

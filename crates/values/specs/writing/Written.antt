@@ -2,22 +2,22 @@
 -- the first bad entry with its number in the stream, the entry count where one is missing; and after a refusal the
 -- image is as it was.
 use Prim.Native.Nat.{ℕ, _-_}
-use mathlib.Core.Path.{_≡_}
 use mathlib.Core.Bool.{cond}
 use mathlib.Core.List.{List}
+use mathlib.Core.Path.{_≡_}
 use lib.ListN.{length}
 use Rattle.words.specs.Bits.{flat}
-use Rattle.types.specs.Said.{Said, done, refused, why}
-use Rattle.types.specs.Shape.{isThere}
-use Rattle.types.specs.declared.member.Ty.{Ty}
-use Rattle.values.specs.Decode.{tokensIn}
-use Rattle.values.specs.Form.{countIn, streamOk}
-use Rattle.values.specs.Leaf.{chars}
-use Rattle.values.specs.Reading.{imageFits}
-use Rattle.values.specs.Trees.{knownIn, treeOfValue}
-use Rattle.values.specs.Writing.{Outcome, ok, bad, written}
-use Rattle.values.specs.declared.writing.Taken.{Taken}
-use Rattle.values.specs.declared.writing.Taken.the-variants.{Whole, Refused}
+use Rattle.types.specs.refusals.Said.{Said, done, refused, why}
+use Rattle.types.specs.tables.There.{isThere}
+use Rattle.types.specs.declared.tables.member.Ty.{Ty}
+use Rattle.values.specs.reading.Leaf.{chars}
+use Rattle.values.specs.reading.Read.{imageFits}
+use Rattle.values.specs.reading.Trees.{knownIn, treeOfValue}
+use Rattle.values.specs.stream.Decode.{tokensIn}
+use Rattle.values.specs.stream.Form.{countIn, streamOk}
+use Rattle.values.specs.writing.Writing.{Outcome, ok, bad, written}
+use Rattle.values.specs.declared.writing.write.Taken.{Taken}
+use Rattle.values.specs.declared.writing.write.Taken.the-variants.{Whole, Refused}
 
 -- what an answer says: no value, or a refusal
 abbrev pub saidBy : Taken → Said (Unit {0})
@@ -61,9 +61,3 @@ writeResult types members t n s image =
 pub record Done (types members : List ℕ) (t : Ty) (n : ℕ) (s image : List ℕ) (r : Taken) (new : List ℕ) : Type 0 where
   pub answer : saidBy r ≡ writeResult types members t n s image .answer
   pub leaves : new ≡ writeResult types members t n s image .image
-
--- the same of a value whose type is there, whose image fits, and of a stream whose form is good
-pub record Entered (types members : List ℕ) (t : Ty) (n : ℕ) (s image : List ℕ) (r : Taken) (new : List ℕ)
-    : Type 0 where
-  pub answer : saidBy r ≡ takenOf (countIn s) (valueWritten types members t n s image)
-  pub leaves : new ≡ bytesAfter (valueWritten types members t n s image) image

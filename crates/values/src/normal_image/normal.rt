@@ -1,18 +1,18 @@
 // Normal images (document 01, "Normal image"): an image made normal in place, so that two images of a type hold the
 // same values exactly when their bytes are then equal.
 ghost use mathlib.Core.Path.{_≡_};
-ghost use Rattle.types.specs.Kept.{KeptRows};
-ghost use Rattle.values.specs.Normalised.{MadeNormal, valueNormal};
-ghost use Rattle.values.specs.Placed.{Sweepable};
-ghost use Rattle.values.specs.Walkable.{ValueImage};
-use crate::norms::normal_atomics;
-use crate::reading::is_product;
-use crate::reading::size_of_ty;
-use crate::rows::times_of;
-use crate::tidy::normal_elements;
-use crate::tidy::normal_struct;
-use crate::tokens::as_size;
-use crate::writing::Taken;
+ghost use Rattle.types.specs.tables.Kept.{KeptRows};
+ghost use Rattle.values.specs.inside.normal_image.Placed.{Sweepable};
+ghost use Rattle.values.specs.inside.reading.Walkable.{ValueImage};
+ghost use Rattle.values.specs.normal_image.Normalised.{MadeNormal, valueNormal};
+use crate::normal_image::leaves::normal_atomics;
+use crate::normal_image::structs::normal_elements;
+use crate::normal_image::structs::normal_struct;
+use crate::reading::read::is_product;
+use crate::reading::read::size_of_ty;
+use crate::reading::rows::times_of;
+use crate::stream::tokens::as_size;
+use crate::writing::write::Taken;
 use types::MemberTable;
 use types::Refusal;
 use types::Ty;

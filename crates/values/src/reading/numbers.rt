@@ -3,8 +3,8 @@
 ghost use mathlib.Core.Path.{_≡_};
 ghost use Prim.Native.Nat.{_+_, _^_, _<_};
 ghost use Rattle.words.specs.Bits.{digit};
-ghost use Rattle.values.specs.Leaf.{isTrue};
-ghost use Rattle.values.specs.Numbers.{formOf, extended};
+ghost use Rattle.values.specs.inside.reading.Numbers.{formOf, extended};
+ghost use Rattle.values.specs.reading.Leaf.{isTrue};
 use types::Atomic;
 
 // The kind of a number's entry; from which number on it is negative, and what then stands above it.

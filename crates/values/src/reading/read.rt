@@ -6,27 +6,28 @@ ghost use mathlib.Core.List.{[]};
 ghost use Prim.Native.Nat.{_+_, _*_, _≤_, min};
 ghost use lib.Dec.{eqb};
 ghost use lib.ListN.{length};
-ghost use Rattle.types.specs.Kept.{KeptRows};
-ghost use Rattle.types.specs.Layout.{times};
-ghost use Rattle.types.specs.Tables.{TyFits};
-ghost use Rattle.types.specs.Waste.{sizeIn, sizesIn};
-ghost use Rattle.values.specs.Counting.{Counted, Texts};
-ghost use Rattle.values.specs.Laying.{Room, Wrote};
-ghost use Rattle.values.specs.Reading.{Answered, Written};
-ghost use Rattle.values.specs.Stream.{bodies};
-ghost use Rattle.values.specs.Walk.{valueOut};
-ghost use Rattle.values.specs.Walkable.{ImagesOf, ValueImage, Walkable};
-use crate::atomics::put_atomics;
-use crate::count::count_atomics;
-use crate::count::count_structs;
-use crate::lengths::text_elements;
-use crate::lengths::text_struct;
-use crate::place::Place;
-use crate::rows::struct_size;
-use crate::rows::times_of;
-use crate::tokens::as_size;
-use crate::walk::read_elements;
-use crate::walk::read_struct;
+ghost use Rattle.types.specs.inside.tables.Lent.{TyFits};
+ghost use Rattle.types.specs.layout.Placing.{times};
+ghost use Rattle.types.specs.tables.Kept.{KeptRows};
+ghost use Rattle.types.specs.tables.Sizes.{sizeIn, sizesIn};
+ghost use Rattle.values.specs.inside.reading.Read.{StreamWritten};
+ghost use Rattle.values.specs.inside.reading.Walk.{valueOut};
+ghost use Rattle.values.specs.inside.reading.Walkable.{ImagesOf, ValueImage, Walkable};
+ghost use Rattle.values.specs.inside.stream.Counting.{Counted, Texts};
+ghost use Rattle.values.specs.inside.stream.Laying.{Room, Wrote};
+ghost use Rattle.values.specs.reading.Read.{Answered};
+ghost use Rattle.values.specs.stream.Stream.{bodies};
+use crate::reading::atomics::put_atomics;
+use crate::reading::rows::struct_size;
+use crate::reading::rows::times_of;
+use crate::reading::walk::read_elements;
+use crate::reading::walk::read_struct;
+use crate::stream::count::count_atomics;
+use crate::stream::count::count_structs;
+use crate::stream::lengths::text_elements;
+use crate::stream::lengths::text_struct;
+use crate::stream::place::Place;
+use crate::stream::tokens::as_size;
 use types::MemberTable;
 use types::Refusal;
 use types::Ty;
@@ -193,7 +194,7 @@ fn read_within(
 ) -> Streamed
     requires { ⌜ Walkable (now types) (now members) × ValueImage (now types) ty n (now image) ⌝ }
     requires { ⌜ room + 4 ≡ min (length (now out)) 2147483648 ⌝ }
-    ensures { λ r. ⌜ Written (now (types .entry)) (now (members .entry)) ty n (now (image .entry))
+    ensures { λ r. ⌜ StreamWritten (now (types .entry)) (now (members .entry)) ty n (now (image .entry))
         (now (out .entry)) r (now (out .exit)) ⌝ }
 {
     let most = room / 12;

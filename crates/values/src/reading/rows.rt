@@ -1,12 +1,13 @@
 // What the walk asks of the tables' rows (document 01, "Layout"): sizes, capacities, and which members are structures.
 ghost use mathlib.Core.Path.{_≡_};
 ghost use Prim.Native.Nat.{_+_, _<_};
-ghost use Rattle.types.specs.Layout.{times};
-ghost use Rattle.types.specs.Tables.{memberAt};
-ghost use Rattle.types.specs.Waste.{sizesIn};
-ghost use Rattle.values.specs.InPlace.{isPlain};
-ghost use Rattle.values.specs.Trees.{isString};
-ghost use Rattle.values.specs.Walk.{capacityAt, isNested};
+ghost use Rattle.types.specs.layout.Placing.{times};
+ghost use Rattle.types.specs.tables.Lent.{memberAt};
+ghost use Rattle.types.specs.tables.Sizes.{sizesIn};
+ghost use Rattle.values.specs.inside.normal_image.InPlace.{isPlain};
+ghost use Rattle.values.specs.inside.reading.Walk.{isNested};
+ghost use Rattle.values.specs.reading.Texts.{capacityAt};
+ghost use Rattle.values.specs.reading.Trees.{isString};
 use types::Bit;
 use types::MemberTable;
 use types::StructKind;

@@ -2,14 +2,14 @@
 // each size.
 ghost use Prim.Native.Nat.{_+_, _*_, _≤_};
 ghost use lib.ListN.{length};
-ghost use Rattle.types.specs.Atomic.{sizeOf};
-ghost use Rattle.values.specs.Laying.{Put};
-ghost use Rattle.values.specs.Numbers.{Run};
-ghost use Rattle.values.specs.Walk.{elementOut, upTo};
-use crate::entry::put_entry;
-use crate::numbers::extend;
-use crate::numbers::form_of;
-use crate::numbers::truth;
+ghost use Rattle.types.specs.atomics.Atomic.{sizeOf};
+ghost use Rattle.values.specs.inside.reading.Numbers.{NumberRun};
+ghost use Rattle.values.specs.inside.reading.Walk.{elementOut, upTo};
+ghost use Rattle.values.specs.inside.stream.Laying.{Put};
+use crate::reading::numbers::extend;
+use crate::reading::numbers::form_of;
+use crate::reading::numbers::truth;
+use crate::stream::entry::put_entry;
 use types::Atomic;
 use words::load8;
 use words::load16;
@@ -36,7 +36,7 @@ fn put_truths(n: usize, s: &[u8], out: &mut [u8], at: usize) -> usize
 }
 
 fn put_ones(a: Atomic, n: usize, s: &[u8], out: &mut [u8], at: usize) -> usize
-    requires { ⌜ Run a 1 n (now s) × (at + 12 * n ≤ length (now out)) ⌝ }
+    requires { ⌜ NumberRun a 1 n (now s) × (at + 12 * n ≤ length (now out)) ⌝ }
     ensures { λ r. ⌜ Put (now (out .entry)) at (upTo (elementOut a (now (s .entry))) n) (now (out .exit)) r ⌝ }
 {
     let f = form_of(a);
@@ -52,7 +52,7 @@ fn put_ones(a: Atomic, n: usize, s: &[u8], out: &mut [u8], at: usize) -> usize
 }
 
 fn put_twos(a: Atomic, n: usize, s: &[u8], out: &mut [u8], at: usize) -> usize
-    requires { ⌜ Run a 2 n (now s) × (at + 12 * n ≤ length (now out)) ⌝ }
+    requires { ⌜ NumberRun a 2 n (now s) × (at + 12 * n ≤ length (now out)) ⌝ }
     ensures { λ r. ⌜ Put (now (out .entry)) at (upTo (elementOut a (now (s .entry))) n) (now (out .exit)) r ⌝ }
 {
     let f = form_of(a);
@@ -68,7 +68,7 @@ fn put_twos(a: Atomic, n: usize, s: &[u8], out: &mut [u8], at: usize) -> usize
 }
 
 fn put_fours(a: Atomic, n: usize, s: &[u8], out: &mut [u8], at: usize) -> usize
-    requires { ⌜ Run a 4 n (now s) × (at + 12 * n ≤ length (now out)) ⌝ }
+    requires { ⌜ NumberRun a 4 n (now s) × (at + 12 * n ≤ length (now out)) ⌝ }
     ensures { λ r. ⌜ Put (now (out .entry)) at (upTo (elementOut a (now (s .entry))) n) (now (out .exit)) r ⌝ }
 {
     let f = form_of(a);
@@ -84,7 +84,7 @@ fn put_fours(a: Atomic, n: usize, s: &[u8], out: &mut [u8], at: usize) -> usize
 }
 
 fn put_eights(a: Atomic, n: usize, s: &[u8], out: &mut [u8], at: usize) -> usize
-    requires { ⌜ Run a 8 n (now s) × (at + 12 * n ≤ length (now out)) ⌝ }
+    requires { ⌜ NumberRun a 8 n (now s) × (at + 12 * n ≤ length (now out)) ⌝ }
     ensures { λ r. ⌜ Put (now (out .entry)) at (upTo (elementOut a (now (s .entry))) n) (now (out .exit)) r ⌝ }
 {
     let f = form_of(a);

@@ -1,12 +1,13 @@
 // The stored text of a string (document 01, "Reading"): handed back as that part of the caller's image.
 ghost use mathlib.Core.Path.{_≡_};
 ghost use Prim.Native.Nat.{_<_};
-ghost use Rattle.types.specs.Kept.{KeptRows};
-ghost use Rattle.values.specs.Texts.{Held, Stored, stringNumber, textNumber};
-ghost use Rattle.values.specs.Walkable.{Walkable};
-use crate::rows::capacity_at;
-use crate::rows::is_string;
-use crate::texts::text_length;
+ghost use Rattle.types.specs.tables.Kept.{KeptRows};
+ghost use Rattle.values.specs.inside.reading.Texts.{TextHeld};
+ghost use Rattle.values.specs.inside.reading.Walkable.{Walkable};
+ghost use Rattle.values.specs.reading.Texts.{Stored, stringNumber, textNumber};
+use crate::reading::rows::capacity_at;
+use crate::reading::rows::is_string;
+use crate::reading::texts::text_length;
 use types::MemberTable;
 use types::Refusal;
 use types::Ty;
@@ -53,7 +54,7 @@ fn text_number(types: &TypeTable, ty: Ty, image: &[u8]) -> u8
 // How many bytes of an image that is not refused are its text.
 fn text_bytes(types: &TypeTable, members: &MemberTable, ty: Ty, image: &[u8]) -> usize
     requires { ⌜ Walkable (now types) (now members) × (textNumber (now types) ty (now image) ≡ 0) ⌝ }
-    ensures { λ r. ⌜ Held (now (types .entry)) (now (members .entry)) ty (now (image .entry)) r ⌝ }
+    ensures { λ r. ⌜ TextHeld (now (types .entry)) (now (members .entry)) ty (now (image .entry)) r ⌝ }
 {
     match ty {
         Ty::Atomic(_) => {

@@ -2,10 +2,11 @@
 ghost use mathlib.Core.Path.{_≡_};
 ghost use Prim.Native.Nat.{_+_, _*_, _≤_};
 ghost use lib.ListN.{length};
-ghost use Rattle.values.specs.Laying.{Room, Wrote};
-ghost use Rattle.values.specs.Walk.{textLength, textOut};
-use crate::entry::put_entry;
-use crate::place::Place;
+ghost use Rattle.values.specs.inside.reading.Walk.{textOut};
+ghost use Rattle.values.specs.inside.stream.Laying.{Room, Wrote};
+ghost use Rattle.values.specs.reading.Texts.{textLength};
+use crate::stream::entry::put_entry;
+use crate::stream::place::Place;
 use words::copy;
 use words::load32;
 use words::wide;

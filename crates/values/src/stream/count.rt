@@ -3,13 +3,14 @@
 // where `most` is passed: the sum is then any number above `most`.
 ghost use mathlib.Core.Bool.{Bool};
 ghost use Prim.Native.Nat.{ℕ, _+_, _<_, _≤_};
-ghost use Rattle.types.specs.Tables.{memberAt};
-ghost use Rattle.values.specs.Counting.{Counted, Plain};
-ghost use Rattle.values.specs.Walk.{atomicsOut, leafOut, memberBy, membersBy, structOut, structsBy};
-ghost use Rattle.values.specs.Walkable.{NestedRow, Walkable};
-use crate::rows::is_nested;
-use crate::rows::is_string;
-use crate::rows::times_of;
+ghost use Rattle.types.specs.tables.Lent.{memberAt};
+ghost use Rattle.values.specs.inside.reading.Walk.{atomicsOut, leafOut, memberBy, membersBy, structOut};
+ghost use Rattle.values.specs.inside.reading.Walk.{structsBy};
+ghost use Rattle.values.specs.inside.reading.Walkable.{NestedRow, Walkable};
+ghost use Rattle.values.specs.inside.stream.Counting.{Counted, TextFree};
+use crate::reading::rows::is_nested;
+use crate::reading::rows::is_string;
+use crate::reading::rows::times_of;
 use types::Atomic;
 use types::Bit;
 use types::MemberTable;
@@ -24,7 +25,7 @@ use words::wide;
 // An atomic, or n of them where n is not 0.
 pub fn atomic_entries(a: Atomic, n: usize) -> usize
     requires { ⌜ n ≤ 4294967296 ⌝ }
-    ensures { λ r. ⌜ Plain (atomicsOut a n) r ⌝ }
+    ensures { λ r. ⌜ TextFree (atomicsOut a n) r ⌝ }
 {
     let bits = is_bits(a);
     if bits {
@@ -50,7 +51,7 @@ pub fn count_atomics(a: Atomic, n: usize, most: usize) -> usize
 // The member in a row, where it is no structure.
 fn leaf_entries(members: &MemberTable, row: usize) -> usize
     requires { ⌜ row < 2000 ⌝ }
-    ensures { λ r. ⌜ ((j : ℕ) → Plain (leafOut j (memberAt (now (members .entry)) row)) r)
+    ensures { λ r. ⌜ ((j : ℕ) → TextFree (leafOut j (memberAt (now (members .entry)) row)) r)
         × (r ≤ 1099511627776) ⌝ }
 {
     let m = member_row(members, row);

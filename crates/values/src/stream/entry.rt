@@ -1,16 +1,20 @@
-// An entry by value (document 01, "Value stream"): its kinds 0 to 11 with their payloads, stored as twelve bytes and
+// An entry (document 01, "Value stream"): its kinds 0 to 11 with their payloads by value, stored as twelve bytes and
 // loaded again. Bytes that are no entry are malformed.
 ghost use mathlib.Core.Path.{_≡_};
 ghost use Prim.Native.Nat.{_+_, _≤_};
 ghost use lib.ListN.{length};
 ghost use lib.Dec.{leb};
-ghost use Rattle.values.specs.Entry.{EntryStored, entryAt, entryIn, entryKind, entryPayload, loadedOf, saidBy};
-ghost use Rattle.values.specs.Entry.{bareIn, lowIn, textIn, truthIn};
-use crate::entry::put_entry;
-use crate::numbers::truth_of;
-use crate::tokens::high;
-use crate::tokens::low;
+ghost use Rattle.values.specs.stream.Entry.{EntryStored, entryAt, entryIn, entryKind, entryPayload, loadedOf};
+ghost use Rattle.values.specs.stream.Entry.{saidBy, bareIn, lowIn, textEntry, truthIn};
+ghost use lib.Seq.{sets};
+ghost use Rattle.values.specs.stream.Stream.{entryBytes};
+use crate::reading::numbers::truth_of;
+use crate::stream::tokens::high;
+use crate::stream::tokens::low;
 use words::load64;
+use words::store32;
+use words::store64;
+use words::wide8;
 use words::wide64;
 
 // A text has its place in the bodies and its length.
@@ -140,7 +144,7 @@ fn member_in(x: u64) -> Loaded
 }
 
 fn text_in(x: u64) -> Loaded
-    ensures { λ r. ⌜ r ≡ textIn x ⌝ }
+    ensures { λ r. ⌜ r ≡ textEntry x ⌝ }
 {
     Loaded::Is(Entry::Text(low(x), high(x)))
 }
@@ -192,4 +196,13 @@ pub fn entry_at(s: &[u8], at: usize) -> Loaded
         return load_entry(s, at);
     }
     Loaded::Malformed
+}
+
+// Stores an entry at a place; the bytes around it stay.
+pub fn put_entry(out: &mut [u8], at: usize, kind: u8, payload: u64)
+    requires { ⌜ at + 12 ≤ length (now out) ⌝ }
+    ensures { λ _. ⌜ now (out .exit) ≡ sets (now (out .entry)) at (entryBytes kind payload) ⌝ }
+{
+    store32(out, at, wide8(kind));
+    store64(out, at + 4, payload);
 }

@@ -3,11 +3,11 @@
 ghost use mathlib.Core.Path.{_≡_};
 ghost use Prim.Native.Nat.{_+_, _*_, _^_, _≤_};
 ghost use lib.ListN.{length};
-ghost use Rattle.values.specs.Entry.{loadedOf};
-ghost use Rattle.values.specs.Form.{formed, loadedStep, streamOk};
-ghost use Rattle.values.specs.Steps.{Moved, mostOf};
-use crate::tokens::high;
-use crate::tokens::low;
+ghost use Rattle.values.specs.inside.stream.Steps.{Moved, mostOf};
+ghost use Rattle.values.specs.stream.Entry.{loadedOf};
+ghost use Rattle.values.specs.stream.Form.{formed, loadedStep, streamOk};
+use crate::stream::tokens::high;
+use crate::stream::tokens::low;
 use words::load32;
 use words::wide;
 use words::wide64;

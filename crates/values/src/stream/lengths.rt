@@ -1,15 +1,15 @@
 // The bytes of text that a value has (document 01, "Value stream"), from the LEN of each of its strings. It stops as
 // soon as the room is passed.
 ghost use Prim.Native.Nat.{ℕ, _+_, _*_, _<_, _≤_};
-ghost use Rattle.types.specs.Tables.{memberAt};
-ghost use Rattle.values.specs.Counting.{Texts};
-ghost use Rattle.values.specs.Walk.{elementsBy, memberBy, membersBy, structOut};
-ghost use Rattle.values.specs.Walkable.{ImageOf, ImagesOf, NestedRow, Walkable};
-use crate::rows::capacity_at;
-use crate::rows::is_nested;
-use crate::rows::is_string;
-use crate::rows::struct_size;
-use crate::texts::text_length;
+ghost use Rattle.types.specs.tables.Lent.{memberAt};
+ghost use Rattle.values.specs.inside.reading.Walk.{elementsBy, memberBy, membersBy, structOut};
+ghost use Rattle.values.specs.inside.reading.Walkable.{ImageOf, ImagesOf, NestedRow, Walkable};
+ghost use Rattle.values.specs.inside.stream.Counting.{Texts};
+use crate::reading::rows::capacity_at;
+use crate::reading::rows::is_nested;
+use crate::reading::rows::is_string;
+use crate::reading::rows::struct_size;
+use crate::reading::texts::text_length;
 use types::MemberTable;
 use types::Ty;
 use types::TypeTable;

@@ -4,8 +4,8 @@ ghost use mathlib.Core.Path.{_≡_};
 ghost use mathlib.Core.Bool.{true};
 ghost use Prim.Native.Nat.{_+_, _*_, _/_, _%_, _^_, _<_};
 ghost use Rattle.words.specs.Words.{wordAt};
-ghost use Rattle.values.specs.Form.{countIn, streamOk};
-ghost use Rattle.values.specs.Passes.{Told, firstKind, leftAt};
+ghost use Rattle.values.specs.inside.writing.Passes.{WellFormed, firstKind, leftAt};
+ghost use Rattle.values.specs.stream.Form.{countIn, streamOk};
 use words::load64;
 
 // The first number that is a refusal.
@@ -29,7 +29,7 @@ pub fn kind_of(s: &[u8], k: usize) -> u8
 
 // The same of n entries; 12 where there is none.
 pub fn kind_at(s: &[u8], n: usize, k: usize) -> u8
-    requires { ⌜ Told (now s) n ⌝ }
+    requires { ⌜ WellFormed (now s) n ⌝ }
     ensures { λ r. ⌜ r ≡ firstKind (leftAt (now (s .entry)) k) ⌝ }
 {
     if n <= k {

@@ -5,16 +5,16 @@ ghost use mathlib.Core.Bool.{true};
 ghost use Prim.Native.Nat.{ℕ, _+_, _*_, _<_, _≤_};
 ghost use lib.ListN.{length};
 ghost use Rattle.words.specs.Bits.{flat, stamp, val};
-ghost use Rattle.values.specs.Bools.{AtLeast, Bools, Run, truths};
-ghost use Rattle.values.specs.Passes.{Applied, accepted, leftAt};
-ghost use Rattle.values.specs.Writing.{boolsIn};
-use crate::tokens::kind_of;
+ghost use Rattle.values.specs.inside.writing.Bools.{AtLeast, Bools, BoolRun, truths};
+ghost use Rattle.values.specs.inside.writing.Passes.{Applied, accepted, leftAt};
+ghost use Rattle.values.specs.writing.Writing.{boolsIn};
+use crate::stream::tokens::kind_of;
 use words::set_bit;
 
 // The number of the close after a run of bools.
 fn close_of(s: &[u8], k: usize) -> usize
     requires { ⌜ AtLeast (now s) k 0 ⌝ }
-    ensures { λ r. ⌜ ((m : ℕ) → Run (now (s .entry)) k m → r ≡ k + m) ⌝ }
+    ensures { λ r. ⌜ ((m : ℕ) → BoolRun (now (s .entry)) k m → r ≡ k + m) ⌝ }
 {
     let mut p = k;
     loop {

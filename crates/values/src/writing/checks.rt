@@ -2,24 +2,24 @@
 // arrays structures; a structure holds only earlier ones, so the number falls, and each loop consumes entries.
 ghost use mathlib.Core.Path.{_≡_};
 ghost use Prim.Native.Nat.{ℕ, _+_, _*_, _<_, _≤_};
-ghost use Rattle.types.specs.Tables.{memberAt};
-ghost use Rattle.types.specs.Waste.{sizesIn};
-ghost use Rattle.values.specs.Passes.{Checked, Told, leftAt};
-ghost use Rattle.values.specs.Rows.{branchesIn, memberTree, treeIn, visibleRow};
-ghost use Rattle.values.specs.Tree.{array, struct};
-ghost use Rattle.values.specs.Walkable.{NestedRow, Walkable};
-ghost use Rattle.values.specs.Writing.{write};
-use crate::fits::check_leaf;
-use crate::fits::check_text;
-use crate::rows::capacity_at;
-use crate::rows::is_nested;
-use crate::rows::is_string;
-use crate::tokens::REFUSED;
-use crate::tokens::as_size;
-use crate::tokens::kind_at;
-use crate::tokens::kind_of;
-use crate::tokens::payload_of;
-use crate::tokens::refused;
+ghost use Rattle.types.specs.tables.Lent.{memberAt};
+ghost use Rattle.types.specs.tables.Sizes.{sizesIn};
+ghost use Rattle.values.specs.inside.reading.Walkable.{NestedRow, Walkable};
+ghost use Rattle.values.specs.inside.writing.Passes.{Checked, WellFormed, leftAt};
+ghost use Rattle.values.specs.inside.writing.Rows.{branchesIn, memberTree, treeIn, visibleRow};
+ghost use Rattle.values.specs.reading.Tree.{array, struct};
+ghost use Rattle.values.specs.writing.Writing.{write};
+use crate::reading::rows::capacity_at;
+use crate::reading::rows::is_nested;
+use crate::reading::rows::is_string;
+use crate::stream::tokens::REFUSED;
+use crate::stream::tokens::as_size;
+use crate::stream::tokens::kind_at;
+use crate::stream::tokens::kind_of;
+use crate::stream::tokens::payload_of;
+use crate::stream::tokens::refused;
+use crate::writing::fits::check_leaf;
+use crate::writing::fits::check_text;
 use types::MemberTable;
 use types::Ty;
 use types::TypeTable;
@@ -56,7 +56,7 @@ pub fn check_struct(
     k: usize,
 ) -> usize
     requires { ⌜ Walkable (now types) (now members) × (i < 200) ⌝ }
-    requires { ⌜ Told (now s) n × (k ≤ n) ⌝ }
+    requires { ⌜ WellFormed (now s) n × (k ≤ n) ⌝ }
     ensures { λ r. ⌜ ((p : ℕ) → Checked (now (s .entry)) k r
         (write (treeIn (now (types .entry)) (now (members .entry)) i) p (leftAt (now (s .entry)) k))) ⌝ }
 {
@@ -80,7 +80,7 @@ fn check_members(
     k: usize,
 ) -> usize
     requires { ⌜ Walkable (now types) (now members) × (i < 200) ⌝ }
-    requires { ⌜ Told (now s) n × (k ≤ n) ⌝ }
+    requires { ⌜ WellFormed (now s) n × (k ≤ n) ⌝ }
     ensures { λ r. ⌜ ((p : ℕ) → Checked (now (s .entry)) k r
         (write (struct (8 * sizesIn (now (types .entry)) i)
         (branchesIn (now (types .entry)) (now (members .entry)) i)) p (leftAt (now (s .entry)) k))) ⌝ }
@@ -137,7 +137,7 @@ fn check_nested(
     k: usize,
 ) -> usize
     requires { ⌜ Walkable (now types) (now members) × NestedRow (now types) (now members) i row ⌝ }
-    requires { ⌜ Told (now s) n × (k ≤ n) ⌝ }
+    requires { ⌜ WellFormed (now s) n × (k ≤ n) ⌝ }
     ensures { λ r. ⌜ ((p : ℕ) → Checked (now (s .entry)) k r
         (write (memberTree (treeIn (now (types .entry)) (now (members .entry))) (memberAt (now (members .entry)) row)) p
         (leftAt (now (s .entry)) k))) ⌝ }
@@ -169,7 +169,7 @@ pub fn check_elements(
     k: usize,
 ) -> usize
     requires { ⌜ Walkable (now types) (now members) × (i < 200) ⌝ }
-    requires { ⌜ Told (now s) n × (k ≤ n) ⌝ }
+    requires { ⌜ WellFormed (now s) n × (k ≤ n) ⌝ }
     ensures { λ r. ⌜ ((p : ℕ) → Checked (now (s .entry)) k r
         (write (array count (treeIn (now (types .entry)) (now (members .entry)) i)) p (leftAt (now (s .entry)) k))) ⌝ }
 {

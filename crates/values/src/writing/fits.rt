@@ -5,22 +5,23 @@ ghost use mathlib.Core.Bool.{true};
 ghost use mathlib.Core.List.{List};
 ghost use Prim.Native.Nat.{ℕ, _+_, _*_, _^_, _<_, _≤_, min};
 ghost use Rattle.words.specs.Bits.{Bits};
-ghost use Rattle.types.specs.Atomic.{bitString, sizeOf};
-ghost use Rattle.types.specs.Tables.{memberAt};
-ghost use Rattle.values.specs.Effects.{asText, atomicTakes, orNull};
-ghost use Rattle.values.specs.Passes.{Checked, Told, leftAt};
-ghost use Rattle.values.specs.Rows.{LeafRow, memberTree, runIn};
-ghost use Rattle.values.specs.Stream.{Token};
-ghost use Rattle.values.specs.Tree.{Tree};
-ghost use Rattle.values.specs.Trees.{atomicsTree};
-ghost use Rattle.values.specs.Writing.{Outcome, boolsIn, elements, write, writeOne};
-use crate::limits::limits_of;
-use crate::limits::misfit;
-use crate::tokens::high;
-use crate::tokens::kind_at;
-use crate::tokens::kind_of;
-use crate::tokens::payload_of;
-use crate::tokens::refused;
+ghost use Rattle.types.specs.atomics.Atomic.{bitString, sizeOf};
+ghost use Rattle.types.specs.tables.Lent.{memberAt};
+ghost use Rattle.values.specs.inside.writing.Effects.{atomicTakes};
+ghost use Rattle.values.specs.inside.writing.Passes.{Checked, WellFormed, leftAt};
+ghost use Rattle.values.specs.inside.writing.Rows.{LeafRow, memberTree, runIn};
+ghost use Rattle.values.specs.reading.Tree.{Tree};
+ghost use Rattle.values.specs.reading.Trees.{atomicsTree};
+ghost use Rattle.values.specs.stream.Stream.{Token};
+ghost use Rattle.values.specs.writing.Effects.{asText, orNull};
+ghost use Rattle.values.specs.writing.Writing.{Outcome, boolsIn, elements, write, writeOne};
+use crate::stream::tokens::high;
+use crate::stream::tokens::kind_at;
+use crate::stream::tokens::kind_of;
+use crate::stream::tokens::payload_of;
+use crate::stream::tokens::refused;
+use crate::writing::limits::limits_of;
+use crate::writing::limits::misfit;
 use types::Atomic;
 use types::Bit;
 use types::MemberTable;
@@ -32,7 +33,7 @@ use words::wide;
 
 // One atomic, or null.
 pub fn check_atomic(a: Atomic, s: &[u8], n: usize, k: usize) -> usize
-    requires { ⌜ Told (now s) n × (k ≤ n) ⌝ }
+    requires { ⌜ WellFormed (now s) n × (k ≤ n) ⌝ }
     ensures { λ r. ⌜ ((w p : ℕ) → Checked (now (s .entry)) k r
         (writeOne (orNull (atomicTakes a)) w p (leftAt (now (s .entry)) k))) ⌝ }
 {
@@ -48,7 +49,7 @@ pub fn check_atomic(a: Atomic, s: &[u8], n: usize, k: usize) -> usize
 
 // A text, or null.
 pub fn check_text(capacity: u32, s: &[u8], n: usize, k: usize) -> usize
-    requires { ⌜ Told (now s) n × (k ≤ n) ⌝ }
+    requires { ⌜ WellFormed (now s) n × (k ≤ n) ⌝ }
     ensures { λ r. ⌜ ((w p : ℕ) → Checked (now (s .entry)) k r
         (writeOne (orNull (asText capacity)) w p (leftAt (now (s .entry)) k))) ⌝ }
 {
@@ -68,7 +69,7 @@ pub fn check_text(capacity: u32, s: &[u8], n: usize, k: usize) -> usize
 
 // After the last place of an array only the close fits.
 fn close_at(s: &[u8], n: usize, k: usize) -> usize
-    requires { ⌜ Told (now s) n × (k ≤ n) ⌝ }
+    requires { ⌜ WellFormed (now s) n × (k ≤ n) ⌝ }
     ensures { λ r. ⌜ ((m : ℕ) (one : ℕ → List Token → Bits → Outcome) (w p : ℕ) → (k < n → m ≡ 0)
         → Checked (now (s .entry)) k r (elements m one w p (leftAt (now (s .entry)) k))) ⌝ }
 {
@@ -106,7 +107,7 @@ fn after_count(count: usize, n: usize, k: usize) -> usize
 
 // Bools for so many bytes, and the close.
 fn check_bools(bytes: usize, s: &[u8], n: usize, k: usize) -> usize
-    requires { ⌜ Told (now s) n × (k ≤ n) ⌝ }
+    requires { ⌜ WellFormed (now s) n × (k ≤ n) ⌝ }
     ensures { λ r. ⌜ ((p : ℕ) → Checked (now (s .entry)) k r
         (boolsIn (8 * bytes) p (leftAt (now (s .entry)) k))) ⌝ }
 {
@@ -127,7 +128,7 @@ fn check_bools(bytes: usize, s: &[u8], n: usize, k: usize) -> usize
 
 // Up to `count` atomics, nulls among them, and the close, which is no atomic.
 fn check_numbers(a: Atomic, count: usize, s: &[u8], n: usize, k: usize) -> usize
-    requires { ⌜ Told (now s) n × (k ≤ n) ⌝ }
+    requires { ⌜ WellFormed (now s) n × (k ≤ n) ⌝ }
     ensures { λ r. ⌜ ((w p : ℕ) → Checked (now (s .entry)) k r
         (elements count (writeOne (orNull (atomicTakes a)) w) w p (leftAt (now (s .entry)) k))) ⌝ }
 {
@@ -150,7 +151,7 @@ fn check_numbers(a: Atomic, count: usize, s: &[u8], n: usize, k: usize) -> usize
 
 // One bit string: a whole number, or an array of bools.
 fn check_bits(a: Atomic, s: &[u8], n: usize, k: usize) -> usize
-    requires { ⌜ Told (now s) n × (k ≤ n) ⌝ }
+    requires { ⌜ WellFormed (now s) n × (k ≤ n) ⌝ }
     requires { ⌜ bitString a ≡ true ⌝ }
     ensures { λ r. ⌜ ((p : ℕ) → Checked (now (s .entry)) k r
         (write (atomicsTree a 0) p (leftAt (now (s .entry)) k))) ⌝ }
@@ -164,7 +165,7 @@ fn check_bits(a: Atomic, s: &[u8], n: usize, k: usize) -> usize
 
 // What is inside an array of atomics. Bit strings take bools if the first entry is a bool.
 fn check_run(a: Atomic, count: usize, s: &[u8], n: usize, k: usize) -> usize
-    requires { ⌜ Told (now s) n × (k ≤ n) ⌝ }
+    requires { ⌜ WellFormed (now s) n × (k ≤ n) ⌝ }
     requires { ⌜ sizeOf a * count < 2 ^ 64 ⌝ }
     ensures { λ r. ⌜ ((p : ℕ) → Checked (now (s .entry)) k r
         (runIn a count p (leftAt (now (s .entry)) k))) ⌝ }
@@ -182,7 +183,7 @@ fn check_run(a: Atomic, count: usize, s: &[u8], n: usize, k: usize) -> usize
 
 // An array of atomics, or null.
 fn check_array(a: Atomic, count: usize, s: &[u8], n: usize, k: usize) -> usize
-    requires { ⌜ Told (now s) n × (k ≤ n) ⌝ }
+    requires { ⌜ WellFormed (now s) n × (k ≤ n) ⌝ }
     requires { ⌜ (sizeOf a * count < 2 ^ 64) × (0 < count) ⌝ }
     ensures { λ r. ⌜ ((p : ℕ) → Checked (now (s .entry)) k r
         (write (atomicsTree a count) p (leftAt (now (s .entry)) k))) ⌝ }
@@ -199,7 +200,7 @@ fn check_array(a: Atomic, count: usize, s: &[u8], n: usize, k: usize) -> usize
 
 // An atomic, or an array of them where `count` is not 0.
 pub fn check_atomics(a: Atomic, count: usize, s: &[u8], n: usize, k: usize) -> usize
-    requires { ⌜ Told (now s) n × (k ≤ n) ⌝ }
+    requires { ⌜ WellFormed (now s) n × (k ≤ n) ⌝ }
     requires { ⌜ sizeOf a * count < 2 ^ 64 ⌝ }
     ensures { λ r. ⌜ ((p : ℕ) → Checked (now (s .entry)) k r
         (write (atomicsTree a count) p (leftAt (now (s .entry)) k))) ⌝ }
@@ -216,7 +217,7 @@ pub fn check_atomics(a: Atomic, count: usize, s: &[u8], n: usize, k: usize) -> u
 
 // The member in a row, where it is no structure.
 pub fn check_leaf(members: &MemberTable, row: usize, s: &[u8], n: usize, k: usize) -> usize
-    requires { ⌜ Told (now s) n × (k ≤ n) ⌝ }
+    requires { ⌜ WellFormed (now s) n × (k ≤ n) ⌝ }
     requires { ⌜ LeafRow (now members) row ⌝ }
     ensures { λ r. ⌜ ((trees : ℕ → Tree) (p : ℕ) → Checked (now (s .entry)) k r
         (write (memberTree trees (memberAt (now (members .entry)) row)) p (leftAt (now (s .entry)) k))) ⌝ }

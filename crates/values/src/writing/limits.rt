@@ -1,7 +1,8 @@
 // Which entries an atomic takes (document 01, "Writing"): BOOL kind 1, REAL 4, LREAL 5; the others a whole number,
 // signed or unsigned, where its value is in range.
 ghost use mathlib.Core.Path.{_≡_};
-ghost use Rattle.values.specs.Limits.{aboveMisfit, limitsOf, misfit as misfitOf, signedMisfit, wholeMisfit};
+ghost use Rattle.values.specs.inside.writing.Limits.{aboveMisfit, limitsOf, misfit as misfitOf, signedMisfit};
+ghost use Rattle.values.specs.inside.writing.Limits.{wholeMisfit};
 use types::Atomic;
 
 // The one kind that is taken, or 2 for whole numbers: these have a greatest number, and a greatest that is too low, a

@@ -4,29 +4,30 @@ ghost use mathlib.Core.Path.{_≡_};
 ghost use mathlib.Core.Bool.{true};
 ghost use Prim.Native.Nat.{_*_, _%_, _^_, _<_, _≤_};
 ghost use Rattle.words.specs.Bits.{flat};
-ghost use Rattle.types.specs.Kept.{KeptRows};
-ghost use Rattle.types.specs.Layout.{times};
-ghost use Rattle.types.specs.Refusal.{numberOf, placeOf};
-ghost use Rattle.types.specs.Tables.{TyFits};
-ghost use Rattle.types.specs.Waste.{sizeIn, sizesIn};
-ghost use Rattle.values.specs.Form.{streamOk};
-ghost use Rattle.values.specs.Passes.{Applied, Checked, Told, accepted, leftAt};
-ghost use Rattle.values.specs.Trees.{knownIn, treeOfValue};
-ghost use Rattle.values.specs.Walkable.{ValueImage, Walkable};
-ghost use Rattle.values.specs.Writing.{write as writeIn};
-ghost use Rattle.values.specs.Written.{Done, Entered};
-use crate::apply::apply_elements;
-use crate::apply::apply_struct;
-use crate::checks::check_elements;
-use crate::checks::check_struct;
-use crate::fits::check_atomics;
-use crate::form::stream_ok;
-use crate::reading::is_product;
-use crate::reading::size_of_ty;
-use crate::rows::times_of;
-use crate::sets::set_atomics;
-use crate::tokens::REFUSED;
-use crate::tokens::as_size;
+ghost use Rattle.types.specs.inside.tables.Lent.{TyFits};
+ghost use Rattle.types.specs.layout.Placing.{times};
+ghost use Rattle.types.specs.refusals.Refusal.{numberOf, placeOf};
+ghost use Rattle.types.specs.tables.Kept.{KeptRows};
+ghost use Rattle.types.specs.tables.Sizes.{sizeIn, sizesIn};
+ghost use Rattle.values.specs.inside.reading.Walkable.{ValueImage, Walkable};
+ghost use Rattle.values.specs.inside.writing.Passes.{Applied, Checked, WellFormed, accepted, leftAt};
+ghost use Rattle.values.specs.inside.writing.Written.{Entered};
+ghost use Rattle.values.specs.reading.Trees.{knownIn, treeOfValue};
+ghost use Rattle.values.specs.stream.Form.{streamOk};
+ghost use Rattle.values.specs.writing.Writing.{write as writeIn};
+ghost use Rattle.values.specs.writing.Written.{Done};
+use crate::reading::read::is_product;
+use crate::reading::read::size_of_ty;
+use crate::reading::rows::times_of;
+use crate::stream::form::stream_ok;
+use crate::stream::tokens::REFUSED;
+use crate::stream::tokens::as_size;
+use crate::writing::apply::apply_elements;
+use crate::writing::apply::apply_struct;
+use crate::writing::checks::check_elements;
+use crate::writing::checks::check_struct;
+use crate::writing::fits::check_atomics;
+use crate::writing::sets::set_atomics;
 use types::MemberTable;
 use types::Refusal;
 use types::Ty;
@@ -52,7 +53,7 @@ fn check_value(
 ) -> usize
     requires { ⌜ Walkable (now types) (now members) × (TyFits ty
         × (sizeIn (sizesIn (now types)) ty * times n < 2 ^ 64)) ⌝ }
-    requires { ⌜ Told (now s) entries ⌝ }
+    requires { ⌜ WellFormed (now s) entries ⌝ }
     ensures { λ r. ⌜ Checked (now (s .entry)) 0 r
         (writeIn (treeOfValue (knownIn (now (types .entry)) (now (members .entry))) ty n) 0
         (leftAt (now (s .entry)) 0)) ⌝ }

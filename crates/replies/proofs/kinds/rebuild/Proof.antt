@@ -1,6 +1,6 @@
 -- `replies::rebuild` meets its contract: a book is a list of bytes.
 use borrow.Author.Needs.{needs}
-use Rattle.types.proofs.KeptLaws.{build-kept}
+use Rattle.types.proofs.Face.{build-kept}
 use Rattle.replies.proofs.kinds.rebuild.Statement.{statement}
 use Rattle.replies.proofs.kinds.rebuild.Tie as tie
 

@@ -2,7 +2,7 @@
 use Prim.Native.Nat.{_+_, _≤_}
 use native.Mathlib.Omega.{arith}
 use borrow.Author.Tests.{not-false}
-use Rattle.values.proofs.ReadingLaws.{read-short}
+use Rattle.values.proofs.Face.{read-short}
 use lib.ListN.{length}
 use borrow.Author.Needs.{needs}
 use Rattle.replies.proofs.streams.put_stream.Statement.{statement}

@@ -12,15 +12,16 @@ use borrow.Author.Tests.{eq-eqb, ne-eqb, eqb-true, eqb-false}
 use lib.Dec.{eqb}
 use lib.ListN.{length, getD, set, drop, length-set, drop-of-length-le}
 use lib.Seq.{drop-cons, getD-set-same, getD-set-other}
-use Rattle.types.specs.declared.book.MemberEntry.{MemberEntry}
-use Rattle.types.specs.declared.checks.Checked.{Checked}
-use Rattle.types.specs.declared.checks.Checked.the-variants.{Good, NameWrong, Twice, LocalOutside}
-use Rattle.types.specs.Checks.{entryOf, memberName, entriesFrom, among, checked, EntriesInside, namesBefore}
-use Rattle.types.specs.Checks.{markFrom, markOf, Marked, Marks, Looked, CheckedOne}
-use Rattle.types.specs.Defs.{nameIn}
-use Rattle.types.specs.Names.{lowerOf, sameName, goodName}
-use Rattle.types.proofs.BookLaws.{from-cons, from-none}
-use Rattle.types.proofs.NameLaws.{same-lower}
+use Rattle.types.specs.adding.Checks.{entryOf, entriesFrom, among, checked}
+use Rattle.types.specs.book.Names.{lowerOf, sameName, goodName}
+use Rattle.types.specs.inside.adding.Checks.{memberName, EntriesInside, namesBefore}
+use Rattle.types.specs.inside.adding.Checks.{markFrom, markOf, Marked, Marks, Looked, CheckedOne}
+use Rattle.types.specs.tables.Defs.{nameIn}
+use Rattle.types.specs.declared.adding.checks.Checked.{Checked}
+use Rattle.types.specs.declared.adding.checks.Checked.the-variants.{Good, NameWrong, Twice, LocalOutside}
+use Rattle.types.specs.declared.book.contents.MemberEntry.{MemberEntry}
+use Rattle.types.proofs.book.BookLaws.{from-cons, from-none}
+use Rattle.types.proofs.book.NameLaws.{same-lower}
 
 -- ---- marks
 

@@ -4,18 +4,18 @@ use native.Mathlib.Omega.{arith}
 use mathlib.Core.Path.{_≡_, refl, sym, ap₂, _∙_}
 use mathlib.Core.Bool.{Bool, true, false, cond}
 use mathlib.Core.List.{List, [], _∷_}
-use Rattle.types.specs.declared.atomic.FoundAtomic.{FoundAtomic}
-use Rattle.types.specs.declared.atomic.FoundAtomic.the-variants.{Is as found, Nothing as none}
-use Rattle.types.specs.declared.lookups.FoundTy.{FoundTy}
-use Rattle.types.specs.declared.lookups.FoundTy.the-variants.{Is, Nothing}
-use Rattle.types.specs.declared.member.Ty.the-variants.{Struct}
-use Rattle.types.specs.Book.{listFrom}
-use Rattle.types.specs.Atomic.{atomicNamed}
-use Rattle.types.specs.Atomic.{saidBy as atomicSays}
-use Rattle.types.specs.Lookup.{atomicOr, namedAmong, numberAmong, orElse, saidBy, typeAmong, wordAmong}
-use Rattle.types.specs.Names.{sameName}
-use Rattle.types.specs.Said.{done}
-use Rattle.types.proofs.AtomicLaws.{named-said}
+use Rattle.types.specs.atomics.Atomic.{atomicNamed}
+use Rattle.types.specs.atomics.Atomic.{saidBy as atomicSays}
+use Rattle.types.specs.atomics.Lookup.{atomicOr, namedAmong, numberAmong, orElse, saidBy, typeAmong, wordAmong}
+use Rattle.types.specs.book.Contents.{listFrom}
+use Rattle.types.specs.book.Names.{sameName}
+use Rattle.types.specs.refusals.Said.{done}
+use Rattle.types.specs.declared.atomics.atomic.FoundAtomic.{FoundAtomic}
+use Rattle.types.specs.declared.atomics.atomic.FoundAtomic.the-variants.{Is as found, Nothing as none}
+use Rattle.types.specs.declared.atomics.lookup.FoundTy.{FoundTy}
+use Rattle.types.specs.declared.atomics.lookup.FoundTy.the-variants.{Is, Nothing}
+use Rattle.types.specs.declared.tables.member.Ty.the-variants.{Struct}
+use Rattle.types.proofs.atomics.AtomicLaws.{named-said}
 
 module _ (name : ℕ → List ℕ) (s : List ℕ) (n i : ℕ) where
   module _ (l : i < n) (b : Bool) (e : b ≡ sameName (name i) s) where

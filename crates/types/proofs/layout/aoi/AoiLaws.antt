@@ -7,15 +7,15 @@ use mathlib.Core.Bool.{Bool, cond}
 use mathlib.Core.List.{List, [], _∷_}
 use lib.ListN.{length, length-append}
 use lib.Seq.{sets}
-use Rattle.types.specs.declared.layout.Decl.{Decl}
-use Rattle.types.specs.Entries.{declAt, declsFrom, Found}
-use Rattle.types.specs.Layout.{isBool}
-use Rattle.types.specs.Defs.{Part}
-use Rattle.types.specs.Digits.{bitHostName}
-use Rattle.types.specs.Structs.{named, namesOf, rowsOf, bools, bitHostAt, hostParts}
-use Rattle.types.specs.Passes.{BoolsCounted, OneIf, HostPut, Put, BitHostLong, HostsLong}
-use Rattle.types.proofs.EntryLaws.{decls-cons, decls-none}
-use Rattle.types.proofs.StoreLaws.{one-name, names-append, rows-then, names-then}
+use Rattle.types.specs.inside.book.Decls.{declAt, declsFrom, Found}
+use Rattle.types.specs.inside.layout.Passes.{BoolsCounted, OneIf, HostPut, Put, BitHostLong, HostsLong}
+use Rattle.types.specs.layout.HostNames.{bitHostName}
+use Rattle.types.specs.layout.Placing.{isBool}
+use Rattle.types.specs.layout.Structs.{named, namesOf, rowsOf, bools, bitHostAt, hostParts}
+use Rattle.types.specs.tables.Defs.{Part}
+use Rattle.types.specs.declared.layout.placing.Decl.{Decl}
+use Rattle.types.proofs.book.DeclLaws.{decls-cons, decls-none}
+use Rattle.types.proofs.layout.StoreLaws.{one-name, names-append, rows-then, names-then}
 
 -- what counting keeps
 pub record Counting (types book tys : List ℕ) (at n count j : ℕ) : Type 0 where

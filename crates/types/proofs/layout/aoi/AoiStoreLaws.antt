@@ -6,15 +6,15 @@ use mathlib.Core.Path.{_≡_, sym, _∙_}
 use mathlib.Core.List.{List, _++_}
 use lib.ListN.{length, length-append}
 use lib.Seq.{sets}
-use Rattle.types.specs.Defs.{Part}
-use Rattle.types.specs.Digits.{hostName}
-use Rattle.types.specs.Entries.{declsFrom}
-use Rattle.types.specs.Passes.{partsFrom}
-use Rattle.types.specs.Structs.{namesOf, rowsOf, namedIn, hostParts, enableParts, aoiStart}
-use Rattle.types.specs.Passes.{aoiParts}
-use Rattle.types.specs.Passes.{Put, Storable, StorableAoi}
-use Rattle.types.proofs.StoreLaws.{names-append, rows-then, names-then}
-use Rattle.types.proofs.BoundLaws.{hosts-count}
+use Rattle.types.specs.inside.book.Decls.{declsFrom}
+use Rattle.types.specs.inside.layout.Passes.{partsFrom}
+use Rattle.types.specs.inside.layout.Passes.{aoiParts}
+use Rattle.types.specs.inside.layout.Passes.{Put, Storable, StorableAoi}
+use Rattle.types.specs.layout.HostNames.{hostName}
+use Rattle.types.specs.layout.Structs.{namesOf, rowsOf, namedIn, hostParts, enableParts, aoiStart}
+use Rattle.types.specs.tables.Defs.{Part}
+use Rattle.types.proofs.layout.BoundLaws.{hosts-count}
+use Rattle.types.proofs.layout.StoreLaws.{names-append, rows-then, names-then}
 
 module _ {types book tys type : List ℕ} {at n h row place : ℕ} (s : StorableAoi types book tys type at n h row place)
   where

@@ -9,11 +9,12 @@ use lib.ListN.{length, take, drop, length-take, length-drop}
 use lib.Seq.{sets}
 use Rattle.words.specs.Words.{part}
 use Rattle.words.proofs.Lists.{length-part}
-use Rattle.types.specs.declared.member.Member.{Member}
-use Rattle.types.specs.Defs.{Part}
-use Rattle.types.specs.Structs.{named, namesOf, rowsOf, dintAt, dataOf, stringParts}
-use Rattle.types.specs.Structs.{ctlAt, statusAt, statusParts, controlParts, pairs}
-use Rattle.types.proofs.StoreLaws.{one-name, rows-then, names-then}
+use Rattle.types.specs.inside.layout.Structs.{pairs}
+use Rattle.types.specs.layout.Structs.{named, namesOf, rowsOf, dintAt, dataOf, stringParts}
+use Rattle.types.specs.layout.Structs.{ctlAt, statusAt, statusParts, controlParts}
+use Rattle.types.specs.tables.Defs.{Part}
+use Rattle.types.specs.declared.tables.member.Member.{Member}
+use Rattle.types.proofs.layout.StoreLaws.{one-name, rows-then, names-then}
 
 -- one part whose name has k bytes, and then others
 pub rows-on : (t : List ℕ) (row at : ℕ) (n : List ℕ) (m : Member) (k : ℕ) (ps : List Part) → length n ≡ k

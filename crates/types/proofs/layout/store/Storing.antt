@@ -10,24 +10,24 @@ use lib.ListN.{length, length-append}
 use lib.Seq.{sets}
 use Rattle.words.specs.Words.{Bytes}
 use Rattle.words.proofs.Lists.{length-part}
-use Rattle.types.specs.declared.layout.Cursor.{Cursor}
-use Rattle.types.specs.declared.layout.Decl.{Decl}
-use Rattle.types.specs.declared.layout.Placed.{Placed}
-use Rattle.types.specs.declared.layout.Placed.the-variants.{Hosted, One, AccessWrong, TooFar}
-use Rattle.types.specs.declared.measure.Measured.the-variants.{Laid}
-use Rattle.types.specs.declared.store.Stored.{Stored}
-use Rattle.types.specs.declared.store.Stored.the-variants.{Next, Stop}
-use Rattle.types.specs.Defs.{Part}
-use Rattle.types.specs.Digits.{hostName}
-use Rattle.types.specs.Entries.{declAt, declsFrom, Found}
-use Rattle.types.specs.Layout.{placed}
-use Rattle.types.specs.Passes.{thenParts, thenMeasure, thenNext, partsFrom, measureOne}
-use Rattle.types.specs.Structs.{namesOf, rowsOf, namedIn}
-use Rattle.types.specs.Passes.{oneParts, storedOne, Far, Fits, Storable}
-use Rattle.types.proofs.DigitLaws.{host-most}
-use Rattle.types.proofs.EntryLaws.{decls-cons, decls-none, found-first, decl-fair, decl-ty}
-use Rattle.types.proofs.MeasureLaws.{far-on, near}
-use Rattle.types.proofs.StoreLaws.{names-append, rows-then, names-then}
+use Rattle.types.specs.inside.book.Decls.{declAt, declsFrom, Found}
+use Rattle.types.specs.inside.layout.Passes.{thenParts, thenMeasure, thenNext, partsFrom, measureOne}
+use Rattle.types.specs.inside.layout.Passes.{oneParts, storedOne, Far, StepFits, Storable}
+use Rattle.types.specs.layout.HostNames.{hostName}
+use Rattle.types.specs.layout.Placing.{placed}
+use Rattle.types.specs.layout.Structs.{namesOf, rowsOf, namedIn}
+use Rattle.types.specs.tables.Defs.{Part}
+use Rattle.types.specs.declared.layout.measure.Measured.the-variants.{Laid}
+use Rattle.types.specs.declared.layout.placing.Cursor.{Cursor}
+use Rattle.types.specs.declared.layout.placing.Decl.{Decl}
+use Rattle.types.specs.declared.layout.placing.Placed.{Placed}
+use Rattle.types.specs.declared.layout.placing.Placed.the-variants.{Hosted, One, AccessWrong, TooFar}
+use Rattle.types.specs.declared.layout.store.Stored.{Stored}
+use Rattle.types.specs.declared.layout.store.Stored.the-variants.{Next, Stop}
+use Rattle.types.proofs.book.DeclLaws.{decls-cons, decls-none, found-first, decl-fair, decl-ty}
+use Rattle.types.proofs.layout.DigitLaws.{host-most}
+use Rattle.types.proofs.layout.MeasureLaws.{far-on, near}
+use Rattle.types.proofs.layout.StoreLaws.{names-append, rows-then, names-then}
 
 -- ---- one step, by the ways that placing can go
 
@@ -163,7 +163,7 @@ module _ {types book tys type m₀ t₀ m t : List ℕ} {at n row₀ place₀ ro
     least-names AccessWrong host name next = omega arith
     least-names TooFar host name next = omega arith
 
-    pub one-fits : Fits book type c d row place
+    pub one-fits : StepFits book type c d row place
     unfolding oneParts
     one-fits =
         record {

@@ -9,27 +9,29 @@ use mathlib.Core.List.{List, [], _∷_, _++_, append-assoc, append-nil}
 use lib.ListN.{length, set, take, drop, replicate, length-append, length-drop, length-set}
 use lib.Seq.{set-split, drop-at, length-take-le, length-sets, take-all}
 use Rattle.words.proofs.Lists.{sets-append}
-use Rattle.types.specs.declared.atomic.Atomic.{Atomic as AtomicType}
-use Rattle.types.specs.declared.atomic.Atomic.the-variants.{Bool as BOOL, SInt, Int, DInt, LInt, USInt, UInt}
-use Rattle.types.specs.declared.atomic.Atomic.the-variants.{UDInt}
-use Rattle.types.specs.declared.atomic.Atomic.the-variants.{ULInt, Real, LReal, Byte, Word, DWord, LWord}
-use Rattle.types.specs.declared.listing.Decimal.{Decimal}
-use Rattle.types.specs.declared.member.Bit.{Bit}
-use Rattle.types.specs.declared.member.Bit.the-variants.{None, At}
-use Rattle.types.specs.declared.member.Member.{Member}
-use Rattle.types.specs.declared.member.Span.{Span}
-use Rattle.types.specs.declared.member.StructDef.{StructDef}
-use Rattle.types.specs.declared.member.Ty.{Ty}
-use Rattle.types.specs.declared.member.Ty.the-variants.{Atomic, Struct}
-use Rattle.types.specs.Atomic.{nameOf}
-use Rattle.types.specs.Defs.{nameIn}
-use Rattle.types.specs.Digits.{digitsIn, digits}
-use Rattle.types.specs.Listing.{ended, line, typeWord, typeNumbers, typeLine, seen, bitText, memberPlace}
-use Rattle.types.specs.Listing.{memberLine, refusedWord, refusedLine, typeName, structNames, Short, StructNamed}
-use Rattle.types.specs.Listing.{TypeNamed, Listable, Fits, Added, Lined, Spelt}
-use Rattle.types.specs.Tables.{memberAt, nameAt}
-use Rattle.types.proofs.DigitLaws.{digitOf, more, one, digits-most}
-use Rattle.types.proofs.TemplateLaws.{name-long}
+use Rattle.types.specs.atomics.Atomic.{nameOf}
+use Rattle.types.specs.inside.listing.Lines.{Short, StructNamed}
+use Rattle.types.specs.inside.listing.Lines.{TypeNamed, Listable, FieldFits, FieldPut, Lined, Spelt}
+use Rattle.types.specs.layout.HostNames.{digitsIn, digits}
+use Rattle.types.specs.listing.Lines.{ended, line, typeWord, typeNumbers, typeLine, seen, bitText, memberPlace}
+use Rattle.types.specs.listing.Lines.{memberLine, refusedWord, refusedLine, printedType, structNames}
+use Rattle.types.specs.tables.Defs.{nameIn}
+use Rattle.types.specs.tables.Lent.{memberAt, nameAt}
+use Rattle.types.specs.declared.atomics.atomic.Atomic.{Atomic as AtomicType}
+use Rattle.types.specs.declared.atomics.atomic.Atomic.the-variants.{Bool as BOOL, SInt, Int, DInt, LInt, USInt}
+use Rattle.types.specs.declared.atomics.atomic.Atomic.the-variants.{UInt}
+use Rattle.types.specs.declared.atomics.atomic.Atomic.the-variants.{UDInt}
+use Rattle.types.specs.declared.atomics.atomic.Atomic.the-variants.{ULInt, Real, LReal, Byte, Word, DWord, LWord}
+use Rattle.types.specs.declared.listing.lines.Decimal.{Decimal}
+use Rattle.types.specs.declared.tables.member.Bit.{Bit}
+use Rattle.types.specs.declared.tables.member.Bit.the-variants.{None, At}
+use Rattle.types.specs.declared.tables.member.Member.{Member}
+use Rattle.types.specs.declared.tables.member.Span.{Span}
+use Rattle.types.specs.declared.tables.member.StructDef.{StructDef}
+use Rattle.types.specs.declared.tables.member.Ty.{Ty}
+use Rattle.types.specs.declared.tables.member.Ty.the-variants.{Atomic, Struct}
+use Rattle.types.proofs.layout.DigitLaws.{digitOf, more, one, digits-most}
+use Rattle.types.proofs.templates.TemplateLaws.{name-long}
 
 -- ---- a number's digits, stored from the last one on
 
@@ -90,8 +92,8 @@ spelt-part {x} {d} s =
 
 -- ---- bytes put one after the other
 
-pub added-both : {s t : List ℕ} {at m r : ℕ} {out mid left : List ℕ} → Added s at out m mid → Added t m mid r left
-    → Added (s ++ t) at out r left
+pub added-both : {s t : List ℕ} {at m r : ℕ} {out mid left : List ℕ} → FieldPut s at out m mid → FieldPut t m mid r left
+    → FieldPut (s ++ t) at out r left
 added-both {s} {t} {at} {m} {r} {out} {mid} {left} a b =
     record {
       next = omega (arith, a .next, b .next, length-append s t);
@@ -99,16 +101,16 @@ added-both {s} {t} {at} {m} {r} {out} {mid} {left} a b =
     }
 
 -- some bytes fit where more do, and so do the others after them
-pub fits-first : {at : ℕ} {out : List ℕ} (s t : List ℕ) → Fits (s ++ t) at out → Fits s at out
+pub fits-first : {at : ℕ} {out : List ℕ} (s t : List ℕ) → FieldFits (s ++ t) at out → FieldFits s at out
 fits-first s t h = record { room = omega (arith, h .room, length-append s t) }
 
-pub fits-then : {s t : List ℕ} {at m : ℕ} {out mid : List ℕ} → Fits (s ++ t) at out → Added s at out m mid
-    → Fits t m mid
+pub fits-then : {s t : List ℕ} {at m : ℕ} {out mid : List ℕ} → FieldFits (s ++ t) at out → FieldPut s at out m mid
+    → FieldFits t m mid
 fits-then {s} {t} {at} {m} {out} {mid} h a =
     let n : length mid ≡ length out = ap length (a .bytes) ∙ length-sets out at s in
     record { room = omega (arith, h .room, length-append s t, a .next, n) }
 
-pub lined : {s : List ℕ} {r : ℕ} {out left : List ℕ} → Fits s 0 out → Added s 0 out r left → Lined s out r left
+pub lined : {s : List ℕ} {r : ℕ} {out left : List ℕ} → FieldFits s 0 out → FieldPut s 0 out r left → Lined s out r left
 lined h a = record { long = omega (arith, a .next); room = omega (arith, h .room); bytes = a .bytes }
 
 -- any number's digits fit into twenty places
@@ -121,46 +123,46 @@ digits-20 x = digits-most 20 x
 -- of a whole that is put at a place of the buffer first, a line of the fields fs is left for a place of the buffer now
 pub record Left (whole : List ℕ) (start : ℕ) (first : List ℕ) (fs : List (List ℕ)) (at : ℕ) (now : List ℕ)
     : Type 0 where
-  pub fits : Fits (line fs) at now
-  pub then : (r : ℕ) (last : List ℕ) → Added (line fs) at now r last → Added whole start first r last
+  pub fits : FieldFits (line fs) at now
+  pub then : (r : ℕ) (last : List ℕ) → FieldPut (line fs) at now r last → FieldPut whole start first r last
 
-pub left-all : {at : ℕ} {out : List ℕ} (fs : List (List ℕ)) → Fits (line fs) at out → Left (line fs) at out fs at out
+pub left-all : {at : ℕ} {out : List ℕ} (fs : List (List ℕ)) → FieldFits (line fs) at out → Left (line fs) at out fs at out
 left-all fs h = record { fits = h; then = λ r last a. a }
 
 module _ {whole : List ℕ} {start : ℕ} {first f : List ℕ} {at : ℕ} {now : List ℕ} where
   module _ {g : List ℕ} {fs : List (List ℕ)} (l : Left whole start first (f ∷ g ∷ fs) at now) where
     -- the next field fits
-    pub left-room : Fits (ended f 32) at now
+    pub left-room : FieldFits (ended f 32) at now
     unfolding line
     left-room = fits-first (ended f 32) (line (g ∷ fs)) (l .fits)
 
     -- the next field was put
-    pub left-on : {r : ℕ} {next : List ℕ} → Added (ended f 32) at now r next → Left whole start first (g ∷ fs) r next
+    pub left-on : {r : ℕ} {next : List ℕ} → FieldPut (ended f 32) at now r next → Left whole start first (g ∷ fs) r next
     unfolding line
     left-on a = record { fits = fits-then (l .fits) a; then = λ r last b. l .then r last (added-both a b) }
 
   module _ (l : Left whole start first (f ∷ []) at now) where
     -- the last field fits
-    pub last-room : Fits (ended f 10) at now
+    pub last-room : FieldFits (ended f 10) at now
     unfolding line
     last-room = l .fits
 
     -- the last field was put
-    pub left-done : {r : ℕ} {last : List ℕ} → Added (ended f 10) at now r last → Added whole start first r last
+    pub left-done : {r : ℕ} {last : List ℕ} → FieldPut (ended f 10) at now r last → FieldPut whole start first r last
     unfolding line
     left-done {r} {last} a = l .then r last a
 
 -- all of a line's end is left, as the code has its fields
 pub numbers-left : (d : StructDef) (bits : ℕ) {id size count long bytes at : ℕ} {out : List ℕ} → id ≡ d .id
     → size ≡ d .size → count ≡ d .count → long ≡ bytes
-    → Fits (line (typeNumbers (d .id) (d .size) (d .count) bytes bits)) at out
+    → FieldFits (line (typeNumbers (d .id) (d .size) (d .count) bytes bits)) at out
     → Left (line (typeNumbers (d .id) (d .size) (d .count) bytes bits)) at out (typeNumbers id size count long bits)
     at out
 numbers-left d bits {bytes = bytes} p q r s h =
     rw (p, q, r, s) (left-all (typeNumbers (d .id) (d .size) (d .count) bytes bits) h)
 
 pub place-left : (m : Member) (name : List ℕ) {count offset at : ℕ} {out : List ℕ} → count ≡ m .count
-    → offset ≡ m .offset → Fits (line (memberPlace m name)) at out
+    → offset ≡ m .offset → FieldFits (line (memberPlace m name)) at out
     → Left (line (memberPlace m name)) at out (digits count ∷ digits offset ∷ bitText (m .bit) ∷ name ∷ []) at out
 place-left m name p q h = rw (p, q) (left-all (memberPlace m name) h)
 
@@ -195,7 +197,7 @@ atomic-5 LWord = omega arith
 short-long : (names : List ℕ) {s : Span} → Short s → length (nameIn names s) ≤ 200
 short-long names {s} h = omega (arith, name-long names (s .at) (s .long), h .most)
 
-type-long : (types names : List ℕ) (t : Ty) → TypeNamed types t → length (typeName (structNames types names) t) ≤ 200
+type-long : (types names : List ℕ) (t : Ty) → TypeNamed types t → length (printedType (structNames types names) t) ≤ 200
 type-long types names (Atomic a) h = omega (arith, atomic-5 a)
 type-long types names (Struct n) h = short-long names (h .name)
 
@@ -221,7 +223,7 @@ module _ (names : List ℕ) (d : StructDef) (bytes bits : ℕ) where
       }
 
   pub type-lined : {r : ℕ} {out left : List ℕ} → Left (line typeFields) 0 out typeFields 0 out
-      → Added (line typeFields) 0 out r left
+      → FieldPut (line typeFields) 0 out r left
       → Lined (typeLine (nameIn names (d .name)) (d .id) (d .size) (d .count) bytes bits) out r left
   unfolding typeLine
   type-lined l a = lined (l .fits) a
@@ -230,7 +232,7 @@ module _ (names : List ℕ) (d : StructDef) (bytes bits : ℕ) where
 module _ (types names : List ℕ) (number : ℕ) (m : Member) (name : Span) where
   abbrev pub memberFields : List (List ℕ)
   memberFields =
-      digits number ∷ seen (m .hidden) ∷ typeName (structNames types names) (m .ty) ∷ memberPlace m (nameIn names name)
+      digits number ∷ seen (m .hidden) ∷ printedType (structNames types names) (m .ty) ∷ memberPlace m (nameIn names name)
 
   pub member-left : {out : List ℕ} → TypeNamed types (m .ty) → Short name → 512 ≤ length out
       → Left (line memberFields) 0 out memberFields 0 out
@@ -251,8 +253,8 @@ module _ (types names : List ℕ) (number : ℕ) (m : Member) (name : Span) wher
       }
 
   pub member-lined : {r : ℕ} {out left : List ℕ} → Left (line memberFields) 0 out memberFields 0 out
-      → Added (line memberFields) 0 out r left
-      → Lined (memberLine number (typeName (structNames types names) (m .ty)) m (nameIn names name)) out r left
+      → FieldPut (line memberFields) 0 out r left
+      → Lined (memberLine number (printedType (structNames types names) (m .ty)) m (nameIn names name)) out r left
   unfolding memberLine
   member-lined l a = lined (l .fits) a
 
@@ -269,7 +271,7 @@ module _ (number place : ℕ) where
       }
 
   pub refused-lined : {r : ℕ} {out left : List ℕ} → Left (line refusedFields) 0 out refusedFields 0 out
-      → Added (line refusedFields) 0 out r left
+      → FieldPut (line refusedFields) 0 out r left
       → Lined (refusedLine number place) out r left
   unfolding refusedLine
   refused-lined l a = lined (l .fits) a

@@ -6,31 +6,33 @@ use mathlib.Core.Path.{_≡_, refl, sym, _∙_}
 use mathlib.Core.Bool.{true, false}
 use mathlib.Core.List.{List}
 use lib.ListN.{length}
-use Rattle.types.specs.Said.{Why, whyOf}
-use Rattle.types.specs.Turns.{stuckAt}
 use Rattle.words.specs.Words.{Bytes}
-use Rattle.types.specs.declared.building.Built.{Built}
-use Rattle.types.specs.declared.building.Built.the-variants.{Types, Refused}
-use Rattle.types.specs.declared.predefined.PredefinedIds.{PredefinedIds}
-use Rattle.types.specs.declared.refusal.Refusal.{Refusal}
-use Rattle.types.specs.declared.refusal.Refusal.the-variants.{TypesUnknown, BookMalformed}
-use Rattle.types.specs.declared.refusal.Refusal.the-variants.{PredefinedIds as idsWrong}
-use Rattle.types.specs.declared.round.Round.{Round}
-use Rattle.types.specs.declared.round.Round.the-variants.{Refused as Stopped, Went}
-use Rattle.types.specs.declared.used.Used.{Used}
-use Rattle.types.specs.Book.{bookOk}
-use Rattle.types.specs.Build.{buildOf, Ended, FirstWaits, Cleared, RunIn, waits}
-use Rattle.types.specs.Defs.{Def}
-use Rattle.types.specs.Lookup.{rowNames}
-use Rattle.types.specs.OneRound.{roundIn, Reached, RoundIn, RoundMade, Goes}
-use Rattle.types.specs.Predefined.{predefinedIds, predefined}
-use Rattle.types.specs.Registry.{Stands}
-use Rattle.types.specs.Rounds.{Answer, refused}
-use Rattle.types.specs.Turns.{readyIn, addIn, roundsFrom, Tries}
-use Rattle.types.proofs.OneRoundLaws.{Const, const-kept, reached-shown, reached-round}
-use Rattle.types.proofs.RoundLaws.{round-fewer}
-use Rattle.types.proofs.RunLaws.{Outer, outer-start, outer-end, outer-stop, outer-stuck, outer-next}
-use Rattle.types.proofs.SearchLaws.{tries-start}
+use Rattle.types.specs.atomics.Lookup.{rowNames}
+use Rattle.types.specs.book.Contents.{bookOk}
+use Rattle.types.specs.inside.rounds.Build.{FirstWaits, Cleared, RunIn, waits}
+use Rattle.types.specs.inside.rounds.OneRound.{roundIn, Reached, RoundIn, RoundMade, Goes}
+use Rattle.types.specs.inside.rounds.Turns.{Tries}
+use Rattle.types.specs.inside.tables.Registry.{Stands}
+use Rattle.types.specs.layout.Predefined.{predefinedIds, predefined}
+use Rattle.types.specs.refusals.Said.{Why, whyOf}
+use Rattle.types.specs.rounds.Build.{buildOf, Ended}
+use Rattle.types.specs.rounds.Rounds.{Answer, refused}
+use Rattle.types.specs.rounds.Turns.{stuckAt}
+use Rattle.types.specs.rounds.Turns.{readyIn, addIn, roundsFrom}
+use Rattle.types.specs.tables.Defs.{Def}
+use Rattle.types.specs.declared.adding.used.Used.{Used}
+use Rattle.types.specs.declared.layout.predefined.PredefinedIds.{PredefinedIds}
+use Rattle.types.specs.declared.refusals.refusal.Refusal.{Refusal}
+use Rattle.types.specs.declared.refusals.refusal.Refusal.the-variants.{TypesUnknown, BookMalformed}
+use Rattle.types.specs.declared.refusals.refusal.Refusal.the-variants.{PredefinedIds as idsWrong}
+use Rattle.types.specs.declared.rounds.build.Built.{Built}
+use Rattle.types.specs.declared.rounds.build.Built.the-variants.{Types, Refused}
+use Rattle.types.specs.declared.rounds.round.Round.{Round}
+use Rattle.types.specs.declared.rounds.round.Round.the-variants.{Refused as Stopped, Went}
+use Rattle.types.proofs.rounds.OneRoundLaws.{Const, const-kept, reached-shown, reached-round}
+use Rattle.types.proofs.rounds.RoundLaws.{round-fewer}
+use Rattle.types.proofs.rounds.RunLaws.{Outer, outer-start, outer-end, outer-stop, outer-stuck, outer-next}
+use Rattle.types.proofs.rounds.SearchLaws.{tries-start}
 
 -- ---- what the loop keeps
 

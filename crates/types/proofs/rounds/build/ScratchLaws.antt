@@ -10,9 +10,9 @@ use lib.Dec.{leb}
 use lib.ListN.{length, getD, replicate, length-replicate}
 use Rattle.words.specs.Words.{Bytes}
 use Rattle.words.proofs.WordLaws.{word-below}
-use Rattle.types.specs.Book.{typesIn, membersIn, bookOk}
-use Rattle.types.specs.Build.{AtMost, Scratch}
-use Rattle.types.proofs.BookLaws.{book-short}
+use Rattle.types.specs.book.Contents.{typesIn, membersIn, bookOk}
+use Rattle.types.specs.inside.rounds.Build.{AtMost, Scratch}
+use Rattle.types.proofs.book.BookLaws.{book-short}
 
 -- ---- how many types and members
 

@@ -9,32 +9,38 @@ use mathlib.Core.List.{List, [], _∷_}
 use lib.ListN.{length, getD, set}
 use lib.Seq.{sets, length-sets}
 use Rattle.words.proofs.Lists.{getD-sets}
-use Rattle.types.specs.declared.layout.Decl.{Decl}
-use Rattle.types.specs.declared.lookups.FoundTy.{FoundTy}
-use Rattle.types.specs.declared.lookups.FoundTy.the-variants.{Is, Nothing}
-use Rattle.types.specs.declared.member.Ty.{Ty}
-use Rattle.types.specs.declared.used.Turn.{Turn}
-use Rattle.types.specs.declared.used.Turn.the-variants.{Waits}
-use Rattle.types.specs.declared.used.Used.{Used}
-use Rattle.types.specs.Add.{Verdict, addEntry, addTo, Took, Declared}
-use Rattle.types.specs.Book.{every, listFrom, typeEntry}
-use Rattle.types.specs.Checks.{entryOf, entriesFrom, EntriesInside}
-use Rattle.types.specs.Defs.{nameIn}
-use Rattle.types.specs.Entries.{declared, declAt, declsFrom}
-use Rattle.types.specs.Laid.{Earlier}
-use Rattle.types.specs.Lookup.{rowName, rowNames, typeAmong}
-use Rattle.types.specs.Registry.{View, sizeAt, viewIn}
-use Rattle.types.specs.Order.{allKnown}
-use Rattle.types.specs.Resolve.{typeName, typeNames, isFound, hasName, thenWord, foundWords, Resolves}
-use Rattle.types.specs.Resolve.{StillIn, Still}
-use Rattle.types.specs.Tables.{tyWord, tyOf}
-use Rattle.types.specs.Turns.{countOf, thenDecl, declsOf, TurnIn, Turned, Missed, Tries}
-use Rattle.types.specs.Waste.{sizesIn}
-use Rattle.types.proofs.AddStoreLaws.{took-so}
-use Rattle.types.proofs.AgreeLaws.{declared-same, length-list, getD-list}
-use Rattle.types.proofs.ResolveLaws.{found-earlier}
-use Rattle.types.proofs.SearchLaws.{one-unknown, first-unknown, tries-again, tries-new}
-use Rattle.types.proofs.TableLaws.{ty-back}
+use Rattle.types.specs.adding.Add.{Verdict, addEntry, addTo}
+use Rattle.types.specs.adding.Checks.{entryOf, entriesFrom}
+use Rattle.types.specs.atomics.Lookup.{rowName, rowNames, typeAmong}
+use Rattle.types.specs.book.Contents.{every, listFrom, typeEntry}
+use Rattle.types.specs.book.Decls.{declared}
+use Rattle.types.specs.inside.adding.Add.{Took, Declared}
+use Rattle.types.specs.inside.adding.Checks.{EntriesInside}
+use Rattle.types.specs.inside.book.Decls.{declAt, declsFrom}
+use Rattle.types.specs.inside.rounds.Resolve.{thenWord, foundWords, Resolves}
+use Rattle.types.specs.inside.rounds.Resolve.{StillIn, Still}
+use Rattle.types.specs.inside.rounds.Turns.{TurnIn, Turned, Missed, Tries}
+use Rattle.types.specs.inside.tables.Registry.{viewIn}
+use Rattle.types.specs.layout.Laid.{Earlier}
+use Rattle.types.specs.rounds.Order.{allKnown}
+use Rattle.types.specs.rounds.Resolve.{typeName, typeNames, isFound, hasName}
+use Rattle.types.specs.rounds.Turns.{countOf, thenDecl, declsOf}
+use Rattle.types.specs.tables.Defs.{nameIn}
+use Rattle.types.specs.tables.Lent.{tyWord, tyOf}
+use Rattle.types.specs.tables.Registry.{View, sizeAt}
+use Rattle.types.specs.tables.Sizes.{sizesIn}
+use Rattle.types.specs.declared.adding.progress.Progress.{Progress}
+use Rattle.types.specs.declared.adding.progress.Progress.the-variants.{Waits}
+use Rattle.types.specs.declared.adding.used.Used.{Used}
+use Rattle.types.specs.declared.atomics.lookup.FoundTy.{FoundTy}
+use Rattle.types.specs.declared.atomics.lookup.FoundTy.the-variants.{Is, Nothing}
+use Rattle.types.specs.declared.layout.placing.Decl.{Decl}
+use Rattle.types.specs.declared.tables.member.Ty.{Ty}
+use Rattle.types.proofs.adding.AddStoreLaws.{took-so}
+use Rattle.types.proofs.rounds.ResolveLaws.{found-earlier}
+use Rattle.types.proofs.rounds.SearchLaws.{one-unknown, first-unknown, tries-again, tries-new}
+use Rattle.types.proofs.tables.AgreeLaws.{declared-same, length-list, getD-list}
+use Rattle.types.proofs.tables.TableLaws.{ty-back}
 
 -- ---- how many were found
 
@@ -247,7 +253,7 @@ module _ (types members names book : List ℕ) (u : Used) (i at n : ℕ) (e : n 
       unfolding viewIn
       turn-ready k h f = rw (w .words) (turn-declared types names book tys u at n found-all k h f)
 
-      pub turn-takes : n ≤ length tys → {t′ m′ n′ : List ℕ} {x : Turn}
+      pub turn-takes : n ≤ length tys → {t′ m′ n′ : List ℕ} {x : Progress}
           → Took (addEntry (viewIn types names u) book i at (typeEntry book i) (nameIn book (typeEntry book i .name))
           (declsFrom types book tys′ at 0 n)) u types members names t′ m′ n′ x
           → Turned known verdict u types members names t′ m′ n′ x

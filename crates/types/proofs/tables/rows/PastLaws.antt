@@ -4,8 +4,9 @@ use native.Mathlib.Omega.{arith}
 use mathlib.Core.Path.{_≡_}
 use mathlib.Core.List.{List}
 use lib.ListN.{length, getD, List·getD-eq-default}
-use Rattle.types.specs.Atomic.{atomicAt}
-use Rattle.types.specs.Tables.{bitOf, kindOf, memberAt, nameAt, noMember, noName, noType, tyOf, typeAt}
+use Rattle.types.specs.atomics.Atomic.{atomicAt}
+use Rattle.types.specs.inside.tables.Lent.{noMember, noName, noType}
+use Rattle.types.specs.tables.Lent.{bitOf, kindOf, memberAt, nameAt, tyOf, typeAt}
 
 module _ (t : List ℕ) (i : ℕ) (past : length t ≤ 8 * i) where
   word : (k : ℕ) → getD t (8 * i + k) 0 ≡ 0

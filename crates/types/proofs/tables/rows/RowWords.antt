@@ -10,20 +10,21 @@ use mathlib.Core.List.{List}
 use borrow.Author.Tests.{eq-eqb, ne-eqb, lt-ltb, le-ltb}
 use lib.Dec.{eqb, ltb}
 use lib.ListN.{getD, List·getD-map}
-use Rattle.types.specs.declared.atomic.Atomic.the-variants.{Bool as BOOL}
-use Rattle.types.specs.declared.member.Bit.{Bit}
-use Rattle.types.specs.declared.member.Bit.the-variants.{None, At}
-use Rattle.types.specs.declared.member.Member.{Member}
-use Rattle.types.specs.declared.member.StructDef.{StructDef}
-use Rattle.types.specs.declared.member.StructKind.{StructKind}
-use Rattle.types.specs.declared.member.Ty.{Ty}
-use Rattle.types.specs.declared.member.Ty.the-variants.{Atomic, Struct}
-use Rattle.types.specs.Atomic.{atomics, atomicAt, numOf}
-use Rattle.types.specs.Tables.{bitOf, bitRead, bitWord, flagsOf, kindOf, kindRead, kindWord, memberAt, memberSaid}
-use Rattle.types.specs.Tables.{memberSays, tyOf, tyRead, tyWord, typeAt, typeRow, typeSaid}
-use Rattle.types.specs.Turns.{upFrom}
-use Rattle.types.proofs.AtomicLaws.{past-last}
-use Rattle.types.proofs.TableLaws.{hidden-back, kind-back, local-back, ty-back}
+use Rattle.types.specs.atomics.Atomic.{atomics, atomicAt, numOf}
+use Rattle.types.specs.rounds.Turns.{upFrom}
+use Rattle.types.specs.tables.Lent.{bitOf, bitRead, bitWord, flagsOf, kindOf, kindRead, kindWord, memberAt}
+use Rattle.types.specs.tables.Lent.{memberSaid}
+use Rattle.types.specs.tables.Lent.{memberSays, tyOf, tyRead, tyWord, typeAt, typeRow, typeSaid}
+use Rattle.types.specs.declared.atomics.atomic.Atomic.the-variants.{Bool as BOOL}
+use Rattle.types.specs.declared.tables.member.Bit.{Bit}
+use Rattle.types.specs.declared.tables.member.Bit.the-variants.{None, At}
+use Rattle.types.specs.declared.tables.member.Member.{Member}
+use Rattle.types.specs.declared.tables.member.StructDef.{StructDef}
+use Rattle.types.specs.declared.tables.member.StructKind.{StructKind}
+use Rattle.types.specs.declared.tables.member.Ty.{Ty}
+use Rattle.types.specs.declared.tables.member.Ty.the-variants.{Atomic, Struct}
+use Rattle.types.proofs.atomics.AtomicLaws.{past-last}
+use Rattle.types.proofs.tables.TableLaws.{hidden-back, kind-back, local-back, ty-back}
 
 -- ---- a word that was read is said again
 

@@ -6,15 +6,18 @@ use mathlib.Core.Path.{_≡_, refl, ap, _∙_}
 use mathlib.Core.Bool.{Bool, true, false, cond}
 use mathlib.Core.List.{List, [], _∷_, _++_, append-nil}
 use lib.ListN.{length, length-append}
-use Rattle.types.specs.declared.member.StructDef.{StructDef}
-use Rattle.types.specs.declared.sink.Sink.{Sink}
-use Rattle.types.specs.Defs.{Readable, nameIn, partsAt, defOf}
-use Rattle.types.specs.Pieces.{infosIn, shownIn, namesIn, frontIn}
-use Rattle.types.specs.Sink.{Room, Emitted}
-use Rattle.types.specs.Template.{idsIn, userId, padding, memberIds, frontOf, templateOf, templateIn}
-use Rattle.types.proofs.SinkLaws.{Left, left-all, left-room, left-on}
-use Rattle.types.proofs.TemplateLaws.{infos-any, parts-long, infos-long, names-long, name-long, shown-long}
-use Rattle.types.proofs.TemplateLaws.{padding-long, ids-long}
+use Rattle.types.specs.inside.tables.Defs.{Readable}
+use Rattle.types.specs.inside.templates.Pieces.{infosIn, shownIn, namesIn, frontIn}
+use Rattle.types.specs.inside.templates.Sink.{Room, Emitted}
+use Rattle.types.specs.tables.Defs.{nameIn, partsAt, defOf}
+use Rattle.types.specs.tables.TypeWord.{idsIn}
+use Rattle.types.specs.templates.Template.{userId, padding, memberIds, frontOf, templateOf, templateIn}
+use Rattle.types.specs.declared.tables.member.StructDef.{StructDef}
+use Rattle.types.specs.declared.templates.sink.Sink.{Sink}
+use Rattle.types.proofs.templates.SinkLaws.{Left, left-all, left-room, left-on}
+use Rattle.types.proofs.templates.TemplateLaws.{infos-any, parts-long, infos-long, names-long, name-long}
+use Rattle.types.proofs.templates.TemplateLaws.{shown-long}
+use Rattle.types.proofs.templates.TemplateLaws.{padding-long, ids-long}
 
 module _ (types members names : List ℕ) (d : StructDef) where
   -- ---- the pieces of a template

@@ -6,14 +6,16 @@ use native.Mathlib.Omega.{arith}
 use mathlib.Core.Path.{_≡_, _∙_}
 use mathlib.Core.Bool.{false}
 use mathlib.Core.List.{List}
-use Rattle.types.specs.declared.member.Bit.the-variants.{None}
-use Rattle.types.specs.declared.member.Member.{Member}
-use Rattle.types.specs.declared.member.StructDef.{StructDef}
-use Rattle.types.specs.Defs.{partAt, partsAt, defOf}
-use Rattle.types.specs.Layout.{times}
-use Rattle.types.specs.Tables.{memberAt}
-use Rattle.types.specs.Waste.{sizeIn, sizesIn, visibleBits, wasteOf, wasteIn, Fitting, SeenBits, Countable}
-use Rattle.types.proofs.TemplateLaws.{row-type, parts-on, parts-off}
+use Rattle.types.specs.inside.templates.Waste.{Fitting, SeenBits, Countable}
+use Rattle.types.specs.layout.Placing.{times}
+use Rattle.types.specs.tables.Defs.{partAt, partsAt, defOf}
+use Rattle.types.specs.tables.Lent.{memberAt}
+use Rattle.types.specs.tables.Sizes.{sizeIn, sizesIn}
+use Rattle.types.specs.templates.Waste.{visibleBits, wasteOf, wasteIn}
+use Rattle.types.specs.declared.tables.member.Bit.the-variants.{None}
+use Rattle.types.specs.declared.tables.member.Member.{Member}
+use Rattle.types.specs.declared.tables.member.StructDef.{StructDef}
+use Rattle.types.proofs.templates.TemplateLaws.{row-type, parts-on, parts-off}
 
 -- ---- one member
 

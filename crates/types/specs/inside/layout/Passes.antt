@@ -1,27 +1,29 @@
 -- The code's two passes over a layout (document 01, "Layout"): what is measured, then what is stored; together they are
 -- what is laid out. And what each step asks of the book and the tables.
 use Prim.Native.Nat.{ℕ, _+_, _*_, _^_, _<_, _≤_}
-use mathlib.Core.Path.{_≡_}
 use mathlib.Core.Bool.{Bool, true, false, cond}
 use mathlib.Core.List.{List, [], _∷_, _++_}
+use mathlib.Core.Path.{_≡_}
 use lib.ListN.{length}
 use lib.Seq.{sets}
-use Rattle.types.specs.declared.layout.Cursor.{Cursor}
-use Rattle.types.specs.declared.layout.Decl.{Decl}
-use Rattle.types.specs.declared.layout.Placed.{Placed}
-use Rattle.types.specs.declared.layout.Placed.the-variants.{Hosted, One, AccessWrong, TooFar}
-use Rattle.types.specs.declared.measure.Measured.{Measured}
-use Rattle.types.specs.declared.measure.Measured.the-variants.{Laid, AccessWrong as accessWrong, TooFar as tooFar}
-use Rattle.types.specs.declared.new_types.NewType.{NewType}
-use Rattle.types.specs.declared.store.Stored.{Stored}
-use Rattle.types.specs.declared.store.Stored.the-variants.{Next, Stop}
-use Rattle.types.specs.Defs.{Part, nameIn}
-use Rattle.types.specs.Digits.{hostName, bitHostName}
-use Rattle.types.specs.Entries.{declAt, declsFrom, Found}
-use Rattle.types.specs.Tables.{TyFits}
-use Rattle.types.specs.Layout.{placed, sharedBits, Able}
-use Rattle.types.specs.Structs.{namesOf, rowsOf, named, namedIn, udtStart, aoiHosts, hostParts, enableParts}
-use Rattle.types.specs.Structs.{aoiStart, bitHostAt, bools}
+use Rattle.types.specs.inside.book.Decls.{declAt, declsFrom, Found}
+use Rattle.types.specs.inside.layout.Placing.{sharedBits, Able}
+use Rattle.types.specs.inside.tables.Lent.{TyFits}
+use Rattle.types.specs.layout.HostNames.{hostName, bitHostName}
+use Rattle.types.specs.layout.Placing.{placed}
+use Rattle.types.specs.layout.Structs.{namesOf, rowsOf, named, namedIn, udtStart, aoiHosts, hostParts}
+use Rattle.types.specs.layout.Structs.{enableParts, aoiStart, bitHostAt, bools}
+use Rattle.types.specs.tables.Defs.{Part, nameIn}
+use Rattle.types.specs.declared.adding.new_types.NewType.{NewType}
+use Rattle.types.specs.declared.layout.measure.Measured.{Measured}
+use Rattle.types.specs.declared.layout.measure.Measured.the-variants.{Laid, AccessWrong as accessWrong}
+use Rattle.types.specs.declared.layout.measure.Measured.the-variants.{TooFar as tooFar}
+use Rattle.types.specs.declared.layout.placing.Cursor.{Cursor}
+use Rattle.types.specs.declared.layout.placing.Decl.{Decl}
+use Rattle.types.specs.declared.layout.placing.Placed.{Placed}
+use Rattle.types.specs.declared.layout.placing.Placed.the-variants.{Hosted, One, AccessWrong, TooFar}
+use Rattle.types.specs.declared.layout.store.Stored.{Stored}
+use Rattle.types.specs.declared.layout.store.Stored.the-variants.{Next, Stop}
 
 -- ---- the parts, and how far they come
 
@@ -118,7 +120,7 @@ unfoldable pub storedOne : List ℕ → Cursor → Decl → ℕ → ℕ → Stor
 storedOne type c d row at = thenNext (placed c d) (length (hostName type (c .members))) (d .name .long) row at
 
 -- what one declared member's parts ask of the book and the tables
-pub record Fits (book type : List ℕ) (c : Cursor) (d : Decl) (row at : ℕ) : Type 0 where
+pub record StepFits (book type : List ℕ) (c : Cursor) (d : Decl) (row at : ℕ) : Type 0 where
   pub near : Near c 0 d
   pub name : d .name .at + d .name .long ≤ length book
   pub ty : TyFits (d .ty)

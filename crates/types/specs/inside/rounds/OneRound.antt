@@ -1,23 +1,24 @@
 -- One round in code (document 01, "Order of building"): what it asks of the tables and of the scratch, and what it
 -- leaves in them.
 use Prim.Native.Nat.{ℕ, _≤_}
-use mathlib.Core.Path.{_≡_}
 use mathlib.Core.Bool.{true}
 use mathlib.Core.List.{List}
+use mathlib.Core.Path.{_≡_}
 use lib.ListN.{length}
-use Rattle.types.specs.declared.predefined.PredefinedIds.{PredefinedIds}
-use Rattle.types.specs.declared.round.Round.{Round}
-use Rattle.types.specs.declared.round.Round.the-variants.{Refused, Went}
-use Rattle.types.specs.declared.used.Used.{Used}
-use Rattle.types.specs.Book.{typesIn, membersIn, bookOk}
-use Rattle.types.specs.Build.{waits}
-use Rattle.types.specs.Defs.{Def}
-use Rattle.types.specs.Lookup.{rowNames}
-use Rattle.types.specs.Predefined.{predefinedIds, predefined}
-use Rattle.types.specs.Registry.{Stands}
-use Rattle.types.specs.Said.{Why, whyOf}
-use Rattle.types.specs.Rounds.{ok, Out, stop, went, round}
-use Rattle.types.specs.Turns.{readyIn, addIn, stuckAt, Tries}
+use Rattle.types.specs.atomics.Lookup.{rowNames}
+use Rattle.types.specs.book.Contents.{typesIn, membersIn, bookOk}
+use Rattle.types.specs.inside.rounds.Build.{waits}
+use Rattle.types.specs.inside.rounds.Turns.{Tries}
+use Rattle.types.specs.inside.tables.Registry.{Stands}
+use Rattle.types.specs.layout.Predefined.{predefinedIds, predefined}
+use Rattle.types.specs.refusals.Said.{Why, whyOf}
+use Rattle.types.specs.rounds.Rounds.{ok, Out, stop, went, round}
+use Rattle.types.specs.rounds.Turns.{readyIn, addIn, stuckAt}
+use Rattle.types.specs.tables.Defs.{Def}
+use Rattle.types.specs.declared.adding.used.Used.{Used}
+use Rattle.types.specs.declared.layout.predefined.PredefinedIds.{PredefinedIds}
+use Rattle.types.specs.declared.rounds.round.Round.{Round}
+use Rattle.types.specs.declared.rounds.round.Round.the-variants.{Refused, Went}
 
 -- one round over the types of a book that wait
 abbrev pub roundIn : List ℕ → List Def → List ℕ → Out (List Def) Why

@@ -1,15 +1,17 @@
 -- The pieces of a template (document 01, "Template and handle") as the rows of the tables give them, and what a
 -- function that sends some of them to a sink asks.
-use mathlib.Core.Path.{_≡_}
-use mathlib.Core.List.{List, []}
 use Prim.Native.Nat.{ℕ, _^_, _≤_}
+use mathlib.Core.List.{List, []}
+use mathlib.Core.Path.{_≡_}
 use lib.ListN.{length}
-use Rattle.types.specs.declared.member.StructDef.{StructDef}
-use Rattle.types.specs.declared.sink.Sink.{Sink}
-use Rattle.types.specs.Defs.{Readable, nameIn, partsAt, defOf}
-use Rattle.types.specs.Handle.{foldFrom}
-use Rattle.types.specs.Sink.{Room}
-use Rattle.types.specs.Template.{idsIn, infos, shownName, memberNames, frontOf}
+use Rattle.types.specs.inside.tables.Defs.{Readable}
+use Rattle.types.specs.inside.templates.Sink.{Room}
+use Rattle.types.specs.tables.Defs.{nameIn, partsAt, defOf}
+use Rattle.types.specs.tables.TypeWord.{idsIn}
+use Rattle.types.specs.templates.Handle.{foldFrom}
+use Rattle.types.specs.templates.Template.{infos, shownName, memberNames, frontOf}
+use Rattle.types.specs.declared.tables.member.StructDef.{StructDef}
+use Rattle.types.specs.declared.templates.sink.Sink.{Sink}
 
 -- the infos of n rows from a row on: no name matters to them
 abbrev pub infosFrom : List ℕ → List ℕ → ℕ → ℕ → List ℕ
@@ -33,13 +35,13 @@ abbrev pub frontIn : List ℕ → List ℕ → List ℕ → StructDef → List �
 frontIn types members names d = frontOf (idsIn types) (defOf members names d)
 
 -- the rows can be read, the table of names is whole, and the sink can take the bytes s
-pub record Walkable (members names : List ℕ) (d : StructDef) (s : List ℕ) (k : Sink) (out : List ℕ) : Type 0 where
+pub record Emittable (members names : List ℕ) (d : StructDef) (s : List ℕ) (k : Sink) (out : List ℕ) : Type 0 where
   pub rows : Readable members d
   pub table : length names ≡ 32768
   pub room : Room s k out
 
 -- a sink that took the bytes s from the start on
-pub record Walked (s : List ℕ) (r : Sink) : Type 0 where
+pub record EmittedAll (s : List ℕ) (r : Sink) : Type 0 where
   pub at : r .at ≡ length s
   pub small : length s ≤ 2 ^ 31
   pub fold : r .fold ≡ foldFrom 0x1D0F s

@@ -1,13 +1,13 @@
 -- What a sink does with bytes that come (document 01, "Template and handle"): it counts them, folds them for the handle
 -- and, if it writes, stores them from its place on.
 use Prim.Native.Nat.{ℕ, _+_, _^_, _≤_}
-use mathlib.Core.Path.{_≡_}
 use mathlib.Core.Bool.{true, cond}
 use mathlib.Core.List.{List}
+use mathlib.Core.Path.{_≡_}
 use lib.ListN.{length}
 use lib.Seq.{sets}
-use Rattle.types.specs.declared.sink.Sink.{Sink}
-use Rattle.types.specs.Handle.{foldFrom}
+use Rattle.types.specs.templates.Handle.{foldFrom}
+use Rattle.types.specs.declared.templates.sink.Sink.{Sink}
 
 -- a sink at a buffer can take these bytes
 pub record Room (s : List ℕ) (k : Sink) (out : List ℕ) : Type 0 where

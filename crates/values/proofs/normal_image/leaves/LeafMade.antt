@@ -14,21 +14,21 @@ use borrow.Author.Tests.{lt-ltb, le-ltb}
 use Rattle.words.specs.Bits.{Bits, bitOf, digit, flat, from, inside, stamp, val}
 use Rattle.words.specs.Words.{Bytes, bytesOf, wordAt}
 use Rattle.words.proofs.BitLaws.{Lies, among, beside, byte-val, flat-set, lies, word-val}
-use Rattle.types.specs.Atomic.{bitString, sizeOf}
-use Rattle.types.specs.Layout.{times}
-use Rattle.types.specs.declared.atomic.Atomic.{Atomic}
-use Rattle.types.specs.declared.atomic.Atomic.the-variants as atomic
-use Rattle.values.specs.InPlace.{cleared, eachMade, made}
-use Rattle.values.specs.Leaf.{Leaf, flag, byte, str, width, isTrue, clipped, leafOf}
-use Rattle.values.specs.Normal.{norm, normal}
-use Rattle.values.specs.Numbers.{formOf}
-use Rattle.values.specs.Placed.{Placed}
-use Rattle.values.specs.Tree.{Tree, leaf, bits, array, at, allBits, each, items, oneFlag, room, span}
-use Rattle.values.specs.Trees.{atomicsTree}
-use Rattle.values.proofs.ArrayMade.{array-made}
-use Rattle.values.proofs.MadeLaws.{normal-around}
-use Rattle.values.proofs.SpanLaws.{Many, one, some, many}
-use Rattle.values.proofs.StampLaws.{flat-word, zeros-cleared}
+use Rattle.types.specs.atomics.Atomic.{bitString, sizeOf}
+use Rattle.types.specs.layout.Placing.{times}
+use Rattle.types.specs.declared.atomics.atomic.Atomic.{Atomic}
+use Rattle.types.specs.declared.atomics.atomic.Atomic.the-variants as atomic
+use Rattle.values.specs.inside.normal_image.InPlace.{cleared, eachMade, made}
+use Rattle.values.specs.inside.normal_image.Placed.{Placed}
+use Rattle.values.specs.inside.reading.Numbers.{formOf}
+use Rattle.values.specs.normal_image.Normal.{norm, normal}
+use Rattle.values.specs.reading.Leaf.{Leaf, flag, byte, str, width, isTrue, clipped, leafOf}
+use Rattle.values.specs.reading.Tree.{Tree, leaf, bits, array, at, allBits, each, items, oneFlag, room, span}
+use Rattle.values.specs.reading.Trees.{atomicsTree}
+use Rattle.values.proofs.normal_image.ArrayMade.{array-made}
+use Rattle.values.proofs.normal_image.MadeLaws.{normal-around}
+use Rattle.values.proofs.reading.SpanLaws.{Many, one, some, many}
+use Rattle.values.proofs.writing.StampLaws.{flat-word, zeros-cleared}
 
 -- ---- a bit beside some others is after them, or before them
 

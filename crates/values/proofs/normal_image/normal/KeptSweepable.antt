@@ -5,22 +5,22 @@ use native.Mathlib.Omega.{arith}
 use mathlib.Core.Path.{_≡_, refl, sym, ap, subst}
 use mathlib.Core.Bool.{Bool, true, false}
 use mathlib.Core.List.{List, [], _∷_}
-use Rattle.types.specs.Defs.{Part, partAt, partsAt}
-use Rattle.types.specs.Kept.{KeptRows}
-use Rattle.types.specs.Laid.{Earlier, Laid, Plain, Rising, firstBit, pastBit}
-use Rattle.types.specs.Tables.{memberAt, typeAt}
-use Rattle.types.specs.Waste.{sizesIn}
-use Rattle.types.specs.declared.member.Member.{Member}
-use Rattle.types.specs.declared.member.Ty.{Ty}
-use Rattle.types.specs.declared.member.Ty.the-variants as ty
-use Rattle.values.specs.InPlace.{isPlain, pastTree}
-use Rattle.values.specs.Placed.{Disjoint, If, Placed, Stairs, Sweepable}
-use Rattle.values.specs.Rows.{memberTree, treeIn}
-use Rattle.values.specs.Trees.{membersAt}
-use Rattle.values.proofs.DisjointLaws.{member-placed}
-use Rattle.values.proofs.KeptPlaced.{kept-disjoint, laid-all}
-use Rattle.values.proofs.SpanLaws.{bit-span, sound-all, sound-below}
-use Rattle.values.proofs.SweepableLaws.{plain-is}
+use Rattle.types.specs.layout.Laid.{Earlier, Laid, Plain, Rising, firstBit, pastBit}
+use Rattle.types.specs.tables.Defs.{Part, partAt, partsAt}
+use Rattle.types.specs.tables.Kept.{KeptRows}
+use Rattle.types.specs.tables.Lent.{memberAt, typeAt}
+use Rattle.types.specs.tables.Sizes.{sizesIn}
+use Rattle.types.specs.declared.tables.member.Member.{Member}
+use Rattle.types.specs.declared.tables.member.Ty.{Ty}
+use Rattle.types.specs.declared.tables.member.Ty.the-variants as ty
+use Rattle.values.specs.inside.normal_image.InPlace.{isPlain, pastTree}
+use Rattle.values.specs.inside.normal_image.Placed.{Disjoint, If, Placed, Stairs, Sweepable}
+use Rattle.values.specs.inside.writing.Rows.{memberTree, treeIn}
+use Rattle.values.specs.reading.Trees.{membersAt}
+use Rattle.values.proofs.normal_image.DisjointLaws.{member-placed}
+use Rattle.values.proofs.normal_image.KeptPlaced.{kept-disjoint, laid-all}
+use Rattle.values.proofs.normal_image.SweepableLaws.{plain-is}
+use Rattle.values.proofs.reading.SpanLaws.{bit-span, sound-all, sound-below}
 
 -- ---- rows that rise
 

@@ -9,28 +9,28 @@ use mathlib.Core.List.{List}
 use lib.ListN.{length}
 use Rattle.words.specs.Bits.{Bits, flat, inside}
 use Rattle.words.specs.Words.{Bytes}
-use Rattle.types.specs.Shape.{isThere}
-use Rattle.types.specs.declared.atomic.Atomic.{Atomic}
-use Rattle.types.specs.declared.member.Ty.{Ty}
-use Rattle.types.specs.declared.member.Ty.the-variants as ty
-use Rattle.types.specs.declared.refusal.Refusal.the-variants.{ImageLength, NoSuchType}
-use Rattle.values.specs.InPlace.{made}
-use Rattle.values.specs.Leaf.{chars}
-use Rattle.values.specs.Normal.{normal, normalImage}
-use Rattle.values.specs.Normalised.{MadeNormal, normalResult, valueNormal}
-use Rattle.values.specs.Placed.{Sweepable}
-use Rattle.values.specs.Reading.{imageFits}
-use Rattle.values.specs.Rows.{treeIn}
-use Rattle.values.specs.Tree.{Tree, array, items, span}
-use Rattle.values.specs.Trees.{atomicsTree, knownIn, structsTree, treeOfValue}
-use Rattle.values.specs.Walkable.{ValueImage}
-use Rattle.values.specs.declared.writing.Taken.the-variants.{Refused, Whole}
-use Rattle.values.proofs.CharLaws.{chars-ext}
-use Rattle.values.proofs.MadeLaws.{made-inside}
-use Rattle.values.proofs.PlacedLaws.{yes-inside}
-use Rattle.values.proofs.SpanLaws.{tree-value-span}
-use Rattle.values.proofs.SweepableLaws.{sweepable-walkable}
-use Rattle.values.proofs.WrittenLaws.{bytes-bits}
+use Rattle.types.specs.tables.There.{isThere}
+use Rattle.types.specs.declared.atomics.atomic.Atomic.{Atomic}
+use Rattle.types.specs.declared.refusals.refusal.Refusal.the-variants.{ImageLength, NoSuchType}
+use Rattle.types.specs.declared.tables.member.Ty.{Ty}
+use Rattle.types.specs.declared.tables.member.Ty.the-variants as ty
+use Rattle.values.specs.inside.normal_image.InPlace.{made}
+use Rattle.values.specs.inside.normal_image.Placed.{Sweepable}
+use Rattle.values.specs.inside.reading.Walkable.{ValueImage}
+use Rattle.values.specs.inside.writing.Rows.{treeIn}
+use Rattle.values.specs.normal_image.Normal.{normal, normalImage}
+use Rattle.values.specs.normal_image.Normalised.{MadeNormal, normalResult, valueNormal}
+use Rattle.values.specs.reading.Leaf.{chars}
+use Rattle.values.specs.reading.Read.{imageFits}
+use Rattle.values.specs.reading.Tree.{Tree, array, items, span}
+use Rattle.values.specs.reading.Trees.{atomicsTree, knownIn, structsTree, treeOfValue}
+use Rattle.values.specs.declared.writing.write.Taken.the-variants.{Refused, Whole}
+use Rattle.values.proofs.normal_image.CharLaws.{chars-ext}
+use Rattle.values.proofs.normal_image.MadeLaws.{made-inside}
+use Rattle.values.proofs.normal_image.PlacedLaws.{yes-inside}
+use Rattle.values.proofs.normal_image.SweepableLaws.{sweepable-walkable}
+use Rattle.values.proofs.reading.SpanLaws.{tree-value-span}
+use Rattle.values.proofs.writing.WrittenLaws.{bytes-bits}
 
 -- ---- a value's image
 

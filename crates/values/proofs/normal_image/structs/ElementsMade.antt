@@ -7,16 +7,16 @@ use mathlib.Core.Path.{_≡_, refl, sym, ap, _∙_, fun-ext, subst}
 use mathlib.Core.List.{List}
 use lib.ListN.{length}
 use Rattle.words.specs.Bits.{Bits, flat}
-use Rattle.types.specs.Waste.{sizesIn}
-use Rattle.values.specs.InPlace.{eachMade, made}
-use Rattle.values.specs.Placed.{Sweepable}
-use Rattle.values.specs.Rows.{AllHere, Here, treeIn}
-use Rattle.values.specs.Tree.{Tree, array, span}
-use Rattle.values.proofs.ArrayMade.{array-made}
-use Rattle.values.proofs.MadeLaws.{made-beside}
-use Rattle.values.proofs.OnlyHeld.{not-inside}
-use Rattle.values.proofs.SpanLaws.{tree-span}
-use Rattle.values.proofs.SweepableLaws.{sweepable-walkable}
+use Rattle.types.specs.tables.Sizes.{sizesIn}
+use Rattle.values.specs.inside.normal_image.InPlace.{eachMade, made}
+use Rattle.values.specs.inside.normal_image.Placed.{Sweepable}
+use Rattle.values.specs.inside.writing.Rows.{AllHere, Here, treeIn}
+use Rattle.values.specs.reading.Tree.{Tree, array, span}
+use Rattle.values.proofs.normal_image.ArrayMade.{array-made}
+use Rattle.values.proofs.normal_image.MadeLaws.{made-beside}
+use Rattle.values.proofs.normal_image.SweepableLaws.{sweepable-walkable}
+use Rattle.values.proofs.reading.SpanLaws.{tree-span}
+use Rattle.values.proofs.writing.OnlyHeld.{not-inside}
 
 -- n elements of a tree from a bit on
 abbrev elementsMade : ℕ → Tree → ℕ → Bits → Bits

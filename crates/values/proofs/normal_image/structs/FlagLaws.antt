@@ -8,14 +8,14 @@ use mathlib.Core.Bool.{Bool, true, false, cond, _||_}
 use mathlib.Core.List.{List, [], _∷_}
 use Rattle.words.specs.Bits.{Bits, from, inside, stamp}
 use Rattle.words.proofs.BitLaws.{Lies, among, beside, lies}
-use Rattle.types.specs.Laid.{firstBit}
-use Rattle.types.specs.Tables.{memberAt}
-use Rattle.types.specs.declared.member.Member.{Member}
-use Rattle.values.specs.InPlace.{flagged, isFlag}
-use Rattle.values.specs.Leaf.{flag}
-use Rattle.values.specs.Normal.{held}
-use Rattle.values.specs.Tree.{Item, at}
-use Rattle.values.specs.Trees.{membersAt}
+use Rattle.types.specs.layout.Laid.{firstBit}
+use Rattle.types.specs.tables.Lent.{memberAt}
+use Rattle.types.specs.declared.tables.member.Member.{Member}
+use Rattle.values.specs.inside.normal_image.InPlace.{flagged, isFlag}
+use Rattle.values.specs.normal_image.Normal.{held}
+use Rattle.values.specs.reading.Leaf.{flag}
+use Rattle.values.specs.reading.Tree.{Item, at}
+use Rattle.values.specs.reading.Trees.{membersAt}
 
 -- the items of the visible BOOLs, where their structure begins at bit p
 unfoldable pub flagItems : ℕ → List Member → List Item

@@ -9,24 +9,24 @@ use mathlib.Core.List.{List}
 use lib.ListN.{length, replicate}
 use lib.Seq.{sets, length-sets}
 use Rattle.words.specs.Bits.{flat}
-use Rattle.types.specs.Atomic.{sizeOf}
-use Rattle.types.specs.Laid.{firstBit}
-use Rattle.types.specs.Layout.{times}
-use Rattle.types.specs.Tables.{memberAt}
-use Rattle.types.specs.Waste.{sizesIn}
-use Rattle.types.specs.declared.atomic.Atomic.{Atomic}
-use Rattle.types.specs.declared.member.Bit.the-variants.{None}
-use Rattle.types.specs.declared.member.Member.{Member}
-use Rattle.types.specs.declared.member.Ty.the-variants as ty
-use Rattle.types.proofs.LayoutLaws.{times-one, times-same}
-use Rattle.values.specs.InPlace.{OnwardTo, PlainRow, cleared, made, onward}
-use Rattle.values.specs.Placed.{Sweepable}
-use Rattle.values.specs.Rows.{AllHere, Here, memberTree, treeIn}
-use Rattle.values.specs.Tree.{Tree, array, span}
-use Rattle.values.specs.Trees.{atomicsTree, structsTree}
-use Rattle.values.proofs.SpanLaws.{atomics-span, sound-all, value-span}
-use Rattle.values.proofs.StampLaws.{zeros-cleared}
-use Rattle.values.proofs.SweepableLaws.{plain-is, sweepable-walkable}
+use Rattle.types.specs.atomics.Atomic.{sizeOf}
+use Rattle.types.specs.layout.Laid.{firstBit}
+use Rattle.types.specs.layout.Placing.{times}
+use Rattle.types.specs.tables.Lent.{memberAt}
+use Rattle.types.specs.tables.Sizes.{sizesIn}
+use Rattle.types.specs.declared.atomics.atomic.Atomic.{Atomic}
+use Rattle.types.specs.declared.tables.member.Bit.the-variants.{None}
+use Rattle.types.specs.declared.tables.member.Member.{Member}
+use Rattle.types.specs.declared.tables.member.Ty.the-variants as ty
+use Rattle.types.proofs.Face.{times-one, times-same}
+use Rattle.values.specs.inside.normal_image.InPlace.{OnwardTo, PlainRow, cleared, made, onward}
+use Rattle.values.specs.inside.normal_image.Placed.{Sweepable}
+use Rattle.values.specs.inside.writing.Rows.{AllHere, Here, memberTree, treeIn}
+use Rattle.values.specs.reading.Tree.{Tree, array, span}
+use Rattle.values.specs.reading.Trees.{atomicsTree, structsTree}
+use Rattle.values.proofs.normal_image.SweepableLaws.{plain-is, sweepable-walkable}
+use Rattle.values.proofs.reading.SpanLaws.{atomics-span, sound-all, value-span}
+use Rattle.values.proofs.writing.StampLaws.{zeros-cleared}
 
 -- ---- a plain member was read
 

@@ -7,22 +7,22 @@ use mathlib.Core.Bool.{Bool, true, false, cond, not, _||_}
 use mathlib.Core.List.{List, [], _∷_, _++_}
 use Rattle.words.specs.Bits.{Bits, inside}
 use Rattle.words.proofs.BitLaws.{Lies, among, beside, lies}
-use Rattle.types.specs.Laid.{firstIn, hasBit}
-use Rattle.types.specs.declared.member.Bit.{Bit}
-use Rattle.types.specs.declared.member.Bit.the-variants.{None, At}
-use Rattle.types.specs.declared.member.Member.{Member}
-use Rattle.values.specs.InPlace.{flagged, isFlag, isPlain, made, swept}
-use Rattle.values.specs.Leaf.{flag}
-use Rattle.values.specs.Normal.{held, normal}
-use Rattle.values.specs.Placed.{AllPlaced, Clear, Placed, Stairs}
-use Rattle.values.specs.Tree.{Branches, Item, Tree, at, between, branchItems, items, span, struct}
-use Rattle.values.specs.Trees.{bitTree, branchesFrom, seen, valueTree}
-use Rattle.values.proofs.FlagLaws.{Same, flagItems, flagged-is}
-use Rattle.values.proofs.MadeLaws.{normal-around, normal-first, normal-second}
-use Rattle.values.proofs.OnlyHeld.{held-first, held-second, or-first, or-none, or-second}
-use Rattle.values.proofs.PlacedLaws.{branches-clear, held-append, not-true}
-use Rattle.values.proofs.PlacedLaws.{tree-between}
-use Rattle.values.proofs.SweptLaws.{plainItems, swept-is}
+use Rattle.types.specs.layout.Laid.{firstIn, hasBit}
+use Rattle.types.specs.declared.tables.member.Bit.{Bit}
+use Rattle.types.specs.declared.tables.member.Bit.the-variants.{None, At}
+use Rattle.types.specs.declared.tables.member.Member.{Member}
+use Rattle.values.specs.inside.normal_image.InPlace.{flagged, isFlag, isPlain, made, swept}
+use Rattle.values.specs.inside.normal_image.Placed.{AllPlaced, Clear, Placed, Stairs}
+use Rattle.values.specs.normal_image.Normal.{held, normal}
+use Rattle.values.specs.reading.Leaf.{flag}
+use Rattle.values.specs.reading.Tree.{Branches, Item, Tree, at, between, branchItems, items, span, struct}
+use Rattle.values.specs.reading.Trees.{bitTree, branchesFrom, seen, valueTree}
+use Rattle.values.proofs.normal_image.MadeLaws.{normal-around, normal-first, normal-second}
+use Rattle.values.proofs.normal_image.PlacedLaws.{branches-clear, held-append, not-true}
+use Rattle.values.proofs.normal_image.PlacedLaws.{tree-between}
+use Rattle.values.proofs.normal_image.structs.FlagLaws.{Same, flagItems, flagged-is}
+use Rattle.values.proofs.normal_image.structs.SweptLaws.{plainItems, swept-is}
+use Rattle.values.proofs.writing.OnlyHeld.{held-first, held-second, or-first, or-none, or-second}
 
 -- ---- bits that no visible member holds
 

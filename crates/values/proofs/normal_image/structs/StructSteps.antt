@@ -7,23 +7,23 @@ use mathlib.Core.Bool.{Bool, true, false}
 use mathlib.Core.List.{List}
 use lib.ListN.{length}
 use Rattle.words.specs.Bits.{Bits, flat}
-use Rattle.types.specs.Laid.{firstBit}
-use Rattle.types.specs.Tables.{memberAt, typeAt}
-use Rattle.types.specs.Waste.{sizesIn}
-use Rattle.types.specs.declared.member.Member.{Member}
-use Rattle.types.specs.declared.member.StructDef.{StructDef}
-use Rattle.values.specs.InPlace.{RowsHere, flagged, isFlag, made, swept}
-use Rattle.values.specs.Leaf.{str}
-use Rattle.values.specs.Placed.{Sweepable}
-use Rattle.values.specs.Rows.{Here, treeIn}
-use Rattle.values.specs.Tree.{Tree, leaf}
-use Rattle.values.specs.Trees.{isString, membersAt}
-use Rattle.values.specs.Walk.{capacityAt}
-use Rattle.values.specs.Walkable.{IsString, Walkable}
-use Rattle.values.proofs.BranchLaws.{string-tree, members-tree}
-use Rattle.values.proofs.FlagLaws.{same-rows}
-use Rattle.values.proofs.StructMade.{struct-made}
-use Rattle.values.proofs.SweepableLaws.{sweepable-branches, sweepable-rows, sweepable-walkable}
+use Rattle.types.specs.layout.Laid.{firstBit}
+use Rattle.types.specs.tables.Lent.{memberAt, typeAt}
+use Rattle.types.specs.tables.Sizes.{sizesIn}
+use Rattle.types.specs.declared.tables.member.Member.{Member}
+use Rattle.types.specs.declared.tables.member.StructDef.{StructDef}
+use Rattle.values.specs.inside.normal_image.InPlace.{RowsHere, flagged, isFlag, made, swept}
+use Rattle.values.specs.inside.normal_image.Placed.{Sweepable}
+use Rattle.values.specs.inside.reading.Walkable.{IsString, Walkable}
+use Rattle.values.specs.inside.writing.Rows.{Here, treeIn}
+use Rattle.values.specs.reading.Leaf.{str}
+use Rattle.values.specs.reading.Texts.{capacityAt}
+use Rattle.values.specs.reading.Tree.{Tree, leaf}
+use Rattle.values.specs.reading.Trees.{isString, membersAt}
+use Rattle.values.proofs.normal_image.SweepableLaws.{sweepable-branches, sweepable-rows, sweepable-walkable}
+use Rattle.values.proofs.normal_image.structs.FlagLaws.{same-rows}
+use Rattle.values.proofs.normal_image.structs.StructMade.{struct-made}
+use Rattle.values.proofs.writing.BranchLaws.{string-tree, members-tree}
 
 -- an image as long as another has the structure in the same place
 pub here-after : {types : List ℕ} {i base : ℕ} {image : List ℕ} (new : List ℕ) → Here types i base image

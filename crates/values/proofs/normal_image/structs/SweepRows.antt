@@ -8,19 +8,20 @@ use mathlib.Core.List.{List, [], _∷_}
 use lib.ListN.{length, replicate}
 use lib.Seq.{sets}
 use Rattle.words.specs.Bits.{Bits, flat}
-use Rattle.types.specs.Laid.{firstBit}
-use Rattle.types.specs.Tables.{memberAt, typeAt}
-use Rattle.types.specs.Waste.{sizesIn}
-use Rattle.types.specs.declared.member.Member.{Member}
-use Rattle.types.specs.declared.member.StructDef.{StructDef}
-use Rattle.values.specs.InPlace.{OnwardTo, PlainRow, cleared, isPlain, onward, pastTree, swept}
-use Rattle.values.specs.Placed.{Placed, Stairs, Sweepable}
-use Rattle.values.specs.Rows.{Here, memberTree, treeIn}
-use Rattle.values.specs.Tree.{Tree}
-use Rattle.values.specs.Trees.{membersAt}
-use Rattle.values.specs.Walkable.{WalkableType, Within}
-use Rattle.values.proofs.StampLaws.{zeros-cleared}
-use Rattle.values.proofs.SweepableLaws.{sweepable-walkable}
+use Rattle.types.specs.layout.Laid.{firstBit}
+use Rattle.types.specs.tables.Lent.{memberAt, typeAt}
+use Rattle.types.specs.tables.Sizes.{sizesIn}
+use Rattle.types.specs.declared.tables.member.Member.{Member}
+use Rattle.types.specs.declared.tables.member.StructDef.{StructDef}
+use Rattle.values.specs.inside.normal_image.InPlace.{OnwardTo, PlainRow, cleared, isPlain, onward, pastTree}
+use Rattle.values.specs.inside.normal_image.InPlace.{swept}
+use Rattle.values.specs.inside.normal_image.Placed.{Placed, Stairs, Sweepable}
+use Rattle.values.specs.inside.reading.Walkable.{WalkableType, Within}
+use Rattle.values.specs.inside.writing.Rows.{Here, memberTree, treeIn}
+use Rattle.values.specs.reading.Tree.{Tree}
+use Rattle.values.specs.reading.Trees.{membersAt}
+use Rattle.values.proofs.normal_image.SweepableLaws.{sweepable-walkable}
+use Rattle.values.proofs.writing.StampLaws.{zeros-cleared}
 
 -- ---- one member before others
 

@@ -8,17 +8,18 @@ use mathlib.Core.Bool.{Bool, true, false, cond, true≢false}
 use mathlib.Core.List.{List, [], _∷_, _++_}
 use Rattle.words.specs.Bits.{Bits, inside, stamp}
 use Rattle.words.proofs.BitLaws.{Lies, among, beside, lies}
-use Rattle.types.specs.Laid.{firstBit}
-use Rattle.types.specs.declared.member.Member.{Member}
-use Rattle.values.specs.InPlace.{cleared, isPlain, onward, pastTree, swept}
-use Rattle.values.specs.Normal.{held, normal}
-use Rattle.values.specs.Placed.{If, Placed, Stairs}
-use Rattle.values.specs.Rows.{memberTree}
-use Rattle.values.specs.Tree.{Item, Tree, items, span}
-use Rattle.values.proofs.ItemLaws.{normal-unheld}
-use Rattle.values.proofs.MadeLaws.{made-beside, made-inside, normal-first, normal-local, normal-second}
-use Rattle.values.proofs.OnlyHeld.{not-inside}
-use Rattle.values.proofs.PlacedLaws.{Or, left, right, held-or, not-true, tree-between, yes-inside}
+use Rattle.types.specs.layout.Laid.{firstBit}
+use Rattle.types.specs.declared.tables.member.Member.{Member}
+use Rattle.values.specs.inside.normal_image.InPlace.{cleared, isPlain, onward, pastTree, swept}
+use Rattle.values.specs.inside.normal_image.Placed.{If, Placed, Stairs}
+use Rattle.values.specs.inside.writing.Rows.{memberTree}
+use Rattle.values.specs.normal_image.Normal.{held, normal}
+use Rattle.values.specs.reading.Tree.{Item, Tree, items, span}
+use Rattle.values.proofs.normal_image.ItemLaws.{normal-unheld}
+use Rattle.values.proofs.normal_image.MadeLaws.{made-beside, made-inside, normal-first, normal-local}
+use Rattle.values.proofs.normal_image.MadeLaws.{normal-second}
+use Rattle.values.proofs.normal_image.PlacedLaws.{Or, left, right, held-or, not-true, tree-between, yes-inside}
+use Rattle.values.proofs.writing.OnlyHeld.{not-inside}
 
 -- their items, where the structure begins at bit p
 module _ (trees : ℕ → Tree) (p : ℕ) where

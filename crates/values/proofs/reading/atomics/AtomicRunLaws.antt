@@ -10,16 +10,16 @@ use lib.ListN.{length, take, drop}
 use lib.Seq.{sets, take-all}
 use Rattle.words.specs.Bits.{flat}
 use Rattle.words.specs.Words.{part}
-use Rattle.types.specs.Atomic.{bitString, sizeOf}
-use Rattle.types.specs.Layout.{times}
-use Rattle.types.specs.declared.atomic.Atomic.{Atomic}
-use Rattle.types.proofs.LayoutLaws.{times-one, times-same}
-use Rattle.values.specs.Stream.{bodies, entryBytes}
-use Rattle.values.specs.Laying.{Put}
-use Rattle.values.specs.Walk.{upTo, bitsOut, numberOut, elementOut, numbersOut, atomicsOut}
-use Rattle.values.proofs.LeafLaws.{textless-emit}
-use Rattle.values.proofs.PutLaws.{put-wrap}
-use Rattle.values.proofs.UpLaws.{up-ones, up-bodies, wrap-length}
+use Rattle.types.specs.atomics.Atomic.{bitString, sizeOf}
+use Rattle.types.specs.layout.Placing.{times}
+use Rattle.types.specs.declared.atomics.atomic.Atomic.{Atomic}
+use Rattle.types.proofs.Face.{times-one, times-same}
+use Rattle.values.specs.inside.reading.Walk.{upTo, bitsOut, numberOut, elementOut, numbersOut, atomicsOut}
+use Rattle.values.specs.inside.stream.Laying.{Put}
+use Rattle.values.specs.stream.Stream.{bodies, entryBytes}
+use Rattle.values.proofs.reading.LeafLaws.{textless-emit}
+use Rattle.values.proofs.reading.UpLaws.{up-ones, up-bodies, wrap-length}
+use Rattle.values.proofs.stream.PutLaws.{put-wrap}
 
 module _ (a : Atomic) (n : ℕ) (s : List ℕ) where
   elements-plain : bodies (upTo (elementOut a s) n) ≡ []

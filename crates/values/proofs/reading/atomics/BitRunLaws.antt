@@ -11,11 +11,11 @@ use lib.ListN.{length, getD}
 use lib.Seq.{sets, length-sets}
 use Rattle.words.specs.Bits.{bitOf, digit, flat}
 use Rattle.words.proofs.BitLaws.{flat-at}
-use Rattle.values.specs.Stream.{Token, bool, entryBytes, bodies}
-use Rattle.values.specs.Laying.{Put}
-use Rattle.values.specs.Walk.{upTo, bitToken, bitsOut}
-use Rattle.values.proofs.PutLaws.{put-length, put-none, put-one, put-then, put-as, put-wrap}
-use Rattle.values.proofs.UpLaws.{up-ext, up-split, up-ones, up-bodies, wrap-length}
+use Rattle.values.specs.inside.reading.Walk.{upTo, bitToken, bitsOut}
+use Rattle.values.specs.inside.stream.Laying.{Put}
+use Rattle.values.specs.stream.Stream.{Token, bool, entryBytes, bodies}
+use Rattle.values.proofs.reading.UpLaws.{up-ext, up-split, up-ones, up-bodies, wrap-length}
+use Rattle.values.proofs.stream.PutLaws.{put-length, put-none, put-one, put-then, put-as, put-wrap}
 
 -- ---- the bits of a byte
 

@@ -10,19 +10,19 @@ use lib.Dec.{eqb}
 use lib.ListN.{length, getD, length-append}
 use lib.Seq.{sets}
 use Rattle.words.specs.Words.{wordAt, Bytes}
-use Rattle.types.specs.Atomic.{numOf, sizeOf}
-use Rattle.types.specs.declared.atomic.Atomic.{Atomic}
-use Rattle.types.specs.declared.atomic.Atomic.the-variants as atomic
-use Rattle.values.specs.Laying.{Put}
-use Rattle.values.specs.Leaf.{isTrue}
-use Rattle.values.specs.Numbers.{extended, formOf, Run}
-use Rattle.values.specs.Stream.{Token, bool, number, kindOf, payloadOf, bodyOf, entryBytes, bodies}
-use Rattle.values.specs.Walk.{elementOut, upTo}
-use Rattle.values.specs.declared.numbers.Form.{Form}
-use Rattle.values.proofs.HeadLaws.{bodies-one, plain-append}
-use Rattle.values.proofs.NumberLaws.{number-form, truth-form, fill-fits}
-use Rattle.values.proofs.PutLaws.{put-length, put-none, put-next}
-use Rattle.values.proofs.UpLaws.{up-ext}
+use Rattle.types.specs.atomics.Atomic.{numOf, sizeOf}
+use Rattle.types.specs.declared.atomics.atomic.Atomic.{Atomic}
+use Rattle.types.specs.declared.atomics.atomic.Atomic.the-variants as atomic
+use Rattle.values.specs.inside.reading.Numbers.{extended, formOf, NumberRun}
+use Rattle.values.specs.inside.reading.Walk.{elementOut, upTo}
+use Rattle.values.specs.inside.stream.Laying.{Put}
+use Rattle.values.specs.reading.Leaf.{isTrue}
+use Rattle.values.specs.stream.Stream.{Token, bool, number, kindOf, payloadOf, bodyOf, entryBytes, bodies}
+use Rattle.values.specs.declared.reading.numbers.Form.{Form}
+use Rattle.values.proofs.reading.NumberLaws.{number-form, truth-form, fill-fits}
+use Rattle.values.proofs.reading.UpLaws.{up-ext}
+use Rattle.values.proofs.stream.HeadLaws.{bodies-one, plain-append}
+use Rattle.values.proofs.stream.PutLaws.{put-length, put-none, put-next}
 
 -- one entry for each of the first i elements
 abbrev ones : (ℕ → Token) → ℕ → List Token
@@ -90,7 +90,7 @@ pub numbers-on : (f : Form) (w : ℕ) (s : List ℕ) {n at p i x y : ℕ} {first
     → new ≡ sets out p (entryBytes (f .kind) y) → Running (formed f w s) n first at new (p + 12) (i + 1)
 numbers-on f w s r h a b e = run-on r h refl refl (sym (b ∙ ap (extended f) a)) e
 
-module _ {a : Atomic} {f : Form} {w n : ℕ} {s : List ℕ} (e : f ≡ formOf a) (r : Run a w n s) (b : Bytes s) where
+module _ {a : Atomic} {f : Form} {w n : ℕ} {s : List ℕ} (e : f ≡ formOf a) (r : NumberRun a w n s) (b : Bytes s) where
   -- what stands above a number fits beside it
   pub number-fits : (at : ℕ) {x : ℕ} → x ≡ wordAt w s at → x + f .fill < 2 ^ 64
   number-fits at h = rw (h, e, ← r .size) (fill-fits a s at b)
@@ -119,9 +119,9 @@ truths-done s b v l =
 
 -- no BOOL, of so many bytes; what else is asked is left
 pub run-given : {a b : Atomic} {n w : ℕ} {s : List ℕ} {P : Type 0} → a ≡ b → eqb (numOf b) 0 ≡ false → sizeOf b ≡ w
-    → (sizeOf a * n ≤ length s) × P → Run a w n s × P
+    → (sizeOf a * n ≤ length s) × P → NumberRun a w n s × P
 run-given {a} {b} {n} {w} {s} e f g h =
-    let run : Run a w n s = record {
+    let run : NumberRun a w n s = record {
       number = λ z. true≢false (ap (λ (x : Atomic). eqb (numOf x) 0) (sym z ∙ e) ∙ f);
       size = ap sizeOf e ∙ g;
       long = rw (← g, ← e) (h .0);

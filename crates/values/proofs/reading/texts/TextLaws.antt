@@ -11,9 +11,10 @@ use Rattle.words.specs.Bits.{flat, val}
 use Rattle.words.specs.Words.{Bytes, part, wordAt}
 use Rattle.words.proofs.BitLaws.{word-val}
 use Rattle.words.proofs.Lists.{length-part}
-use Rattle.values.specs.Stream.{entryBytes, heads, bodies}
-use Rattle.values.specs.Laying.{laid, Room, Wrote}
-use Rattle.values.specs.Walk.{textLength, textIn, textOut}
+use Rattle.values.specs.inside.reading.Walk.{textOut}
+use Rattle.values.specs.inside.stream.Laying.{laidIn, Room, Wrote}
+use Rattle.values.specs.reading.Texts.{textLength, textIn}
+use Rattle.values.specs.stream.Stream.{entryBytes, heads, bodies}
 
 -- LEN as u32 is the number of the first 32 bits
 pub len-is : (image : List ℕ) → Bytes image → {n : ℕ} → n ≡ wordAt 4 image 0 → n ≡ val 32 (flat image)
@@ -43,7 +44,7 @@ module _ (capacity : ℕ) (image : List ℕ) (inside : 4 + capacity ≤ length i
       → mid ≡ sets out at (entryBytes 6 (text + 2 ^ 32 * n))
       → new ≡ sets mid (base + text) (take (4 + n - 4) (drop 4 image))
       → Wrote out base at text (textOut capacity image) new (record { at = at + 12; text = text + n })
-  unfolding laid heads bodies
+  unfolding laidIn heads bodies
   text-wrote {out} {mid} {new} {base} {at} {text} {n} h d e =
       let t : List ℕ = textIn capacity image in
       let f : n ≡ length t = h ∙ sym text-long in

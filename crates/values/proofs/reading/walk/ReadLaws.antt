@@ -7,27 +7,29 @@ use mathlib.Core.Bool.{Bool, true, false, cond}
 use mathlib.Core.List.{List, _∷_}
 use lib.ListN.{length}
 use lib.Seq.{sets}
-use Rattle.types.specs.Tables.{memberAt, typeAt}
-use Rattle.types.specs.Waste.{sizesIn}
-use Rattle.types.specs.declared.atomic.Atomic.{Atomic}
-use Rattle.types.specs.declared.member.Member.{Member}
-use Rattle.types.specs.declared.member.StructDef.{StructDef}
-use Rattle.types.specs.declared.member.Ty.the-variants as ty
-use Rattle.values.specs.Laying.{Put, Room, Wrote}
-use Rattle.values.specs.Stream.{Token, member, entryBytes}
-use Rattle.values.specs.Trees.{isString}
-use Rattle.values.specs.Walk.{upTo, wrap, textOut, capacityAt, isNested, leafOut, elementBy, elementsBy}
-use Rattle.values.specs.Walk.{memberBy, rowBy, membersBy, structBy, structOut}
-use Rattle.values.specs.Walkable.{IsString, Walkable, RowOf, NestedRow, ImageOf, ImagesOf}
-use Rattle.values.specs.declared.place.Place.{Place}
-use Rattle.values.proofs.LayingLaws.{room-one, room-all, room-as, wrote-as, value-room, value-wrote}
-use Rattle.values.proofs.LayingLaws.{Running, run-start, run-room, run-turn, run-end}
-use Rattle.values.proofs.LeafLaws.{textless-leaf}
-use Rattle.values.proofs.MemberLaws.{nested-shown, never-atomic, nested-earlier, member-leaf, row-of}
-use Rattle.values.proofs.PartLaws.{lent, element-fits, element-image, element-is, Held, one-image, one-is}
-use Rattle.values.proofs.PartLaws.{some-images, some-is}
-use Rattle.values.proofs.PutLaws.{put-wrote}
-use Rattle.values.proofs.WalkLaws.{struct-out}
+use Rattle.types.specs.tables.Lent.{memberAt, typeAt}
+use Rattle.types.specs.tables.Sizes.{sizesIn}
+use Rattle.types.specs.declared.atomics.atomic.Atomic.{Atomic}
+use Rattle.types.specs.declared.tables.member.Member.{Member}
+use Rattle.types.specs.declared.tables.member.StructDef.{StructDef}
+use Rattle.types.specs.declared.tables.member.Ty.the-variants as ty
+use Rattle.values.specs.inside.reading.Walk.{upTo, wrap, textOut, isNested, leafOut, elementBy, elementsBy}
+use Rattle.values.specs.inside.reading.Walk.{memberBy, rowBy, membersBy, structBy, structOut}
+use Rattle.values.specs.inside.reading.Walkable.{IsString, Walkable, RowOf, NestedRow, ImageOf, ImagesOf}
+use Rattle.values.specs.inside.stream.Laying.{Put, Room, Wrote}
+use Rattle.values.specs.reading.Texts.{capacityAt}
+use Rattle.values.specs.reading.Trees.{isString}
+use Rattle.values.specs.stream.Stream.{Token, member, entryBytes}
+use Rattle.values.specs.declared.stream.place.Place.{Place}
+use Rattle.values.proofs.reading.LeafLaws.{textless-leaf}
+use Rattle.values.proofs.reading.MemberLaws.{nested-shown, never-atomic, nested-earlier, member-leaf, row-of}
+use Rattle.values.proofs.reading.PartLaws.{lent, element-fits, element-image, element-is, Held, one-image}
+use Rattle.values.proofs.reading.PartLaws.{one-is}
+use Rattle.values.proofs.reading.PartLaws.{some-images, some-is}
+use Rattle.values.proofs.reading.WalkLaws.{struct-out}
+use Rattle.values.proofs.stream.LayingLaws.{room-one, room-all, room-as, wrote-as, value-room, value-wrote}
+use Rattle.values.proofs.stream.LayingLaws.{Running, run-start, run-room, run-turn, run-end}
+use Rattle.values.proofs.stream.PutLaws.{put-wrote}
 
 -- ---- a structure, where d was read from its row
 

@@ -8,18 +8,19 @@ use mathlib.Core.Bool.{Bool, false}
 use mathlib.Core.List.{List, [], _++_}
 use lib.ListN.{length, length-append}
 use Rattle.words.specs.Words.{part}
-use Rattle.types.specs.Layout.{times}
-use Rattle.types.specs.Tables.{memberAt, typeAt}
-use Rattle.types.specs.Waste.{sizesIn}
-use Rattle.types.specs.declared.member.Ty.the-variants as ty
-use Rattle.values.specs.Counting.{Counted, Plain}
-use Rattle.values.specs.Stream.{Token, bodies}
-use Rattle.values.specs.Walk.{isNested, upTo, wrap, leafOut, structsBy, memberBy, rowBy, membersBy, structOut}
-use Rattle.values.specs.Walkable.{Walkable, RowOf, NestedRow}
-use Rattle.values.proofs.CountLaws.{counted-same, member-counted, plain-counted, plain-same}
-use Rattle.values.proofs.HeadLaws.{bodies-append}
-use Rattle.values.proofs.UpLaws.{up-grows, wrap-length, wrap-bodies}
-use Rattle.values.proofs.MemberLaws.{member-leaf, member-nested, row-of}
+use Rattle.types.specs.layout.Placing.{times}
+use Rattle.types.specs.tables.Lent.{memberAt, typeAt}
+use Rattle.types.specs.tables.Sizes.{sizesIn}
+use Rattle.types.specs.declared.tables.member.Ty.the-variants as ty
+use Rattle.values.specs.inside.reading.Walk.{isNested, upTo, wrap, leafOut, structsBy, memberBy, rowBy, membersBy}
+use Rattle.values.specs.inside.reading.Walk.{structOut}
+use Rattle.values.specs.inside.reading.Walkable.{Walkable, RowOf, NestedRow}
+use Rattle.values.specs.inside.stream.Counting.{Counted, TextFree}
+use Rattle.values.specs.stream.Stream.{Token, bodies}
+use Rattle.values.proofs.reading.MemberLaws.{member-leaf, member-nested, row-of}
+use Rattle.values.proofs.reading.UpLaws.{up-grows, wrap-length, wrap-bodies}
+use Rattle.values.proofs.stream.CountLaws.{counted-same, member-counted, plain-counted, plain-same}
+use Rattle.values.proofs.stream.HeadLaws.{bodies-append}
 
 -- ---- one run after another
 
@@ -120,7 +121,7 @@ module _ {types members : List ℕ} {i from most first n : ℕ} {b t : Bool} {su
 
   -- one that is no structure
   pub rows-leaf : {more : ℕ} → j < n → sum ≤ most → isNested (memberAt members (first + j)) ≡ false
-      → Plain (leafOut j (memberAt members (first + j))) more
+      → TextFree (leafOut j (memberAt members (first + j))) more
       → Rows types members i from most first n b t (sum + more) (j + 1)
   rows-leaf h fits e p =
       rows-nested h fits

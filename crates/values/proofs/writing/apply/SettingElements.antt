@@ -8,20 +8,20 @@ use mathlib.Core.Bool.{true}
 use mathlib.Core.List.{List}
 use lib.ListN.{length}
 use Rattle.words.specs.Bits.{Bits, flat}
-use Rattle.types.specs.Waste.{sizesIn}
-use Rattle.values.specs.Form.{streamOk}
-use Rattle.values.specs.Passes.{Applied, accepted, firstKind, leftAt}
-use Rattle.values.specs.Rows.{AllHere, Here, treeIn}
-use Rattle.values.specs.Stream.{Token}
-use Rattle.values.specs.Tree.{Tree, array, span}
-use Rattle.values.specs.Walkable.{Walkable}
-use Rattle.values.specs.Writing.{Outcome, opened, elements, write}
-use Rattle.values.proofs.ApplyLaws.{Setting, accepted-as, accepted-first, applied-as}
-use Rattle.values.proofs.ApplyLaws.{setting-from, setting-on, setting-then}
-use Rattle.values.proofs.ApplyLaws.{opened-there, opened-kept, opened-set}
-use Rattle.values.proofs.ApplyLaws.{elements-there, elements-closed, elements-end, elements-step}
-use Rattle.values.proofs.LeftLaws.{There}
-use Rattle.values.proofs.SpanLaws.{tree-span}
+use Rattle.types.specs.tables.Sizes.{sizesIn}
+use Rattle.values.specs.inside.reading.Walkable.{Walkable}
+use Rattle.values.specs.inside.writing.Passes.{Applied, accepted, firstKind, leftAt}
+use Rattle.values.specs.inside.writing.Rows.{AllHere, Here, treeIn}
+use Rattle.values.specs.reading.Tree.{Tree, array, span}
+use Rattle.values.specs.stream.Form.{streamOk}
+use Rattle.values.specs.stream.Stream.{Token}
+use Rattle.values.specs.writing.Writing.{Outcome, opened, elements, write}
+use Rattle.values.proofs.reading.SpanLaws.{tree-span}
+use Rattle.values.proofs.stream.LeftLaws.{There}
+use Rattle.values.proofs.writing.ApplyLaws.{Setting, accepted-as, accepted-first, applied-as}
+use Rattle.values.proofs.writing.ApplyLaws.{setting-from, setting-on, setting-then}
+use Rattle.values.proofs.writing.ApplyLaws.{opened-there, opened-kept, opened-set}
+use Rattle.values.proofs.writing.ApplyLaws.{elements-there, elements-closed, elements-end, elements-step}
 
 -- ---- an array of structures
 

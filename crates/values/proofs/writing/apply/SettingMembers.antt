@@ -8,25 +8,25 @@ use mathlib.Core.Bool.{Bool, true, false}
 use mathlib.Core.List.{List}
 use lib.ListN.{length}
 use Rattle.words.specs.Bits.{Bits, flat}
-use Rattle.types.specs.Laid.{firstBit}
-use Rattle.types.specs.Tables.{memberAt, typeAt}
-use Rattle.types.specs.Waste.{sizesIn}
-use Rattle.types.specs.declared.member.StructDef.{StructDef}
-use Rattle.values.specs.Form.{countIn, streamOk}
-use Rattle.values.specs.Passes.{Applied, accepted, firstKind, leftAt}
-use Rattle.values.specs.Rows.{Here, LeafRow, MemberHere, branchesIn, memberTree, treeIn}
-use Rattle.values.specs.Stream.{Token, kindOf, payloadOf}
-use Rattle.values.specs.Tree.{Branches, struct}
-use Rattle.values.specs.Walk.{isNested}
-use Rattle.values.specs.Walkable.{NestedRow, RowOf, Walkable}
-use Rattle.values.specs.Writing.{Outcome, andThen, opened, membersIn, write, writeBranch}
-use Rattle.values.proofs.ApplyLaws.{Setting, accepted-as, accepted-first, applied-as, not-accepted}
-use Rattle.values.proofs.ApplyLaws.{setting-from, setting-on, setting-then}
-use Rattle.values.proofs.ApplyLaws.{opened-there, opened-kept, opened-set}
-use Rattle.values.proofs.ApplyLaws.{members-there, members-closed, members-seven, members-step}
-use Rattle.values.proofs.BranchLaws.{branch-is, branch-hidden, branch-past}
-use Rattle.values.proofs.LeftLaws.{There, few-entries, left-long, payloadAt}
-use Rattle.values.proofs.MemberLaws.{row-of}
+use Rattle.types.specs.layout.Laid.{firstBit}
+use Rattle.types.specs.tables.Lent.{memberAt, typeAt}
+use Rattle.types.specs.tables.Sizes.{sizesIn}
+use Rattle.types.specs.declared.tables.member.StructDef.{StructDef}
+use Rattle.values.specs.inside.reading.Walk.{isNested}
+use Rattle.values.specs.inside.reading.Walkable.{NestedRow, RowOf, Walkable}
+use Rattle.values.specs.inside.writing.Passes.{Applied, accepted, firstKind, leftAt}
+use Rattle.values.specs.inside.writing.Rows.{Here, LeafRow, MemberHere, branchesIn, memberTree, treeIn}
+use Rattle.values.specs.reading.Tree.{Branches, struct}
+use Rattle.values.specs.stream.Form.{countIn, streamOk}
+use Rattle.values.specs.stream.Stream.{Token, kindOf, payloadOf}
+use Rattle.values.specs.writing.Writing.{Outcome, andThen, opened, membersIn, write, writeBranch}
+use Rattle.values.proofs.reading.MemberLaws.{row-of}
+use Rattle.values.proofs.stream.LeftLaws.{There, few-entries, left-long, payloadAt}
+use Rattle.values.proofs.writing.ApplyLaws.{Setting, accepted-as, accepted-first, applied-as, not-accepted}
+use Rattle.values.proofs.writing.ApplyLaws.{setting-from, setting-on, setting-then}
+use Rattle.values.proofs.writing.ApplyLaws.{opened-there, opened-kept, opened-set}
+use Rattle.values.proofs.writing.ApplyLaws.{members-there, members-closed, members-seven, members-step}
+use Rattle.values.proofs.writing.BranchLaws.{branch-is, branch-hidden, branch-past}
 
 -- an entry's number is small
 pub next-small : {s : List ℕ} {k : ℕ} → There s k → streamOk s ≡ true → k < 2 ^ 28

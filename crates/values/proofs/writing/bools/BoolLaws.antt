@@ -9,11 +9,11 @@ use lib.Dec.{eqb}
 use lib.ListN.{getD, length, length-set, set}
 use Rattle.words.specs.Bits.{Bits, bitOf, digit, flat, from, stamp, val, withBit}
 use Rattle.words.proofs.BitLaws.{bit-val, flat-set, flat-with}
-use Rattle.values.specs.Bools.{AtLeast, Bools, truths}
-use Rattle.values.specs.Passes.{Applied, leftAt}
-use Rattle.values.specs.Writing.{boolsIn}
-use Rattle.values.proofs.BoolRuns.{Accepts, bools-run, later, least-few, run-byte, truths-from}
-use Rattle.values.proofs.StampLaws.{stamp-ext, stamp-none, stamp-two}
+use Rattle.values.specs.inside.writing.Bools.{AtLeast, Bools, truths}
+use Rattle.values.specs.inside.writing.Passes.{Applied, leftAt}
+use Rattle.values.specs.writing.Writing.{boolsIn}
+use Rattle.values.proofs.writing.StampLaws.{stamp-ext, stamp-none, stamp-two}
+use Rattle.values.proofs.writing.bools.BoolRuns.{Accepts, bools-run, later, least-few, run-byte, truths-from}
 
 -- ---- eight bools as a byte
 

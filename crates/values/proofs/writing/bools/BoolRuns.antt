@@ -11,17 +11,17 @@ use lib.Dec.{eqb}
 use lib.ListN.{getD, length}
 use Rattle.words.specs.Bits.{Bits, bitOf, flat, from, stamp}
 use Rattle.words.specs.Words.{wordAt}
-use Rattle.values.specs.Bools.{AtLeast, Bools, Run, truths}
-use Rattle.values.specs.Effects.{ofKind, payloadBits, taken}
-use Rattle.values.specs.Form.{streamOk}
-use Rattle.values.specs.Leaf.{flag}
-use Rattle.values.specs.Passes.{accepted, firstKind, leftAt}
-use Rattle.values.specs.Stream.{kindOf, payloadOf}
-use Rattle.values.specs.Writing.{Outcome, ok, bad, andThen, boolsIn, elements, writeOne}
-use Rattle.values.proofs.ApplyLaws.{accepted-as, elements-there, not-accepted}
-use Rattle.values.proofs.LeftLaws.{There, entries-inside, few-entries, kind-there, payloadAt, there}
-use Rattle.values.proofs.OutcomeLaws.{elements-close, elements-full, elements-next, one-is}
-use Rattle.values.proofs.StampLaws.{stamp-ext, stamp-none, stamp-two}
+use Rattle.values.specs.inside.writing.Bools.{AtLeast, Bools, BoolRun, truths}
+use Rattle.values.specs.inside.writing.Passes.{accepted, firstKind, leftAt}
+use Rattle.values.specs.reading.Leaf.{flag}
+use Rattle.values.specs.stream.Form.{streamOk}
+use Rattle.values.specs.stream.Stream.{kindOf, payloadOf}
+use Rattle.values.specs.writing.Effects.{ofKind, payloadBits, taken}
+use Rattle.values.specs.writing.Writing.{Outcome, ok, bad, andThen, boolsIn, elements, writeOne}
+use Rattle.values.proofs.stream.LeftLaws.{There, entries-inside, few-entries, kind-there, payloadAt, there}
+use Rattle.values.proofs.writing.ApplyLaws.{accepted-as, elements-there, not-accepted}
+use Rattle.values.proofs.writing.OutcomeLaws.{elements-close, elements-full, elements-next, one-is}
+use Rattle.values.proofs.writing.StampLaws.{stamp-ext, stamp-none, stamp-two}
 
 -- ---- one bool
 
@@ -54,7 +54,7 @@ truths-from s k m i = ap (λ j. eqb (getD s j 0) 1) (omega arith)
 
 -- ---- a run
 
-module _ {s : List ℕ} {k m : ℕ} (r : Run s k m) where
+module _ {s : List ℕ} {k m : ℕ} (r : BoolRun s k m) where
   run-there : (i : ℕ) → i < m → There s (k + i)
   run-there i l = there s (k + i) (r .form) (omega (arith, r .inside))
 
@@ -63,7 +63,7 @@ module _ {s : List ℕ} {k m : ℕ} (r : Run s k m) where
   run-byte i l = bool-small (run-there i l) (sym (kind-there (run-there i l)) ∙ r .each i l)
 
   -- its bools from a later one on
-  run-tail : (n : ℕ) → n ≤ m → Run s (k + n) (m - n)
+  run-tail : (n : ℕ) → n ≤ m → BoolRun s (k + n) (m - n)
   run-tail n l =
       record {
         form = r .form;
@@ -98,7 +98,7 @@ least-few {s} a =
 -- an entry among the bools of a run, or its close
 pub record Among (s : List ℕ) (k p : ℕ) : Type 0 where
   pub after : k ≤ p
-  pub upto : (m : ℕ) → Run s k m → p ≤ k + m
+  pub upto : (m : ℕ) → BoolRun s k m → p ≤ k + m
 
 pub among-start : (s : List ℕ) (k : ℕ) → Among s k k
 among-start s k = record { after = omega arith; upto = λ m r. omega arith }
@@ -112,7 +112,7 @@ among-on {s} {k} {p} a other =
           omega (arith, a .upto m r);
     }
 
-pub among-close : {s : List ℕ} {k p : ℕ} → Among s k p → firstKind (leftAt s p) ≡ 11 → (m : ℕ) → Run s k m → p ≡ k + m
+pub among-close : {s : List ℕ} {k p : ℕ} → Among s k p → firstKind (leftAt s p) ≡ 11 → (m : ℕ) → BoolRun s k m → p ≡ k + m
 among-close {s} {k} {p} a e m r = go (decLt p (k + m))
   where
     go : Dec (p < k + m) → p ≡ k + m
@@ -131,7 +131,7 @@ ok-is s e f = rw (e, f) refl
 pub record Accepts (s : List ℕ) (k total p : ℕ) (z : Bits) : Type 0 where
   pub many : ℕ
   pub few : many ≤ total
-  pub run : Run s k many
+  pub run : BoolRun s k many
   pub gives : boolsIn total p (leftAt s k) z ≡ ok (leftAt s (k + many + 1)) (stamp p many (truths s k) z)
 
 module _ {s : List ℕ} (form : streamOk s ≡ true) {k : ℕ} (t : There s k) (p : ℕ) (z : Bits) where

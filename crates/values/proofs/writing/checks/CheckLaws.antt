@@ -8,31 +8,33 @@ use mathlib.Core.List.{List}
 use lib.ListN.{length}
 use borrow.Author.Tests.{ne-eqb}
 use Rattle.words.specs.Bits.{Bits}
-use Rattle.types.specs.Tables.{memberAt, typeAt}
-use Rattle.types.specs.Waste.{sizesIn}
-use Rattle.types.specs.declared.member.Member.{Member}
-use Rattle.types.specs.declared.member.StructDef.{StructDef}
-use Rattle.types.specs.declared.member.Ty.the-variants as ty
-use Rattle.values.specs.Effects.{asText, orNull}
-use Rattle.values.specs.Form.{streamOk}
-use Rattle.values.specs.Leaf.{str, width}
-use Rattle.values.specs.Passes.{Checked, Told, firstKind, leftAt}
-use Rattle.values.specs.Rows.{branchesIn, memberTree, treeIn}
-use Rattle.values.specs.Stream.{Token}
-use Rattle.values.specs.Tree.{Tree, leaf, array, struct, Branches, span}
-use Rattle.values.specs.Trees.{isString, structsTree}
-use Rattle.values.specs.Walk.{capacityAt, isNested}
-use Rattle.values.specs.Walkable.{IsString, NestedRow, Walkable}
-use Rattle.values.specs.Writing.{Outcome, andThen, writeOne, opened, elements, membersIn, write, writeBranch}
-use Rattle.values.proofs.BranchLaws.{string-tree, members-tree}
-use Rattle.values.proofs.LeftLaws.{There, by-kind, few-entries, there}
-use Rattle.values.proofs.MemberLaws.{nested-whole}
-use Rattle.values.proofs.StepLaws.{Onward, checked-as, onward-on, onward-then, refused-then}
-use Rattle.values.proofs.StepLaws.{opened-keeps, opened-goes, opened-refuses}
-use Rattle.values.proofs.StepLaws.{elements-missing, elements-closes, elements-refuse, elements-go}
+use Rattle.types.specs.tables.Lent.{memberAt, typeAt}
+use Rattle.types.specs.tables.Sizes.{sizesIn}
+use Rattle.types.specs.declared.tables.member.Member.{Member}
+use Rattle.types.specs.declared.tables.member.StructDef.{StructDef}
+use Rattle.types.specs.declared.tables.member.Ty.the-variants as ty
+use Rattle.values.specs.inside.reading.Walk.{isNested}
+use Rattle.values.specs.inside.reading.Walkable.{IsString, NestedRow, Walkable}
+use Rattle.values.specs.inside.writing.Passes.{Checked, WellFormed, firstKind, leftAt}
+use Rattle.values.specs.inside.writing.Rows.{branchesIn, memberTree, treeIn}
+use Rattle.values.specs.reading.Leaf.{str, width}
+use Rattle.values.specs.reading.Texts.{capacityAt}
+use Rattle.values.specs.reading.Tree.{Tree, leaf, array, struct, Branches, span}
+use Rattle.values.specs.reading.Trees.{isString, structsTree}
+use Rattle.values.specs.stream.Form.{streamOk}
+use Rattle.values.specs.stream.Stream.{Token}
+use Rattle.values.specs.writing.Effects.{asText, orNull}
+use Rattle.values.specs.writing.Writing.{Outcome, andThen, writeOne, opened, elements, membersIn, write}
+use Rattle.values.specs.writing.Writing.{writeBranch}
+use Rattle.values.proofs.reading.MemberLaws.{nested-whole}
+use Rattle.values.proofs.stream.LeftLaws.{There, by-kind, few-entries, there}
+use Rattle.values.proofs.writing.BranchLaws.{string-tree, members-tree}
+use Rattle.values.proofs.writing.StepLaws.{Onward, checked-as, onward-on, onward-then, refused-then}
+use Rattle.values.proofs.writing.StepLaws.{opened-keeps, opened-goes, opened-refuses}
+use Rattle.values.proofs.writing.StepLaws.{elements-missing, elements-closes, elements-refuse, elements-go}
 
 -- a stream has fewer than 2^28 entries
-pub entry-small : {s : List ℕ} {n k : ℕ} → Told s n → k ≤ n → k < 2 ^ 28
+pub entry-small : {s : List ℕ} {n k : ℕ} → WellFormed s n → k ≤ n → k < 2 ^ 28
 entry-small {s} told l = omega (arith, told .count, few-entries s (told .form))
 
 pub checked-earlier : {s : List ℕ} {k p r : ℕ} {f : Bits → Outcome} → k ≤ p → Checked s p r f → Checked s k r f
@@ -152,7 +154,7 @@ array-is : (n : ℕ) (tree : Tree) (q : ℕ) (ts : List Token) (z : Bits)
 unfolding write
 array-is n tree q ts z = refl
 
-module _ {s : List ℕ} {n k start : ℕ} (told : Told s n) (is : start ≡ firstKind (leftAt s k)) where
+module _ {s : List ℕ} {n k start : ℕ} (told : WellFormed s n) (is : start ≡ firstKind (leftAt s k)) where
   pub struct-null : (size : ℕ) (bs : Branches) → start ≡ 0 → (q : ℕ)
       → Checked s k (k + 1) (write (struct size bs) q (leftAt s k))
   struct-null size bs e q =
@@ -183,7 +185,7 @@ module _ {s : List ℕ} {n k start : ℕ} (told : Told s n) (is : start ≡ firs
 -- ---- the elements of an array of structures: e of them are checked, up to entry p
 
 pub record Elements (types members : List ℕ) (i count : ℕ) (s : List ℕ) (n k p e : ℕ) : Type 0 where
-  pub told : Told s n
+  pub told : WellFormed s n
   pub walk : Walkable types members
   pub low : i < 200
   pub rest : ℕ
@@ -192,7 +194,7 @@ pub record Elements (types members : List ℕ) (i count : ℕ) (s : List ℕ) (n
   pub left : (q : ℕ) → Onward s k (write (array count (treeIn types members i)) q (leftAt s k)) p
       (elements rest (write (treeIn types members i)) (span (treeIn types members i)) (place q) (leftAt s p))
 
-pub elements-start : {types members : List ℕ} {i count : ℕ} {s : List ℕ} {n k start : ℕ} → Told s n
+pub elements-start : {types members : List ℕ} {i count : ℕ} {s : List ℕ} {n k start : ℕ} → WellFormed s n
     → Walkable types members → i < 200 → start ≡ firstKind (leftAt s k) → start ≡ 10
     → Elements types members i count s n k (k + 1) 0
 elements-start {types} {members} {i} {count} {s} {n} {k} told w low is e =

@@ -11,25 +11,25 @@ use lib.ListN.{length}
 use borrow.Author.Tests.{lt-ltb, le-ltb}
 use Rattle.words.specs.Bits.{Bits}
 use Rattle.words.specs.Words.{wordAt}
-use Rattle.types.specs.Laid.{firstBit}
-use Rattle.types.specs.Tables.{memberAt, typeAt}
-use Rattle.types.specs.Waste.{sizesIn}
-use Rattle.types.specs.declared.member.Member.{Member}
-use Rattle.types.specs.declared.member.StructDef.{StructDef}
-use Rattle.values.specs.Form.{countIn}
-use Rattle.values.specs.Passes.{Checked, Told, firstKind, leftAt}
-use Rattle.values.specs.Rows.{LeafRow, branchesIn, memberTree, treeIn, visibleRow}
-use Rattle.values.specs.Stream.{Token, kindOf, payloadOf}
-use Rattle.values.specs.Tree.{Tree, struct}
-use Rattle.values.specs.Walk.{isNested}
-use Rattle.values.specs.Walkable.{RowOf, Walkable}
-use Rattle.values.specs.Writing.{Outcome, bad, andThen, membersIn, write, writeBranch}
-use Rattle.values.proofs.BranchLaws.{branch-is, branch-hidden, branch-past}
-use Rattle.values.proofs.CheckLaws.{checked-earlier, inStruct, opened-left, struct-is}
-use Rattle.values.proofs.LeftLaws.{There, kind-there, left-long, there}
-use Rattle.values.proofs.MemberLaws.{row-of}
-use Rattle.values.proofs.StepLaws.{Onward, onward-on, onward-then, refused-then, refuses-at}
-use Rattle.values.proofs.StepLaws.{members-missing, members-closes, members-refuse, members-go}
+use Rattle.types.specs.layout.Laid.{firstBit}
+use Rattle.types.specs.tables.Lent.{memberAt, typeAt}
+use Rattle.types.specs.tables.Sizes.{sizesIn}
+use Rattle.types.specs.declared.tables.member.Member.{Member}
+use Rattle.types.specs.declared.tables.member.StructDef.{StructDef}
+use Rattle.values.specs.inside.reading.Walk.{isNested}
+use Rattle.values.specs.inside.reading.Walkable.{RowOf, Walkable}
+use Rattle.values.specs.inside.writing.Passes.{Checked, WellFormed, firstKind, leftAt}
+use Rattle.values.specs.inside.writing.Rows.{LeafRow, branchesIn, memberTree, treeIn, visibleRow}
+use Rattle.values.specs.reading.Tree.{Tree, struct}
+use Rattle.values.specs.stream.Form.{countIn}
+use Rattle.values.specs.stream.Stream.{Token, kindOf, payloadOf}
+use Rattle.values.specs.writing.Writing.{Outcome, bad, andThen, membersIn, write, writeBranch}
+use Rattle.values.proofs.reading.MemberLaws.{row-of}
+use Rattle.values.proofs.stream.LeftLaws.{There, kind-there, left-long, there}
+use Rattle.values.proofs.writing.BranchLaws.{branch-is, branch-hidden, branch-past}
+use Rattle.values.proofs.writing.StepLaws.{Onward, onward-on, onward-then, refused-then, refuses-at}
+use Rattle.values.proofs.writing.StepLaws.{members-missing, members-closes, members-refuse, members-go}
+use Rattle.values.proofs.writing.checks.CheckLaws.{checked-earlier, inStruct, opened-left, struct-is}
 
 -- ---- the row of a visible member
 
@@ -77,7 +77,7 @@ membersTree types members i = struct (8 * sizesIn types i) (branchesIn types mem
 
 -- `most` is at least the number of the entries that are left
 pub record Members (types members : List ℕ) (i : ℕ) (s : List ℕ) (n k first count p : ℕ) : Type 0 where
-  pub told : Told s n
+  pub told : WellFormed s n
   pub walk : Walkable types members
   pub low : i < 200
   pub first-is : first ≡ typeAt types i .first
@@ -88,7 +88,7 @@ pub record Members (types members : List ℕ) (i : ℕ) (s : List ℕ) (n k firs
       (membersIn (suc most) (writeBranch (branchesIn types members i) q) (leftAt s p))
 
 pub members-start : {types members : List ℕ} {i : ℕ} {s : List ℕ} {n k start first count : ℕ} {d : StructDef}
-    → Told s n → Walkable types members → i < 200 → start ≡ firstKind (leftAt s k) → start ≡ 8
+    → WellFormed s n → Walkable types members → i < 200 → start ≡ firstKind (leftAt s k) → start ≡ 8
     → d ≡ typeAt types i → first ≡ d .first → count ≡ d .count
     → Members types members i s n k first count (k + 1)
 members-start {types} {members} {i} {s} {n} {k} told w low is e d first count =

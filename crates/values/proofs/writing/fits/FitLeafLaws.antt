@@ -7,27 +7,28 @@ use mathlib.Core.Path.{_≡_, refl, sym, ap, _∙_, fun-ext}
 use mathlib.Core.Bool.{true, false, true≢false}
 use mathlib.Core.List.{List}
 use Rattle.words.specs.Bits.{Bits, stamp}
-use Rattle.types.specs.Atomic.{bitString, sizeOf}
-use Rattle.types.specs.declared.atomic.Atomic.{Atomic}
-use Rattle.types.specs.declared.atomic.Atomic.the-variants as atomic
-use Rattle.types.specs.declared.member.Bit.the-variants.{None, At}
-use Rattle.types.specs.declared.member.Member.{Member}
-use Rattle.types.specs.declared.member.Ty.the-variants as ty
-use Rattle.values.specs.Effects.{Effect, atomicTakes, orNull}
-use Rattle.values.specs.Leaf.{flag}
-use Rattle.values.specs.Passes.{Checked, Told, firstKind, leftAt}
-use Rattle.values.specs.Rows.{memberTree, runIn}
-use Rattle.values.specs.Stream.{Token}
-use Rattle.values.specs.Tree.{Tree, leaf}
-use Rattle.values.specs.Trees.{atomicsTree}
-use Rattle.values.specs.Walk.{isNested}
-use Rattle.values.specs.Writing.{boolsIn, elements, noBits, rest, write, writeOne}
-use Rattle.values.proofs.CountLeaves.{size-range}
-use Rattle.values.proofs.FitLaws.{flag-takes}
-use Rattle.values.proofs.LeftLaws.{There, by-kind}
-use Rattle.values.proofs.RunInLaws.{array-is, bits-bools, bits-number, one-is-leaf}
-use Rattle.values.proofs.RunInLaws.{run-bools, run-numbers, run-wholes}
-use Rattle.values.proofs.StepLaws.{checked-as, onward-from, opened-goes, opened-keeps, opened-refuses}
+use Rattle.types.specs.atomics.Atomic.{bitString, sizeOf}
+use Rattle.types.specs.declared.atomics.atomic.Atomic.{Atomic}
+use Rattle.types.specs.declared.atomics.atomic.Atomic.the-variants as atomic
+use Rattle.types.specs.declared.tables.member.Bit.the-variants.{None, At}
+use Rattle.types.specs.declared.tables.member.Member.{Member}
+use Rattle.types.specs.declared.tables.member.Ty.the-variants as ty
+use Rattle.values.specs.inside.reading.Walk.{isNested}
+use Rattle.values.specs.inside.writing.Effects.{atomicTakes}
+use Rattle.values.specs.inside.writing.Passes.{Checked, WellFormed, firstKind, leftAt}
+use Rattle.values.specs.inside.writing.Rows.{memberTree, runIn}
+use Rattle.values.specs.reading.Leaf.{flag}
+use Rattle.values.specs.reading.Tree.{Tree, leaf}
+use Rattle.values.specs.reading.Trees.{atomicsTree}
+use Rattle.values.specs.stream.Stream.{Token}
+use Rattle.values.specs.writing.Effects.{Effect, orNull}
+use Rattle.values.specs.writing.Writing.{boolsIn, elements, noBits, rest, write, writeOne}
+use Rattle.values.proofs.stream.CountLeaves.{size-range}
+use Rattle.values.proofs.stream.LeftLaws.{There, by-kind}
+use Rattle.values.proofs.writing.FitLaws.{flag-takes}
+use Rattle.values.proofs.writing.RunInLaws.{array-is, bits-bools, bits-number, one-is-leaf}
+use Rattle.values.proofs.writing.RunInLaws.{run-bools, run-numbers, run-wholes}
+use Rattle.values.proofs.writing.StepLaws.{checked-as, onward-from, opened-goes, opened-keeps, opened-refuses}
 
 -- what an answer says of one atomic, of an array of them, of what is inside it, and of one or an array
 abbrev pub OneChecked : List ℕ → ℕ → ℕ → Atomic → Type 0
@@ -46,7 +47,7 @@ RunChecked s k r a count = (p : ℕ) → Checked s k r (runIn a count p (leftAt 
 abbrev pub TreeChecked : List ℕ → ℕ → ℕ → Atomic → ℕ → Type 0
 TreeChecked s k r a count = (p : ℕ) → Checked s k r (write (atomicsTree a count) p (leftAt s k))
 
-module _ {s : List ℕ} {n k kind : ℕ} (told : Told s n) (is : kind ≡ firstKind (leftAt s k)) (a : Atomic) where
+module _ {s : List ℕ} {n k kind : ℕ} (told : WellFormed s n) (is : kind ≡ firstKind (leftAt s k)) (a : Atomic) where
   -- ---- one bit string
 
   pub bits-array : {r size : ℕ} → bitString a ≡ true → kind ≡ 10 → size ≡ sizeOf a → BoolsChecked s (k + 1) r size
@@ -100,7 +101,7 @@ module _ {s : List ℕ} {n k kind : ℕ} (told : Told s n) (is : kind ≡ firstK
       (λ h. f (is ∙ h)) g)
 
 -- an opening is an entry
-pub opening : {s : List ℕ} {n kind : ℕ} (k : ℕ) → Told s n → kind ≡ firstKind (leftAt s k) → kind ≡ 10 → k + 1 ≤ n
+pub opening : {s : List ℕ} {n kind : ℕ} (k : ℕ) → WellFormed s n → kind ≡ firstKind (leftAt s k) → kind ≡ 10 → k + 1 ≤ n
 opening {s} k told is e =
     let t : There s k = by-kind s k (told .form) (λ h. let z : ⊥ = omega (arith, h, is, e) in z) in
     omega (arith, t .inside, told .count)

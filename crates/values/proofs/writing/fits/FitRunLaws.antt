@@ -10,24 +10,25 @@ use borrow.Author.Tests.{eq-eqb, ne-eqb}
 use Rattle.words.specs.Bits.{Bits}
 use Rattle.words.specs.Words.{Bytes, wordAt}
 use Rattle.words.proofs.WordLaws.{word-below}
-use Rattle.types.specs.declared.atomic.Atomic.{Atomic}
-use Rattle.values.specs.Effects.{Effect, Judged, set, refused, atomicTakes, ofKind, orNull, payloadBits, taken}
-use Rattle.values.specs.Form.{countIn, streamOk}
-use Rattle.values.specs.Leaf.{flag}
-use Rattle.values.specs.Limits.{limitsOf, misfit}
-use Rattle.values.specs.Passes.{Checked, Told, firstKind, leftAt}
-use Rattle.values.specs.Stream.{Token, kindOf}
-use Rattle.values.specs.Writing.{Outcome, elements, writeOne}
-use Rattle.values.specs.declared.limits.Limits.{Limits}
-use Rattle.values.proofs.FitLaws.{above-misfits, atomic-judged}
-use Rattle.values.proofs.LeftLaws.{There, few-entries, kind-there, there}
-use Rattle.values.proofs.StepLaws.{Onward, onward-start, onward-on, onward-then, refused-then}
-use Rattle.values.proofs.StepLaws.{one-judged, one-refused}
-use Rattle.values.proofs.StepLaws.{elements-missing, elements-closes, elements-refuse, elements-go}
+use Rattle.types.specs.declared.atomics.atomic.Atomic.{Atomic}
+use Rattle.values.specs.inside.writing.Effects.{Judged, set, refused, atomicTakes}
+use Rattle.values.specs.inside.writing.Limits.{limitsOf, misfit}
+use Rattle.values.specs.inside.writing.Passes.{Checked, WellFormed, firstKind, leftAt}
+use Rattle.values.specs.reading.Leaf.{flag}
+use Rattle.values.specs.stream.Form.{countIn, streamOk}
+use Rattle.values.specs.stream.Stream.{Token, kindOf}
+use Rattle.values.specs.writing.Effects.{Effect, ofKind, orNull, payloadBits, taken}
+use Rattle.values.specs.writing.Writing.{Outcome, elements, writeOne}
+use Rattle.values.specs.declared.writing.limits.Limits.{Limits}
+use Rattle.values.proofs.stream.LeftLaws.{There, few-entries, kind-there, there}
+use Rattle.values.proofs.writing.FitLaws.{above-misfits, atomic-judged}
+use Rattle.values.proofs.writing.StepLaws.{Onward, onward-start, onward-on, onward-then, refused-then}
+use Rattle.values.proofs.writing.StepLaws.{one-judged, one-refused}
+use Rattle.values.proofs.writing.StepLaws.{elements-missing, elements-closes, elements-refuse, elements-go}
 
 -- ---- entries of a stream of n
 
-module _ {s : List ℕ} {n : ℕ} (told : Told s n) where
+module _ {s : List ℕ} {n : ℕ} (told : WellFormed s n) where
   pub few : n < 2 ^ 28
   few = omega (arith, few-entries s (told .form), told .count)
 
@@ -45,7 +46,7 @@ AtEnd s n k r =
     (m : ℕ) (one : ℕ → List Token → Bits → Outcome) (w p : ℕ) → (k < n → m ≡ 0)
     → Checked s k r (elements m one w p (leftAt s k))
 
-module _ {s : List ℕ} {n k : ℕ} (told : Told s n) where
+module _ {s : List ℕ} {n k : ℕ} (told : WellFormed s n) where
   pub end-missing : {r : ℕ} → k ≤ n → n ≤ k → r ≡ 2 ^ 32 * 18 + k → AtEnd s n k r
   end-missing a b e m one w p h = elements-missing (told .form) one w m p (omega (arith, told .count)) e
 
@@ -71,7 +72,7 @@ pub record Walked (s : List ℕ) (takes : Token → Effect) (count k q : ℕ) : 
 abbrev pub Answers : List ℕ → (Token → Effect) → ℕ → ℕ → ℕ → Type 0
 Answers s takes count k r = (w p : ℕ) → Checked s k r (elements count (writeOne takes w) w p (leftAt s k))
 
-pub walked-start : {s : List ℕ} {n k : ℕ} (takes : Token → Effect) (count : ℕ) → Told s n → k ≤ n
+pub walked-start : {s : List ℕ} {n k : ℕ} (takes : Token → Effect) (count : ℕ) → WellFormed s n → k ≤ n
     → Walked s takes count k k
 walked-start {s} {n} {k} takes count told l =
     let inside : k ≤ countIn s = omega (arith, told .count) in
@@ -84,7 +85,7 @@ walked-start {s} {n} {k} takes count told l =
     }
 
 -- after the last
-pub walked-done : {s : List ℕ} {takes : Token → Effect} {n count k last q r : ℕ} → Told s n → Walked s takes count k q
+pub walked-done : {s : List ℕ} {takes : Token → Effect} {n count k last q r : ℕ} → WellFormed s n → Walked s takes count k q
     → last ≡ min n (k + count) → last ≤ q → AtEnd s n q r → Answers s takes count k r
 walked-done {s} {takes} {n} {count} {k} {last} {q} {r} told walked e l end w p =
     walked .left w p .onward r
@@ -92,7 +93,7 @@ walked-done {s} {takes} {n} {count} {k} {last} {q} {r} told walked e l end w p =
 
 -- an entry before the last
 pub record Next (s : List ℕ) (takes : Token → Effect) (n count k last q kind : ℕ) : Type 0 where
-  pub told : Told s n
+  pub told : WellFormed s n
   pub walked : Walked s takes count k q
   pub ends : last ≡ min n (k + count)
   pub before : q < last

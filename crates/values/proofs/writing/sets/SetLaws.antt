@@ -16,22 +16,23 @@ use Rattle.words.specs.Bits.{Bits, bitOf, flat, stamp}
 use Rattle.words.specs.Words.{bytesOf, part}
 use Rattle.words.proofs.Lists.{sets-append}
 use Rattle.words.proofs.WordLaws.{bytes-low, length-bytes}
-use Rattle.types.specs.Atomic.{sizeOf}
-use Rattle.types.specs.declared.atomic.Atomic.{Atomic}
-use Rattle.types.specs.declared.atomic.Atomic.the-variants as atomic
-use Rattle.values.specs.Effects.{Effect, put, refuse, payloadBits, ofKind, textBits, asText, taken}
-use Rattle.values.specs.Effects.{atomicTakes, orNull}
-use Rattle.values.specs.Form.{baseIn}
-use Rattle.values.specs.Leaf.{flag}
-use Rattle.values.specs.Passes.{Applied, accepted, firstKind, leftAt}
-use Rattle.values.specs.Rows.{Width}
-use Rattle.values.specs.Stream.{Token, kindOf, payloadOf, bodyOf}
-use Rattle.values.specs.Writing.{onEffect, writeOne}
-use Rattle.values.proofs.ApplyLaws.{accepted-as, applied-keeps, applied-one, not-accepted}
-use Rattle.values.proofs.FitLaws.{above-refused, atomic-sets, not-null, null-keeps}
-use Rattle.values.proofs.LeftLaws.{There, TextThere, kind-there, payloadAt}
-use Rattle.values.proofs.OutcomeLaws.{one-is}
-use Rattle.values.proofs.StampLaws.{bit-first, flat-sets, flat-word, stamp-ext}
+use Rattle.types.specs.atomics.Atomic.{sizeOf}
+use Rattle.types.specs.declared.atomics.atomic.Atomic.{Atomic}
+use Rattle.types.specs.declared.atomics.atomic.Atomic.the-variants as atomic
+use Rattle.values.specs.inside.writing.Effects.{atomicTakes}
+use Rattle.values.specs.inside.writing.Passes.{Applied, accepted, firstKind, leftAt}
+use Rattle.values.specs.inside.writing.Rows.{Width}
+use Rattle.values.specs.reading.Leaf.{flag}
+use Rattle.values.specs.stream.Form.{baseIn}
+use Rattle.values.specs.stream.Stream.{Token, kindOf, payloadOf, bodyOf}
+use Rattle.values.specs.writing.Effects.{Effect, put, refuse, payloadBits, ofKind, textBits, asText, taken}
+use Rattle.values.specs.writing.Effects.{orNull}
+use Rattle.values.specs.writing.Writing.{onEffect, writeOne}
+use Rattle.values.proofs.stream.LeftLaws.{There, TextThere, kind-there, payloadAt}
+use Rattle.values.proofs.writing.ApplyLaws.{accepted-as, applied-keeps, applied-one, not-accepted}
+use Rattle.values.proofs.writing.FitLaws.{above-refused, atomic-sets, not-null, null-keeps}
+use Rattle.values.proofs.writing.OutcomeLaws.{one-is}
+use Rattle.values.proofs.writing.StampLaws.{bit-first, flat-sets, flat-word, stamp-ext}
 
 -- ---- the low bytes of a number
 

@@ -7,24 +7,24 @@ use mathlib.Core.Bool.{false, true≢false}
 use mathlib.Core.List.{List}
 use lib.ListN.{length}
 use Rattle.words.specs.Bits.{Bits}
-use Rattle.types.specs.Atomic.{sizeOf}
-use Rattle.types.specs.Laid.{firstBit, firstIn}
-use Rattle.types.specs.Layout.{times}
-use Rattle.types.specs.Tables.{memberAt}
-use Rattle.types.specs.declared.atomic.Atomic.{Atomic}
-use Rattle.types.specs.declared.member.Bit.{Bit}
-use Rattle.types.specs.declared.member.Bit.the-variants.{None, At}
-use Rattle.types.specs.declared.member.Member.{Member}
-use Rattle.types.specs.declared.member.Ty.the-variants as ty
-use Rattle.values.specs.Effects.{orNull, taken}
-use Rattle.values.specs.Leaf.{flag}
-use Rattle.values.specs.Rows.{LeafRow, MemberHere, memberTree}
-use Rattle.values.specs.Stream.{Token}
-use Rattle.values.specs.Tree.{Tree}
-use Rattle.values.specs.Trees.{atomicsTree}
-use Rattle.values.specs.Walk.{isNested}
-use Rattle.values.specs.Writing.{write, writeOne}
-use Rattle.values.proofs.LeafLaws.{row-bit}
+use Rattle.types.specs.atomics.Atomic.{sizeOf}
+use Rattle.types.specs.layout.Laid.{firstBit, firstIn}
+use Rattle.types.specs.layout.Placing.{times}
+use Rattle.types.specs.tables.Lent.{memberAt}
+use Rattle.types.specs.declared.atomics.atomic.Atomic.{Atomic}
+use Rattle.types.specs.declared.tables.member.Bit.{Bit}
+use Rattle.types.specs.declared.tables.member.Bit.the-variants.{None, At}
+use Rattle.types.specs.declared.tables.member.Member.{Member}
+use Rattle.types.specs.declared.tables.member.Ty.the-variants as ty
+use Rattle.values.specs.inside.reading.Walk.{isNested}
+use Rattle.values.specs.inside.writing.Rows.{LeafRow, MemberHere, memberTree}
+use Rattle.values.specs.reading.Leaf.{flag}
+use Rattle.values.specs.reading.Tree.{Tree}
+use Rattle.values.specs.reading.Trees.{atomicsTree}
+use Rattle.values.specs.stream.Stream.{Token}
+use Rattle.values.specs.writing.Effects.{orNull, taken}
+use Rattle.values.specs.writing.Writing.{write, writeOne}
+use Rattle.values.proofs.reading.LeafLaws.{row-bit}
 
 -- the member of a row was read, with its place and its count
 pub record LeafHere (members : List ℕ) (row base : ℕ) (image : List ℕ) (m : Member) (from n : ℕ) : Type 0 where

@@ -12,28 +12,30 @@ use lib.Seq.{sets, length-sets}
 use Rattle.words.specs.Bits.{Bits, bitOf, flat, stamp}
 use Rattle.words.specs.Words.{bytesOf}
 use Rattle.words.proofs.BitLaws.{bit-none}
-use Rattle.types.specs.Atomic.{bitString, sizeOf}
-use Rattle.types.specs.Layout.{times}
-use Rattle.types.specs.declared.atomic.Atomic.{Atomic}
-use Rattle.types.proofs.LayoutLaws.{times-one, times-same}
-use Rattle.values.specs.Bools.{Bools}
-use Rattle.values.specs.Effects.{atomicTakes, orNull}
-use Rattle.values.specs.Form.{countIn, streamOk}
-use Rattle.values.specs.Passes.{Applied, accepted, firstKind, leftAt}
-use Rattle.values.specs.Rows.{runIn}
-use Rattle.values.specs.Stream.{Token}
-use Rattle.values.specs.Trees.{atomicsTree}
-use Rattle.values.specs.Writing.{Outcome, andThen, writeOne, elements, boolsIn}
-use Rattle.values.specs.Writing.{noBits, write}
-use Rattle.values.proofs.ApplyLaws.{Setting, accepted-as, accepted-first}
-use Rattle.values.proofs.ApplyLaws.{elements-closed, elements-end, elements-step, elements-there, not-accepted}
-use Rattle.values.proofs.ApplyLaws.{setting-from, setting-on}
-use Rattle.values.proofs.ApplyLaws.{setting-start, setting-then}
-use Rattle.values.proofs.LeftLaws.{There, kind-none, none-left, payloadAt, there}
-use Rattle.values.proofs.OutcomeLaws.{elements-none, one-none}
-use Rattle.values.proofs.RunInLaws.{bits-bools, bits-number, run-wholes}
-use Rattle.values.proofs.SetLaws.{atomic-set, one-kept}
-use Rattle.values.proofs.StampLaws.{flat-word, stamp-ext}
+use Rattle.types.specs.atomics.Atomic.{bitString, sizeOf}
+use Rattle.types.specs.layout.Placing.{times}
+use Rattle.types.specs.declared.atomics.atomic.Atomic.{Atomic}
+use Rattle.types.proofs.Face.{times-one, times-same}
+use Rattle.values.specs.inside.writing.Bools.{Bools}
+use Rattle.values.specs.inside.writing.Effects.{atomicTakes}
+use Rattle.values.specs.inside.writing.Passes.{Applied, accepted, firstKind, leftAt}
+use Rattle.values.specs.inside.writing.Rows.{runIn}
+use Rattle.values.specs.reading.Trees.{atomicsTree}
+use Rattle.values.specs.stream.Form.{countIn, streamOk}
+use Rattle.values.specs.stream.Stream.{Token}
+use Rattle.values.specs.writing.Effects.{orNull}
+use Rattle.values.specs.writing.Writing.{Outcome, andThen, writeOne, elements, boolsIn}
+use Rattle.values.specs.writing.Writing.{noBits, write}
+use Rattle.values.proofs.stream.LeftLaws.{There, kind-none, none-left, payloadAt, there}
+use Rattle.values.proofs.writing.ApplyLaws.{Setting, accepted-as, accepted-first}
+use Rattle.values.proofs.writing.ApplyLaws.{elements-closed, elements-end, elements-step, elements-there}
+use Rattle.values.proofs.writing.ApplyLaws.{not-accepted}
+use Rattle.values.proofs.writing.ApplyLaws.{setting-from, setting-on}
+use Rattle.values.proofs.writing.ApplyLaws.{setting-start, setting-then}
+use Rattle.values.proofs.writing.OutcomeLaws.{elements-none, one-none}
+use Rattle.values.proofs.writing.RunInLaws.{bits-bools, bits-number, run-wholes}
+use Rattle.values.proofs.writing.StampLaws.{flat-word, stamp-ext}
+use Rattle.values.proofs.writing.sets.SetLaws.{atomic-set, one-kept}
 
 -- ---- one entry
 

@@ -2,18 +2,18 @@
 -- structure's BOOLs are kept aside, its other visible members are made normal in their order and all between them is
 -- cleared, and the BOOLs are put back.
 use Prim.Native.Nat.{ℕ, zero, suc, _+_, _-_, _*_, _<_, _≤_}
-use mathlib.Core.Path.{_≡_}
 use mathlib.Core.Bool.{Bool, true, false, cond, not}
 use mathlib.Core.List.{List, [], _∷_}
+use mathlib.Core.Path.{_≡_}
 use Rattle.words.specs.Bits.{Bits, flat, from, inside, stamp}
-use Rattle.types.specs.Laid.{firstBit, hasBit}
-use Rattle.types.specs.Tables.{memberAt}
-use Rattle.types.specs.declared.member.Member.{Member}
-use Rattle.values.specs.Normal.{normal}
-use Rattle.values.specs.Rows.{MemberHere, memberTree}
-use Rattle.values.specs.Tree.{Tree, items, span}
-use Rattle.values.specs.Walkable.{RowOf}
-use Rattle.values.specs.Writing.{noBits}
+use Rattle.types.specs.layout.Laid.{firstBit, hasBit}
+use Rattle.types.specs.tables.Lent.{memberAt}
+use Rattle.types.specs.declared.tables.member.Member.{Member}
+use Rattle.values.specs.inside.reading.Walkable.{RowOf}
+use Rattle.values.specs.inside.writing.Rows.{MemberHere, memberTree}
+use Rattle.values.specs.normal_image.Normal.{normal}
+use Rattle.values.specs.reading.Tree.{Tree, items, span}
+use Rattle.values.specs.writing.Writing.{noBits}
 
 -- ---- bits
 

@@ -4,16 +4,16 @@ use Prim.Native.Nat.{ℕ, suc, _+_, _*_, _<_, _≤_}
 use mathlib.Core.Bool.{Bool, true, false}
 use mathlib.Core.List.{List, [], _∷_}
 use mathlib.Core.Logic.{_⊎_}
-use Rattle.types.specs.Laid.{firstBit}
-use Rattle.types.specs.Tables.{typeAt}
-use Rattle.types.specs.Waste.{sizesIn}
-use Rattle.types.specs.declared.member.Member.{Member}
-use Rattle.values.specs.InPlace.{isPlain, pastTree}
-use Rattle.values.specs.Leaf.{Leaf, flag, byte, int, word, str}
-use Rattle.values.specs.Rows.{memberTree, treeIn}
-use Rattle.values.specs.Tree.{Tree, leaf, bits, array, struct, Branches, none, branch, span}
-use Rattle.values.specs.Trees.{membersAt}
-use Rattle.values.specs.Walkable.{Walkable}
+use Rattle.types.specs.layout.Laid.{firstBit}
+use Rattle.types.specs.tables.Lent.{typeAt}
+use Rattle.types.specs.tables.Sizes.{sizesIn}
+use Rattle.types.specs.declared.tables.member.Member.{Member}
+use Rattle.values.specs.inside.normal_image.InPlace.{isPlain, pastTree}
+use Rattle.values.specs.inside.reading.Walkable.{Walkable}
+use Rattle.values.specs.inside.writing.Rows.{memberTree, treeIn}
+use Rattle.values.specs.reading.Leaf.{Leaf, flag, byte, int, word, str}
+use Rattle.values.specs.reading.Tree.{Tree, leaf, bits, array, struct, Branches, none, branch, span}
+use Rattle.values.specs.reading.Trees.{membersAt}
 
 -- ---- trees
 

@@ -1,15 +1,15 @@
 -- Numbers as the code widens them (document 01, "Reading"): the kind, the first negative number and what then stands
 -- above it, for each atomic but BOOL. That it is what the atomic's leaf gives is one law over the width.
 use Prim.Native.Nat.{ℕ, _+_, _*_, _≤_}
-use mathlib.Core.Path.{_≡_}
 use mathlib.Core.Bool.{cond}
 use mathlib.Core.List.{List}
+use mathlib.Core.Path.{_≡_}
 use lib.Dec.{ltb}
 use lib.ListN.{length}
-use Rattle.types.specs.Atomic.{sizeOf}
-use Rattle.types.specs.declared.atomic.Atomic.{Atomic}
-use Rattle.types.specs.declared.atomic.Atomic.the-variants as atomic
-use Rattle.values.specs.declared.numbers.Form.{Form}
+use Rattle.types.specs.atomics.Atomic.{sizeOf}
+use Rattle.types.specs.declared.atomics.atomic.Atomic.{Atomic}
+use Rattle.types.specs.declared.atomics.atomic.Atomic.the-variants as atomic
+use Rattle.values.specs.declared.reading.numbers.Form.{Form}
 
 abbrev pub plainForm : ℕ → Form
 plainForm kind = record { kind = kind; half = 0; fill = 0 }
@@ -39,7 +39,7 @@ unfoldable pub extended : Form → ℕ → ℕ
 extended f x = cond (ltb x (f .half)) x (x + f .fill)
 
 -- n numbers of w bytes each, in some bytes
-pub record Run (a : Atomic) (w n : ℕ) (s : List ℕ) : Type 0 where
+pub record NumberRun (a : Atomic) (w n : ℕ) (s : List ℕ) : Type 0 where
   pub number : a ≡ atomic.Bool → ⊥
   pub size : sizeOf a ≡ w
   pub long : w * n ≤ length s

@@ -6,19 +6,20 @@ use mathlib.Core.List.{List, [], _∷_, _++_}
 use lib.Dec.{eqb}
 use Rattle.words.specs.Bits.{flat}
 use Rattle.words.specs.Words.{part}
-use Rattle.types.specs.Atomic.{bitString, sizeOf}
-use Rattle.types.specs.Layout.{times}
-use Rattle.types.specs.Tables.{memberAt, typeAt}
-use Rattle.types.specs.Waste.{sizeIn, sizesIn}
-use Rattle.types.specs.declared.atomic.Atomic.{Atomic}
-use Rattle.types.specs.declared.member.Bit.{Bit}
-use Rattle.types.specs.declared.member.Bit.the-variants.{None, At}
-use Rattle.types.specs.declared.member.Member.{Member}
-use Rattle.types.specs.declared.member.Ty.{Ty}
-use Rattle.types.specs.declared.member.Ty.the-variants as ty
-use Rattle.values.specs.Leaf.{clipped, emit, leafOf}
-use Rattle.values.specs.Stream.{Token, bool, text, member, mark}
-use Rattle.values.specs.Trees.{isString}
+use Rattle.types.specs.atomics.Atomic.{bitString, sizeOf}
+use Rattle.types.specs.layout.Placing.{times}
+use Rattle.types.specs.tables.Lent.{memberAt, typeAt}
+use Rattle.types.specs.tables.Sizes.{sizeIn, sizesIn}
+use Rattle.types.specs.declared.atomics.atomic.Atomic.{Atomic}
+use Rattle.types.specs.declared.tables.member.Bit.{Bit}
+use Rattle.types.specs.declared.tables.member.Bit.the-variants.{None, At}
+use Rattle.types.specs.declared.tables.member.Member.{Member}
+use Rattle.types.specs.declared.tables.member.Ty.{Ty}
+use Rattle.types.specs.declared.tables.member.Ty.the-variants as ty
+use Rattle.values.specs.reading.Leaf.{emit, leafOf}
+use Rattle.values.specs.reading.Texts.{textIn, capacityAt}
+use Rattle.values.specs.reading.Trees.{isString}
+use Rattle.values.specs.stream.Stream.{Token, bool, text, member, mark}
 
 -- g 0, and so on up to g (n - 1)
 unfoldable pub upTo : (ℕ → List Token) → ℕ → List Token
@@ -57,18 +58,8 @@ atomicsOut a n image =
 
 -- ---- strings
 
-abbrev pub textLength : ℕ → List ℕ → ℕ
-textLength capacity image = clipped capacity (flat image)
-
-abbrev pub textIn : ℕ → List ℕ → List ℕ
-textIn capacity image = part image 4 (textLength capacity image)
-
 abbrev pub textOut : ℕ → List ℕ → List Token
 textOut capacity image = text (textIn capacity image) ∷ []
-
--- the capacity of a string whose members begin at a row
-abbrev pub capacityAt : List ℕ → ℕ → ℕ
-capacityAt members first = memberAt members (first + 1) .count
 
 -- ---- structures
 

@@ -2,19 +2,21 @@
 -- members names an earlier type and lies inside it, and a string is LEN and DATA. Tables as our own calls left them are
 -- so.
 use Prim.Native.Nat.{ℕ, _+_, _*_, _/_, _^_, _<_, _≤_}
-use mathlib.Core.Path.{_≡_}
 use mathlib.Core.Bool.{true}
 use mathlib.Core.List.{List}
+use mathlib.Core.Path.{_≡_}
 use lib.ListN.{length}
-use Rattle.types.specs.Laid.{Earlier, pastBit}
-use Rattle.types.specs.Layout.{times}
-use Rattle.types.specs.Tables.{TyFits, memberAt, typeAt}
-use Rattle.types.specs.Waste.{sizeIn, sizesIn}
-use Rattle.types.specs.declared.member.Member.{Member}
-use Rattle.types.specs.declared.member.StructDef.{StructDef}
-use Rattle.types.specs.declared.member.Ty.{Ty}
-use Rattle.values.specs.Trees.{isString}
-use Rattle.values.specs.Walk.{capacityAt, isNested}
+use Rattle.types.specs.inside.tables.Lent.{TyFits}
+use Rattle.types.specs.layout.Laid.{Earlier, pastBit}
+use Rattle.types.specs.layout.Placing.{times}
+use Rattle.types.specs.tables.Lent.{memberAt, typeAt}
+use Rattle.types.specs.tables.Sizes.{sizeIn, sizesIn}
+use Rattle.types.specs.declared.tables.member.Member.{Member}
+use Rattle.types.specs.declared.tables.member.StructDef.{StructDef}
+use Rattle.types.specs.declared.tables.member.Ty.{Ty}
+use Rattle.values.specs.inside.reading.Walk.{isNested}
+use Rattle.values.specs.reading.Texts.{capacityAt}
+use Rattle.values.specs.reading.Trees.{isString}
 
 -- a member of structure i, of so many bytes
 pub record Within (types : List ℕ) (i size : ℕ) (m : Member) : Type 0 where

@@ -1,11 +1,11 @@
 -- How many entries and bytes of text a value has (document 01, "Value stream"): what the counts promise within the room
 -- that there is. The entries depend on the type alone.
 use Prim.Native.Nat.{ℕ, _+_, _^_, _≤_, _<_}
-use mathlib.Core.Path.{_≡_}
 use mathlib.Core.Bool.{Bool, false}
 use mathlib.Core.List.{List, []}
+use mathlib.Core.Path.{_≡_}
 use lib.ListN.{length}
-use Rattle.values.specs.Stream.{Token, bodies}
+use Rattle.values.specs.stream.Stream.{Token, bodies}
 
 -- the entries of what any image gives, counted on from a number: exact where the sum is at most `most`, else both are
 -- above it; that none is a text, where none was met
@@ -16,7 +16,7 @@ pub record Counted (most from : ℕ) (f : List ℕ → List Token) (before after
   pub still : after ≡ false → before ≡ false
 
 -- entries of which none is a text: as many for any image
-pub record Plain (f : List ℕ → List Token) (r : ℕ) : Type 0 where
+pub record TextFree (f : List ℕ → List Token) (r : ℕ) : Type 0 where
   pub exact : (image : List ℕ) → length (f image) ≡ r
   pub plain : (image : List ℕ) → bodies (f image) ≡ []
 

@@ -1,12 +1,12 @@
 -- Entries and their texts laid into a buffer (document 01, "Value stream"): where they go, that there is room for them,
 -- and what then stands in the buffer.
 use Prim.Native.Nat.{ℕ, _+_, _*_, _≤_}
-use mathlib.Core.Path.{_≡_}
 use mathlib.Core.List.{List}
+use mathlib.Core.Path.{_≡_}
 use lib.ListN.{length}
 use lib.Seq.{sets}
-use Rattle.values.specs.Stream.{Token, heads, bodies, mostBytes}
-use Rattle.values.specs.declared.place.Place.{Place}
+use Rattle.values.specs.stream.Stream.{Token, heads, bodies, mostBytes}
+use Rattle.values.specs.declared.stream.place.Place.{Place}
 
 -- entries without a text, from a place on; where the next one goes
 pub record Put (out : List ℕ) (at : ℕ) (ts : List Token) (new : List ℕ) (r : ℕ) : Type 0 where
@@ -14,8 +14,8 @@ pub record Put (out : List ℕ) (at : ℕ) (ts : List Token) (new : List ℕ) (r
   pub bytes : new ≡ sets out at (heads 0 ts)
 
 -- entries from a place on, and their texts from the base on, after those that are there
-unfoldable pub laid : List ℕ → ℕ → ℕ → ℕ → List Token → List ℕ
-laid out base at text ts = sets (sets out at (heads text ts)) (base + text) (bodies ts)
+unfoldable pub laidIn : List ℕ → ℕ → ℕ → ℕ → List Token → List ℕ
+laidIn out base at text ts = sets (sets out at (heads text ts)) (base + text) (bodies ts)
 
 -- the entries fit between their place and the base, and their texts after the base
 pub record Room (long base at text : ℕ) (ts : List Token) : Type 0 where
@@ -26,4 +26,4 @@ pub record Room (long base at text : ℕ) (ts : List Token) : Type 0 where
 pub record Wrote (out : List ℕ) (base at text : ℕ) (ts : List Token) (new : List ℕ) (p : Place) : Type 0 where
   pub entries : p .at ≡ at + 12 * length ts
   pub texts : p .text ≡ text + length (bodies ts)
-  pub bytes : new ≡ laid out base at text ts
+  pub bytes : new ≡ laidIn out base at text ts

@@ -4,9 +4,9 @@
 use Prim.Native.Nat.{ℕ}
 use mathlib.Core.Bool.{cond}
 use lib.Dec.{eqb, leb, ltb}
-use Rattle.types.specs.declared.atomic.Atomic.{Atomic}
-use Rattle.types.specs.declared.atomic.Atomic.the-variants as atomic
-use Rattle.values.specs.declared.limits.Limits.{Limits}
+use Rattle.types.specs.declared.atomics.atomic.Atomic.{Atomic}
+use Rattle.types.specs.declared.atomics.atomic.Atomic.the-variants as atomic
+use Rattle.values.specs.declared.writing.limits.Limits.{Limits}
 
 abbrev pub oneKind : ℕ → Limits
 oneKind kind = record { kind = kind; under = 0; most = 0 }

@@ -1,15 +1,15 @@
 -- What the two passes of a write answer (document 01, "Writing"): the check, which touches no image, and then the pass
 -- that sets. Both answer the number of the next entry; the check else a refusal: its number above 32 bits, its place.
 use Prim.Native.Nat.{ℕ, _-_, _/_, _%_, _^_, _<_, _≤_}
-use mathlib.Core.Path.{_≡_}
 use mathlib.Core.Bool.{Bool, true, false}
 use mathlib.Core.List.{List, [], _∷_}
+use mathlib.Core.Path.{_≡_}
 use lib.ListN.{length}
 use Rattle.words.specs.Bits.{Bits, flat}
-use Rattle.values.specs.Decode.{tokensFrom}
-use Rattle.values.specs.Form.{baseIn, countIn, streamOk}
-use Rattle.values.specs.Stream.{Token, kindOf}
-use Rattle.values.specs.Writing.{Outcome, ok, bad}
+use Rattle.values.specs.stream.Decode.{tokensFrom}
+use Rattle.values.specs.stream.Form.{baseIn, countIn, streamOk}
+use Rattle.values.specs.stream.Stream.{Token, kindOf}
+use Rattle.values.specs.writing.Writing.{Outcome, ok, bad}
 
 -- the entries of a stream from number k on
 unfoldable pub leftAt : List ℕ → ℕ → List Token
@@ -21,7 +21,7 @@ firstKind [] = 12
 firstKind (t ∷ ts) = kindOf t
 
 -- a stream whose form is good, of n entries
-pub record Told (s : List ℕ) (n : ℕ) : Type 0 where
+pub record WellFormed (s : List ℕ) (n : ℕ) : Type 0 where
   pub form : streamOk s ≡ true
   pub count : n ≡ countIn s
 

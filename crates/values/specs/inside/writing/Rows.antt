@@ -1,25 +1,26 @@
 -- What the passes of a write ask of the tables' rows (document 01, "Writing"): a member by its number, the tree of a
 -- member, and what stands inside an array of atomics.
 use Prim.Native.Nat.{ℕ, _+_, _*_, _<_, _≤_}
-use mathlib.Core.Path.{_≡_}
 use mathlib.Core.Bool.{false, cond}
 use mathlib.Core.List.{List}
 use mathlib.Core.Logic.{_⊎_}
+use mathlib.Core.Path.{_≡_}
 use lib.Dec.{ltb}
 use lib.ListN.{length}
 use Rattle.words.specs.Bits.{Bits}
-use Rattle.types.specs.Atomic.{bitString, sizeOf}
-use Rattle.types.specs.Laid.{pastBit}
-use Rattle.types.specs.Tables.{memberAt, typeAt}
-use Rattle.types.specs.Waste.{sizesIn}
-use Rattle.types.specs.declared.atomic.Atomic.{Atomic}
-use Rattle.types.specs.declared.member.Member.{Member}
-use Rattle.values.specs.Effects.{atomicTakes, orNull}
-use Rattle.values.specs.Stream.{Token}
-use Rattle.values.specs.Tree.{Tree, Branches}
-use Rattle.values.specs.Trees.{bitTree, branchesFrom, knownIn, membersAt, treeOf, valueTree}
-use Rattle.values.specs.Walk.{isNested}
-use Rattle.values.specs.Writing.{Outcome, boolsIn, elements, firstIs, writeOne}
+use Rattle.types.specs.atomics.Atomic.{bitString, sizeOf}
+use Rattle.types.specs.layout.Laid.{pastBit}
+use Rattle.types.specs.tables.Lent.{memberAt, typeAt}
+use Rattle.types.specs.tables.Sizes.{sizesIn}
+use Rattle.types.specs.declared.atomics.atomic.Atomic.{Atomic}
+use Rattle.types.specs.declared.tables.member.Member.{Member}
+use Rattle.values.specs.inside.reading.Walk.{isNested}
+use Rattle.values.specs.inside.writing.Effects.{atomicTakes}
+use Rattle.values.specs.reading.Tree.{Tree, Branches}
+use Rattle.values.specs.reading.Trees.{bitTree, branchesFrom, knownIn, membersAt, treeOf, valueTree}
+use Rattle.values.specs.stream.Stream.{Token}
+use Rattle.values.specs.writing.Effects.{orNull}
+use Rattle.values.specs.writing.Writing.{Outcome, boolsIn, elements, firstIs, writeOne}
 
 -- the tree of structure i, and its branches
 abbrev pub treeIn : List ℕ → List ℕ → ℕ → Tree

@@ -2,17 +2,18 @@
 use borrow.Author.Needs.{needs}
 use mathlib.Core.List.{List}
 use mathlib.Core.Path.{_≡_, sym, _∙_}
-use Rattle.types.specs.declared.layout.Decl.{Decl}
-use Rattle.types.specs.Add.{addEntry, addFresh, hasId}
-use Rattle.types.specs.Ids.{idFor}
-use Rattle.types.specs.Lookup.{typeAmong}
-use Rattle.types.specs.Registry.{viewIn}
-use Rattle.types.proofs.AddStoreLaws.{took-no, took-so}
-use Rattle.types.proofs.AddTypeLaws.{entry-bad, entry-known, entry-fresh}
-use Rattle.types.proofs.AddTypeLaws.{fresh-free, fresh-outside, fresh-used, fresh-none}
-use Rattle.types.proofs.NameLaws.{name-rule}
-use Rattle.types.proofs.add.add_entry.Statement.{statement}
-use Rattle.types.proofs.add.add_entry.Tie as tie
+use Rattle.types.specs.adding.Add.{addEntry, addFresh}
+use Rattle.types.specs.adding.Ids.{idFor}
+use Rattle.types.specs.atomics.Lookup.{typeAmong}
+use Rattle.types.specs.book.Contents.{hasId}
+use Rattle.types.specs.inside.tables.Registry.{viewIn}
+use Rattle.types.specs.declared.layout.placing.Decl.{Decl}
+use Rattle.types.proofs.adding.AddStoreLaws.{took-no, took-so}
+use Rattle.types.proofs.adding.AddTypeLaws.{entry-bad, entry-known, entry-fresh}
+use Rattle.types.proofs.adding.AddTypeLaws.{fresh-free, fresh-outside, fresh-used, fresh-none}
+use Rattle.types.proofs.book.NameLaws.{name-rule}
+use Rattle.types.proofs.adding.add.add_entry.Statement.{statement}
+use Rattle.types.proofs.adding.add.add_entry.Tie as tie
 
 good-name-requires : tie.Need-good-name-requires
 good-name-requires c κs = search needs

@@ -1,9 +1,9 @@
 -- `types::add_members` meets its contract: each way out of the checks, then the layout.
 use borrow.Author.Needs.{needs}
-use Rattle.types.proofs.AddStoreLaws.{took-no, took-so}
-use Rattle.types.proofs.AddTypeLaws.{members-laid, members-name, members-twice, members-local}
-use Rattle.types.proofs.add.add_members.Statement.{statement}
-use Rattle.types.proofs.add.add_members.Tie as tie
+use Rattle.types.proofs.adding.AddStoreLaws.{took-no, took-so}
+use Rattle.types.proofs.adding.AddTypeLaws.{members-laid, members-name, members-twice, members-local}
+use Rattle.types.proofs.adding.add.add_members.Statement.{statement}
+use Rattle.types.proofs.adding.add.add_members.Tie as tie
 
 check-members-requires : tie.Need-check-members-requires
 check-members-requires c κs = search needs

@@ -1,10 +1,10 @@
 -- `types::add_named` meets its contract: a string, or a type of members.
 use borrow.Author.Needs.{needs}
 use mathlib.Core.Path.{sym, _∙_}
-use Rattle.types.proofs.AddStoreLaws.{took-no, took-so}
-use Rattle.types.proofs.AddTypeLaws.{string-most, named-string, named-wrong, named-members}
-use Rattle.types.proofs.add.add_named.Statement.{statement}
-use Rattle.types.proofs.add.add_named.Tie as tie
+use Rattle.types.proofs.adding.AddStoreLaws.{took-no, took-so}
+use Rattle.types.proofs.adding.AddTypeLaws.{string-most, named-string, named-wrong, named-members}
+use Rattle.types.proofs.adding.add.add_named.Statement.{statement}
+use Rattle.types.proofs.adding.add.add_named.Tie as tie
 
 is-string-requires : tie.Need-is-string-requires
 is-string-requires c κs = search needs

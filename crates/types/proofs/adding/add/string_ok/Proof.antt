@@ -1,8 +1,8 @@
 -- `types::string_ok` meets its contract, one test after the other.
 use borrow.Author.Needs.{needs}
-use Rattle.types.proofs.AddTypeLaws.{string-short, string-long, string-members, string-rest}
-use Rattle.types.proofs.add.string_ok.Statement.{statement}
-use Rattle.types.proofs.add.string_ok.Tie as tie
+use Rattle.types.proofs.adding.AddTypeLaws.{string-short, string-long, string-members, string-rest}
+use Rattle.types.proofs.adding.add.string_ok.Statement.{statement}
+use Rattle.types.proofs.adding.add.string_ok.Tie as tie
 
 returns : tie.Need-returns
 returns c = string-short (c .before .before .args .e) (c .if1 .taken)

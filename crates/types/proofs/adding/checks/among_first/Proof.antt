@@ -4,12 +4,13 @@ use borrow.Author.Needs.{needs}
 use Prim.Native.Nat.{_+_, _-_, _*_, _≤_}
 use mathlib.Core.Path.{_≡_, refl, sym, _∙_}
 use lib.ListN.{length}
-use Rattle.types.specs.Checks.{memberName, among, namesBefore, EntriesInside}
-use Rattle.types.specs.Names.{sameName}
-use Rattle.types.proofs.CheckLaws.{among-here, among-on, among-none}
-use Rattle.types.proofs.StoreOneLaws.{lent-name}
-use Rattle.types.proofs.checks.among_first.Statement.{statement}
-use Rattle.types.proofs.checks.among_first.Tie as tie
+use Rattle.types.specs.adding.Checks.{among}
+use Rattle.types.specs.book.Names.{sameName}
+use Rattle.types.specs.inside.adding.Checks.{memberName, namesBefore, EntriesInside}
+use Rattle.types.proofs.adding.checks.CheckLaws.{among-here, among-on, among-none}
+use Rattle.types.proofs.layout.StoreOneLaws.{lent-name}
+use Rattle.types.proofs.adding.checks.among_first.Statement.{statement}
+use Rattle.types.proofs.adding.checks.among_first.Tie as tie
 
 abbrev Inv-loop : tie.InvT-loop
 Inv-loop book at j name k₀ k =

@@ -4,10 +4,11 @@ use borrow.Author.Needs.{needs}
 use Prim.Native.Nat.{ℕ, _+_, _-_}
 use mathlib.Core.Path.{refl}
 use lib.ListN.{length-replicate}
-use Rattle.types.proofs.CheckLaws.{inside-less, Checking, checking-start, checking-on, checking-off}
-use Rattle.types.proofs.CheckLaws.{checking-done}
-use Rattle.types.proofs.checks.check_members.Statement.{statement}
-use Rattle.types.proofs.checks.check_members.Tie as tie
+use Rattle.types.proofs.adding.checks.CheckLaws.{inside-less, Checking, checking-start, checking-on}
+use Rattle.types.proofs.adding.checks.CheckLaws.{checking-off}
+use Rattle.types.proofs.adding.checks.CheckLaws.{checking-done}
+use Rattle.types.proofs.adding.checks.check_members.Statement.{statement}
+use Rattle.types.proofs.adding.checks.check_members.Tie as tie
 
 abbrev Inv-loop : tie.InvT-loop
 Inv-loop book at n aoi seen₀ j₀ seen j = Checking book aoi at n seen j

@@ -5,13 +5,14 @@ use Prim.Native.Nat.{_+_, _-_, _≤_}
 use mathlib.Core.Path.{_≡_, ap, _∙_}
 use borrow.Author.Tests.{not-true, not-false}
 use lib.ListN.{length, take, drop}
-use Rattle.types.specs.declared.book.MemberEntry.{MemberEntry}
-use Rattle.types.specs.Checks.{memberName}
-use Rattle.types.specs.Names.{goodName}
-use Rattle.types.proofs.CheckLaws.{inside-less, one-misnamed, one-twice, one-shown, one-inside, one-outside}
-use Rattle.types.proofs.StoreOneLaws.{lent-name}
-use Rattle.types.proofs.checks.check_one.Statement.{statement}
-use Rattle.types.proofs.checks.check_one.Tie as tie
+use Rattle.types.specs.book.Names.{goodName}
+use Rattle.types.specs.inside.adding.Checks.{memberName}
+use Rattle.types.specs.declared.book.contents.MemberEntry.{MemberEntry}
+use Rattle.types.proofs.adding.checks.CheckLaws.{inside-less, one-misnamed, one-twice, one-shown, one-inside}
+use Rattle.types.proofs.adding.checks.CheckLaws.{one-outside}
+use Rattle.types.proofs.layout.StoreOneLaws.{lent-name}
+use Rattle.types.proofs.adding.checks.check_one.Statement.{statement}
+use Rattle.types.proofs.adding.checks.check_one.Tie as tie
 
 -- the name lies in the book
 end : (c : tie.After-wide2)

@@ -1,8 +1,8 @@
 -- `types::look` meets its contract: a name whose mark was not seen is new, any other is compared.
 use borrow.Author.Needs.{needs}
-use Rattle.types.proofs.CheckLaws.{looked-new, looked-on}
-use Rattle.types.proofs.checks.look.Statement.{statement}
-use Rattle.types.proofs.checks.look.Tie as tie
+use Rattle.types.proofs.adding.checks.CheckLaws.{looked-new, looked-on}
+use Rattle.types.proofs.adding.checks.look.Statement.{statement}
+use Rattle.types.proofs.adding.checks.look.Tie as tie
 
 mark-requires : tie.Need-mark-requires
 mark-requires c κs = search needs

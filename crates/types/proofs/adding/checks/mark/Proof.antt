@@ -4,9 +4,9 @@ use borrow.Author.Needs.{needs}
 use Prim.Native.Nat.{_-_}
 use mathlib.Core.Path.{_∙_}
 use lib.ListN.{length}
-use Rattle.types.proofs.CheckLaws.{Marking, marking-start, marking-on, marking-done}
-use Rattle.types.proofs.checks.mark.Statement.{statement}
-use Rattle.types.proofs.checks.mark.Tie as tie
+use Rattle.types.proofs.adding.checks.CheckLaws.{Marking, marking-start, marking-on, marking-done}
+use Rattle.types.proofs.adding.checks.mark.Statement.{statement}
+use Rattle.types.proofs.adding.checks.mark.Tie as tie
 
 abbrev Inv-loop : tie.InvT-loop
 Inv-loop name h₀ i₀ h i = Marking name h i

@@ -5,10 +5,10 @@ use Prim.Native.Nat.{ℕ, _+_, _-_, _*_, _≤_, _<_}
 use mathlib.Core.Path.{_≡_, refl, sym, _∙_}
 use borrow.Author.Count.{below-more}
 use lib.ListN.{getD}
-use Rattle.types.specs.Ids.{Held}
-use Rattle.types.proofs.IdLaws.{held-more}
-use Rattle.types.proofs.ids.free_id.Statement.{statement}
-use Rattle.types.proofs.ids.free_id.Tie as tie
+use Rattle.types.specs.inside.adding.Ids.{Held}
+use Rattle.types.proofs.adding.IdLaws.{held-more}
+use Rattle.types.proofs.adding.ids.free_id.Statement.{statement}
+use Rattle.types.proofs.adding.ids.free_id.Tie as tie
 
 abbrev Inv-loop : tie.InvT-loop
 Inv-loop types n id₀ i₀ id i = (id ≡ id₀) × ((i ≤ n) × ((k : ℕ) → k < i → getD types (8 * k + 2) 0 ≡ id₀ → ⊥))

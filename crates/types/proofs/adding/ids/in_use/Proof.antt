@@ -3,11 +3,11 @@ use native.Mathlib.Omega.{arith}
 use Prim.Native.Nat.{_-_, _≤_}
 use native.Mathlib.Nat.{sub-zero}
 use mathlib.Core.Path.{_≡_, sym, _∙_}
-use Rattle.types.specs.Book.{listFrom}
-use Rattle.types.specs.Ids.{idWord, inUse}
-use Rattle.types.proofs.IdLaws.{use-here, use-later, use-never}
-use Rattle.types.proofs.ids.in_use.Statement.{statement}
-use Rattle.types.proofs.ids.in_use.Tie as tie
+use Rattle.types.specs.adding.Ids.{idWord, inUse}
+use Rattle.types.specs.book.Contents.{listFrom}
+use Rattle.types.proofs.adding.IdLaws.{use-here, use-later, use-never}
+use Rattle.types.proofs.adding.ids.in_use.Statement.{statement}
+use Rattle.types.proofs.adding.ids.in_use.Tie as tie
 
 abbrev Inv-loop : tie.InvT-loop
 Inv-loop types n id i₀ i =

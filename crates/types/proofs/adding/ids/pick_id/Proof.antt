@@ -1,9 +1,9 @@
 -- `types::pick_id` meets its contract, one law for each way out.
 use borrow.Author.Needs.{needs}
 use mathlib.Core.Path.{_∙_}
-use Rattle.types.proofs.IdLaws.{pick-low, pick-high, pick-used, pick-given, pick-lowest, pick-none}
-use Rattle.types.proofs.ids.pick_id.Statement.{statement}
-use Rattle.types.proofs.ids.pick_id.Tie as tie
+use Rattle.types.proofs.adding.IdLaws.{pick-low, pick-high, pick-used, pick-given, pick-lowest, pick-none}
+use Rattle.types.proofs.adding.ids.pick_id.Statement.{statement}
+use Rattle.types.proofs.adding.ids.pick_id.Tie as tie
 
 returns : tie.Need-returns
 returns c = rw (c .before .if1 .taken) (pick-low _ _ (c .if2 .taken))

@@ -1,8 +1,8 @@
 -- `types::enter` meets its contract: the row with the handle of the template.
 use borrow.Author.Needs.{needs}
 use mathlib.Core.Path.{_∙_}
-use Rattle.types.proofs.new_row.enter.Statement.{statement}
-use Rattle.types.proofs.new_row.enter.Tie as tie
+use Rattle.types.proofs.adding.new_row.enter.Statement.{statement}
+use Rattle.types.proofs.adding.new_row.enter.Tie as tie
 
 template-handle-requires : tie.Need-template-handle-requires
 template-handle-requires c κs = search needs

@@ -5,18 +5,19 @@ use Prim.Native.Nat.{_+_}
 use mathlib.Core.Path.{_≡_, sym, _∙_}
 use lib.ListN.{length}
 use Rattle.words.specs.Words.{Bytes}
-use Rattle.types.specs.declared.measure.Measured.the-variants.{Laid}
-use Rattle.types.specs.Add.{hasRoom}
-use Rattle.types.specs.Entries.{declsFrom}
-use Rattle.types.specs.Passes.{partsOf, measuredOf}
-use Rattle.types.specs.Registry.{usedWith}
-use Rattle.types.specs.Structs.{namedIn}
-use Rattle.types.proofs.AddLaidLaws.{laid-access, laid-far, laid-fitted, laid-counted, laid-near, laid-storable}
-use Rattle.types.proofs.AddStoreLaws.{declared-found, Roomy, roomy, Counted, stored-full, stored-readable}
-use Rattle.types.proofs.AddStoreLaws.{stored-took, took-no, took-so, took-used}
-use Rattle.types.proofs.RoomLaws.{same-counts}
-use Rattle.types.proofs.new_types.add_laid.Statement.{statement}
-use Rattle.types.proofs.new_types.add_laid.Tie as tie
+use Rattle.types.specs.adding.Add.{hasRoom}
+use Rattle.types.specs.inside.book.Decls.{declsFrom}
+use Rattle.types.specs.inside.layout.Passes.{partsOf, measuredOf}
+use Rattle.types.specs.inside.tables.Registry.{usedWith}
+use Rattle.types.specs.layout.Structs.{namedIn}
+use Rattle.types.specs.declared.layout.measure.Measured.the-variants.{Laid}
+use Rattle.types.proofs.adding.AddLaidLaws.{laid-access, laid-far, laid-fitted, laid-counted, laid-near}
+use Rattle.types.proofs.adding.AddLaidLaws.{laid-storable}
+use Rattle.types.proofs.adding.AddStoreLaws.{declared-found, Roomy, roomy, Counted, stored-full, stored-readable}
+use Rattle.types.proofs.adding.AddStoreLaws.{stored-took, took-no, took-so, took-used}
+use Rattle.types.proofs.adding.RoomLaws.{same-counts}
+use Rattle.types.proofs.adding.new_types.add_laid.Statement.{statement}
+use Rattle.types.proofs.adding.new_types.add_laid.Tie as tie
 
 bytes : (c : tie.After-shared-slice-known3) → Bytes (c .before .before .before .args .book .now)
 bytes c k = (c .before .before .shared-slice-known .given k) .fits
@@ -103,8 +104,8 @@ wide-requires-2 c κs = search needs
 has-room-requires : tie.Need-has-room-requires
 has-room-requires c κs = search needs
 
-size-at-requires : tie.Need-size-at-requires
-size-at-requires c κs =
+rounded-size-requires : tie.Need-rounded-size-requires
+rounded-size-requires c κs =
     let s = start (c .before) in
     laid-near (s .args .new) (s .pre .usable) (s .pre .declared) _ (laid (c .before)) (fits c)
 
@@ -136,7 +137,7 @@ enter-requires c κs =
     let s = start h in
     let a = s .args in (
       fits t .types,
-      rw (head .bare-head .ensures, size .size-at .ensures, kind .laid-kind .ensures, stored .store-type .ensures .0)
+      rw (head .bare-head .ensures, size .rounded-size .ensures, kind .laid-kind .ensures, stored .store-type .ensures .0)
           (stored-readable (a .types .now) (a .members .now) (a .names .now) (a .new .used) (counted h) _ _ _ (room h)
           (t .if1 .taken) (s .pre .usable) (s .pre .rows)),
     )
@@ -171,7 +172,7 @@ returns-3 c =
     (stored-took (a .types .now) (a .members .now) (a .names .now) (a .new .used) (counted h) _ _ _ (room h)
     (t .if1 .taken) (s .pre .usable) (s .pre .rows) _ (s .pre .bytes) (stored .store-type .ensures .0)
     (stored .store-type .ensures .1 ∙ rw (put .put-bytes .ensures))
-    (entered .enter .ensures ∙ rw (head .bare-head .ensures, size .size-at .ensures, kind .laid-kind .ensures))))
+    (entered .enter .ensures ∙ rw (head .bare-head .ensures, size .rounded-size .ensures, kind .laid-kind .ensures))))
 
 returns-4 : tie.Need-returns-4
 returns-4 c =
@@ -195,7 +196,7 @@ add-laid-spec =
     add-bytes
     wide-requires-2
     has-room-requires
-    size-at-requires
+    rounded-size-requires
     laid-kind-requires
     put-bytes-requires
     store-type-requires

@@ -1,10 +1,10 @@
 -- `types::add_string` meets its contract: stored where there is room, or 13.
 use borrow.Author.Needs.{needs}
 use mathlib.Core.Path.{sym, _∙_}
-use Rattle.types.proofs.AddLaidLaws.{string-counted}
-use Rattle.types.proofs.AddStoreLaws.{roomy, stored-full, stored-yes, took-so}
-use Rattle.types.proofs.new_types.add_string.Statement.{statement}
-use Rattle.types.proofs.new_types.add_string.Tie as tie
+use Rattle.types.proofs.adding.AddLaidLaws.{string-counted}
+use Rattle.types.proofs.adding.AddStoreLaws.{roomy, stored-full, stored-yes, took-so}
+use Rattle.types.proofs.adding.new_types.add_string.Statement.{statement}
+use Rattle.types.proofs.adding.new_types.add_string.Tie as tie
 
 add-has-room : tie.Need-add-has-room
 add-has-room c = search needs

@@ -1,7 +1,7 @@
 -- `types::measure_type` meets its contract.
 use borrow.Author.Needs.{needs}
-use Rattle.types.proofs.new_types.measure_type.Statement.{statement}
-use Rattle.types.proofs.new_types.measure_type.Tie as tie
+use Rattle.types.proofs.adding.new_types.measure_type.Statement.{statement}
+use Rattle.types.proofs.adding.new_types.measure_type.Tie as tie
 
 measure-aoi-requires : tie.Need-measure-aoi-requires
 measure-aoi-requires c κs = search needs

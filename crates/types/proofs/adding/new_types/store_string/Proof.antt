@@ -1,11 +1,11 @@
 -- `types::store_string` meets its contract: the name and the parts of a string, then its row.
 use borrow.Author.Needs.{needs}
 use mathlib.Core.Path.{_∙_}
-use Rattle.types.specs.declared.member.StructKind.the-variants.{Str}
-use Rattle.types.proofs.AddLaidLaws.{string-counted}
-use Rattle.types.proofs.AddStoreLaws.{new-readable, new-took}
-use Rattle.types.proofs.new_types.store_string.Statement.{statement}
-use Rattle.types.proofs.new_types.store_string.Tie as tie
+use Rattle.types.specs.declared.tables.member.StructKind.the-variants.{Str}
+use Rattle.types.proofs.adding.AddLaidLaws.{string-counted}
+use Rattle.types.proofs.adding.AddStoreLaws.{new-readable, new-took}
+use Rattle.types.proofs.adding.new_types.store_string.Statement.{statement}
+use Rattle.types.proofs.adding.new_types.store_string.Tie as tie
 
 string-size-requires : tie.Need-string-size-requires
 string-size-requires c κs = search needs

@@ -1,8 +1,8 @@
 -- `types::store_type` meets its contract: as an AOI, or as a UDT.
 use borrow.Author.Needs.{needs}
-use Rattle.types.proofs.AddLaidLaws.{storable-aoi, storable-udt, hosts-counted}
-use Rattle.types.proofs.new_types.store_type.Statement.{statement}
-use Rattle.types.proofs.new_types.store_type.Tie as tie
+use Rattle.types.proofs.adding.AddLaidLaws.{storable-aoi, storable-udt, hosts-counted}
+use Rattle.types.proofs.adding.new_types.store_type.Statement.{statement}
+use Rattle.types.proofs.adding.new_types.store_type.Tie as tie
 
 add-place : tie.Need-add-place
 add-place c = search needs

@@ -1,8 +1,8 @@
 -- `types::has_room` meets its contract, one test after the other.
 use borrow.Author.Needs.{needs}
-use Rattle.types.proofs.RoomLaws.{room-types, room-members, room-bytes}
-use Rattle.types.proofs.used.has_room.Statement.{statement}
-use Rattle.types.proofs.used.has_room.Tie as tie
+use Rattle.types.proofs.adding.RoomLaws.{room-types, room-members, room-bytes}
+use Rattle.types.proofs.adding.used.has_room.Statement.{statement}
+use Rattle.types.proofs.adding.used.has_room.Tie as tie
 
 returns : tie.Need-returns
 returns c = room-types (c .before .before .args .u) _ _ (c .if1 .taken)

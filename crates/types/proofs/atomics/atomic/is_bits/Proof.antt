@@ -1,9 +1,9 @@
 -- `types::is_bits` meets its contract: an arm for each atomic.
 use borrow.Author.Needs.{needs}
 use mathlib.Core.Path.{sym, ap}
-use Rattle.types.specs.Atomic.{bitString}
-use Rattle.types.proofs.atomic.is_bits.Statement.{statement}
-use Rattle.types.proofs.atomic.is_bits.Tie as tie
+use Rattle.types.specs.atomics.Atomic.{bitString}
+use Rattle.types.proofs.atomics.atomic.is_bits.Statement.{statement}
+use Rattle.types.proofs.atomics.atomic.is_bits.Tie as tie
 
 pub is-bits-spec : {M : Type 1} → statement M
 unfolding bitString

@@ -1,9 +1,9 @@
 -- `types::size_of` meets its contract: an arm for each atomic.
 use borrow.Author.Needs.{needs}
 use mathlib.Core.Path.{sym, ap}
-use Rattle.types.specs.Atomic.{sizeOf}
-use Rattle.types.proofs.atomic.size_of.Statement.{statement}
-use Rattle.types.proofs.atomic.size_of.Tie as tie
+use Rattle.types.specs.atomics.Atomic.{sizeOf}
+use Rattle.types.proofs.atomics.atomic.size_of.Statement.{statement}
+use Rattle.types.proofs.atomics.atomic.size_of.Tie as tie
 
 pub size-of-spec : {M : Type 1} → statement M
 unfolding sizeOf

@@ -1,9 +1,9 @@
 -- `types::set_bit` meets its contract: one of the eight bits, or none.
 use borrow.Author.Needs.{needs}
 use borrow.Author.Tests.{lt-ltb, le-ltb}
-use Rattle.types.specs.Bits.{bitSet}
-use Rattle.types.proofs.bits.set_bit.Statement.{statement}
-use Rattle.types.proofs.bits.set_bit.Tie as tie
+use Rattle.types.specs.atomics.Bits.{bitSet}
+use Rattle.types.proofs.atomics.bits.set_bit.Statement.{statement}
+use Rattle.types.proofs.atomics.bits.set_bit.Tie as tie
 
 set-bit-requires : tie.Need-set-bit-requires
 set-bit-requires c κs = search needs

@@ -4,11 +4,11 @@ use borrow.Author.Needs.{needs}
 use mathlib.Core.Path.{ap}
 use mathlib.Core.List.{List, _∷_}
 use Prim.Native.Nat.{ℕ, _<_}
-use Rattle.types.specs.Header.{held}
-use Rattle.types.specs.Tables.{typeAt}
 use Rattle.words.proofs.WordLaws.{two-bytes}
-use Rattle.types.proofs.header.header_in.Statement.{statement}
-use Rattle.types.proofs.header.header_in.Tie as tie
+use Rattle.types.specs.atomics.Header.{held}
+use Rattle.types.specs.tables.Lent.{typeAt}
+use Rattle.types.proofs.atomics.header.header_in.Statement.{statement}
+use Rattle.types.proofs.atomics.header.header_in.Tie as tie
 
 -- a handle has 16 bits
 small : (c : tie.After-type-row)

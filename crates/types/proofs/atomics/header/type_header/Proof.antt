@@ -1,10 +1,10 @@
 -- `types::type_header` meets its contract: the header of a type that is there, else 15.
 use borrow.Author.Needs.{needs}
 use mathlib.Core.Path.{sym, _∙_}
-use Rattle.types.specs.Header.{headedOf}
-use Rattle.types.proofs.ShapeLaws.{there-fits}
-use Rattle.types.proofs.header.type_header.Statement.{statement}
-use Rattle.types.proofs.header.type_header.Tie as tie
+use Rattle.types.specs.atomics.Header.{headedOf}
+use Rattle.types.proofs.shape.ShapeLaws.{there-fits}
+use Rattle.types.proofs.atomics.header.type_header.Statement.{statement}
+use Rattle.types.proofs.atomics.header.type_header.Tie as tie
 
 is-there-requires : tie.Need-is-there-requires
 is-there-requires c κs = search needs

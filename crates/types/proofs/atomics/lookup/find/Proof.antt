@@ -1,11 +1,11 @@
 -- `types::find` meets its contract: all types that stand in the tables are looked through.
 use borrow.Author.Needs.{needs}
 use mathlib.Core.Path.{ap, _∙_}
-use Rattle.types.specs.Lookup.{saidBy}
-use Rattle.types.proofs.KeptLaws.{kept-inside}
-use Rattle.types.proofs.LookupLaws.{among-said}
-use Rattle.types.proofs.count.find.Statement.{statement}
-use Rattle.types.proofs.count.find.Tie as tie
+use Rattle.types.specs.atomics.Lookup.{saidBy}
+use Rattle.types.proofs.atomics.lookup.LookupLaws.{among-said}
+use Rattle.types.proofs.tables.KeptLaws.{kept-inside}
+use Rattle.types.proofs.atomics.lookup.find.Statement.{statement}
+use Rattle.types.proofs.atomics.lookup.find.Tie as tie
 
 type-count-requires : tie.Need-type-count-requires
 type-count-requires c κs = search needs

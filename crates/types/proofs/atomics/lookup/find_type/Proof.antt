@@ -2,11 +2,12 @@
 use native.Mathlib.Omega.{arith}
 use Prim.Native.Nat.{_-_}
 use mathlib.Core.Path.{_≡_, refl, sym, _∙_}
-use Rattle.types.specs.Book.{listFrom}
-use Rattle.types.specs.Lookup.{namedAmong, rowName, NamesInside}
-use Rattle.types.proofs.LookupLaws.{named-here, named-later, named-never}
-use Rattle.types.proofs.lookups.find_type.Statement.{statement}
-use Rattle.types.proofs.lookups.find_type.Tie as tie
+use Rattle.types.specs.atomics.Lookup.{namedAmong, rowName}
+use Rattle.types.specs.book.Contents.{listFrom}
+use Rattle.types.specs.inside.atomics.Lookup.{NamesInside}
+use Rattle.types.proofs.atomics.lookup.LookupLaws.{named-here, named-later, named-never}
+use Rattle.types.proofs.atomics.lookup.find_type.Statement.{statement}
+use Rattle.types.proofs.atomics.lookup.find_type.Tie as tie
 
 abbrev Inv-loop : tie.InvT-loop
 Inv-loop types names from n name i₀ i =

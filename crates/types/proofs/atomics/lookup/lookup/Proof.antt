@@ -2,10 +2,10 @@
 use borrow.Author.Needs.{needs}
 use native.Mathlib.Nat.{sub-zero}
 use mathlib.Core.Path.{sym, _∙_}
-use Rattle.types.specs.Lookup.{typeAmong}
-use Rattle.types.proofs.AtomicLaws.{named-is}
-use Rattle.types.proofs.lookups.lookup.Statement.{statement}
-use Rattle.types.proofs.lookups.lookup.Tie as tie
+use Rattle.types.specs.atomics.Lookup.{typeAmong}
+use Rattle.types.proofs.atomics.AtomicLaws.{named-is}
+use Rattle.types.proofs.atomics.lookup.lookup.Statement.{statement}
+use Rattle.types.proofs.atomics.lookup.lookup.Tie as tie
 
 from-name-requires : tie.Need-from-name-requires
 from-name-requires c κs = search needs

@@ -5,12 +5,12 @@ use Prim.Native.Nat.{_+_, _≤_}
 use mathlib.Core.Path.{sym, _∙_}
 use lib.ListN.{length}
 use Rattle.words.proofs.Lists.{length-part}
-use Rattle.types.specs.Lookup.{rowName}
-use Rattle.types.specs.Tables.{typeAt}
-use Rattle.types.proofs.NameLaws.{same-long}
-use Rattle.types.proofs.StoreOneLaws.{lent-name}
-use Rattle.types.proofs.lookups.row_named.Statement.{statement}
-use Rattle.types.proofs.lookups.row_named.Tie as tie
+use Rattle.types.specs.atomics.Lookup.{rowName}
+use Rattle.types.specs.tables.Lent.{typeAt}
+use Rattle.types.proofs.book.NameLaws.{same-long}
+use Rattle.types.proofs.layout.StoreOneLaws.{lent-name}
+use Rattle.types.proofs.atomics.lookup.row_named.Statement.{statement}
+use Rattle.types.proofs.atomics.lookup.row_named.Tie as tie
 
 mul-wide : tie.Need-mul-wide
 mul-wide c = search needs

@@ -3,10 +3,10 @@ use native.Mathlib.Omega.{arith}
 use borrow.Author.Needs.{needs}
 use mathlib.Core.Path.{_≡_, sym, _∙_}
 use lib.ListN.{length}
-use Rattle.types.specs.Book.{typesIn, membersIn, bodiesAt, typeOk, every, typeEntries, sumCounts}
-use Rattle.types.proofs.BookLaws.{book-short, no-bodies, types-wrong, counts-wrong, members-decide}
-use Rattle.types.proofs.book.book_ok.Statement.{statement}
-use Rattle.types.proofs.book.book_ok.Tie as tie
+use Rattle.types.specs.book.Contents.{typesIn, membersIn, bodiesAt, typeOk, every, typeEntries, sumCounts}
+use Rattle.types.proofs.book.BookLaws.{book-short, no-bodies, types-wrong, counts-wrong, members-decide}
+use Rattle.types.proofs.book.contents.book_ok.Statement.{statement}
+use Rattle.types.proofs.book.contents.book_ok.Tie as tie
 
 -- T and M, as they were read
 types-in : (c : tie.After-count-of2)

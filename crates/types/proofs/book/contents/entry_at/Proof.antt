@@ -1,7 +1,7 @@
 -- `types::entry_at` meets its contract: each field is read from its own bytes.
 use borrow.Author.Needs.{needs}
-use Rattle.types.proofs.book.entry_at.Statement.{statement}
-use Rattle.types.proofs.book.entry_at.Tie as tie
+use Rattle.types.proofs.book.contents.entry_at.Statement.{statement}
+use Rattle.types.proofs.book.contents.entry_at.Tie as tie
 
 load32-requires : tie.Need-load32-requires
 load32-requires c κs = search needs

@@ -1,8 +1,8 @@
 -- `types::in_bodies` meets its contract.
 use borrow.Author.Needs.{needs}
-use Rattle.types.proofs.BookLaws.{before-bodies, from-bodies}
-use Rattle.types.proofs.book.in_bodies.Statement.{statement}
-use Rattle.types.proofs.book.in_bodies.Tie as tie
+use Rattle.types.proofs.book.BookLaws.{before-bodies, from-bodies}
+use Rattle.types.proofs.book.contents.in_bodies.Statement.{statement}
+use Rattle.types.proofs.book.contents.in_bodies.Tie as tie
 
 wide-requires : tie.Need-wide-requires
 wide-requires c κs = search needs

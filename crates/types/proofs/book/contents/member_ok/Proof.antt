@@ -1,9 +1,9 @@
 -- `types::member_ok` meets its contract: one way out for each rule.
 use borrow.Author.Needs.{needs}
 use mathlib.Core.Path.{_∙_}
-use Rattle.types.proofs.BookLaws.{local-over, name-outside, name-inside}
-use Rattle.types.proofs.book.member_ok.Statement.{statement}
-use Rattle.types.proofs.book.member_ok.Tie as tie
+use Rattle.types.proofs.book.BookLaws.{local-over, name-outside, name-inside}
+use Rattle.types.proofs.book.contents.member_ok.Statement.{statement}
+use Rattle.types.proofs.book.contents.member_ok.Tie as tie
 
 returns : tie.Need-returns
 returns c =

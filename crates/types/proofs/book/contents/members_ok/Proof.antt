@@ -6,10 +6,10 @@ use native.Mathlib.Nat.{sub-zero}
 use mathlib.Core.Path.{_≡_, refl, sym, _∙_}
 use borrow.Author.Tests.{not-true, not-false}
 use lib.ListN.{length}
-use Rattle.types.specs.Book.{memberEntry, memberOk, every, listFrom}
-use Rattle.types.proofs.BookLaws.{every-on, every-off, every-done}
-use Rattle.types.proofs.book.members_ok.Statement.{statement}
-use Rattle.types.proofs.book.members_ok.Tie as tie
+use Rattle.types.specs.book.Contents.{memberEntry, memberOk, every, listFrom}
+use Rattle.types.proofs.book.BookLaws.{every-on, every-off, every-done}
+use Rattle.types.proofs.book.contents.members_ok.Statement.{statement}
+use Rattle.types.proofs.book.contents.members_ok.Tie as tie
 
 abbrev Inv-loop : tie.InvT-loop
 Inv-loop book t n start end i₀ i =

@@ -3,10 +3,10 @@ use native.Mathlib.Omega.{arith}
 use borrow.Author.Needs.{needs}
 use Prim.Native.Nat.{_-_}
 use mathlib.Core.Path.{ap, _∙_}
-use Rattle.types.specs.declared.book.TypeEntry.{TypeEntry}
-use Rattle.types.proofs.BookLaws.{Summing, sum-start, sum-done, sum-on}
-use Rattle.types.proofs.book.sum_counts.Statement.{statement}
-use Rattle.types.proofs.book.sum_counts.Tie as tie
+use Rattle.types.specs.declared.book.contents.TypeEntry.{TypeEntry}
+use Rattle.types.proofs.book.BookLaws.{Summing, sum-start, sum-done, sum-on}
+use Rattle.types.proofs.book.contents.sum_counts.Statement.{statement}
+use Rattle.types.proofs.book.contents.sum_counts.Tie as tie
 
 abbrev Inv-loop : tie.InvT-loop
 Inv-loop book n sum₀ i₀ sum i = Summing book n sum i

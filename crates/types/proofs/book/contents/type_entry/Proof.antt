@@ -1,8 +1,8 @@
 -- `types::type_entry` meets its contract: each field is read from its own bytes.
 use borrow.Author.Needs.{needs}
-use Rattle.types.specs.Book.{typeEntry}
-use Rattle.types.proofs.book.type_entry.Statement.{statement}
-use Rattle.types.proofs.book.type_entry.Tie as tie
+use Rattle.types.specs.book.Contents.{typeEntry}
+use Rattle.types.proofs.book.contents.type_entry.Statement.{statement}
+use Rattle.types.proofs.book.contents.type_entry.Tie as tie
 
 mul-at : tie.Need-mul-at
 mul-at c = search needs

@@ -1,9 +1,9 @@
 -- `types::type_ok` meets its contract: one way out for each rule.
 use borrow.Author.Needs.{needs}
 use mathlib.Core.Path.{_∙_}
-use Rattle.types.proofs.BookLaws.{flags-over, not-zero, id-left, string-left, type-named}
-use Rattle.types.proofs.book.type_ok.Statement.{statement}
-use Rattle.types.proofs.book.type_ok.Tie as tie
+use Rattle.types.proofs.book.BookLaws.{flags-over, not-zero, id-left, string-left, type-named}
+use Rattle.types.proofs.book.contents.type_ok.Statement.{statement}
+use Rattle.types.proofs.book.contents.type_ok.Tie as tie
 
 returns : tie.Need-returns
 returns c = flags-over (c .before .args .start) (c .before .args .end) (c .before .args .e) (c .if1 .taken)

@@ -6,10 +6,10 @@ use native.Mathlib.Nat.{sub-zero}
 use mathlib.Core.Path.{_≡_, refl, sym, _∙_}
 use borrow.Author.Tests.{not-true, not-false}
 use lib.ListN.{length}
-use Rattle.types.specs.Book.{typeEntry, typeOk, every, listFrom}
-use Rattle.types.proofs.BookLaws.{every-on, every-off, every-done}
-use Rattle.types.proofs.book.types_ok.Statement.{statement}
-use Rattle.types.proofs.book.types_ok.Tie as tie
+use Rattle.types.specs.book.Contents.{typeEntry, typeOk, every, listFrom}
+use Rattle.types.proofs.book.BookLaws.{every-on, every-off, every-done}
+use Rattle.types.proofs.book.contents.types_ok.Statement.{statement}
+use Rattle.types.proofs.book.contents.types_ok.Tie as tie
 
 abbrev Inv-loop : tie.InvT-loop
 Inv-loop book n start end i₀ i =

@@ -2,9 +2,9 @@
 use native.Mathlib.Omega.{arith}
 use borrow.Author.Needs.{needs}
 use mathlib.Core.Path.{_∙_}
-use Rattle.types.specs.Entries.{declAt}
-use Rattle.types.proofs.entries.decl_at.Statement.{statement}
-use Rattle.types.proofs.entries.decl_at.Tie as tie
+use Rattle.types.specs.inside.book.Decls.{declAt}
+use Rattle.types.proofs.book.decls.decl_at.Statement.{statement}
+use Rattle.types.proofs.book.decls.decl_at.Tie as tie
 
 mul-entry-at : tie.Need-mul-entry-at
 mul-entry-at c = search needs

@@ -1,7 +1,7 @@
 -- `types::plain` meets its contract: a type's size and alignment go by its case.
 use borrow.Author.Needs.{needs}
-use Rattle.types.proofs.entries.plain.Statement.{statement}
-use Rattle.types.proofs.entries.plain.Tie as tie
+use Rattle.types.proofs.book.decls.plain.Statement.{statement}
+use Rattle.types.proofs.book.decls.plain.Tie as tie
 
 enum-known-ty : tie.Need-enum-known-ty
 enum-known-ty c = search needs

@@ -1,10 +1,10 @@
 -- `types::resolved` meets its contract: one BOOL, an array of them, or any other.
 use borrow.Author.Needs.{needs}
 use mathlib.Core.Path.{sym, _∙_}
-use Rattle.types.specs.Atomic.{sizeOf}
-use Rattle.types.proofs.EntryLaws.{one-bool, bool-array, no-bool}
-use Rattle.types.proofs.entries.resolved.Statement.{statement}
-use Rattle.types.proofs.entries.resolved.Tie as tie
+use Rattle.types.specs.atomics.Atomic.{sizeOf}
+use Rattle.types.proofs.book.DeclLaws.{one-bool, bool-array, no-bool}
+use Rattle.types.proofs.book.decls.resolved.Statement.{statement}
+use Rattle.types.proofs.book.decls.resolved.Tie as tie
 
 is-bool-requires : tie.Need-is-bool-requires
 is-bool-requires c κs = search needs

@@ -5,10 +5,10 @@ use Prim.Native.Nat.{_-_, _≤_}
 use mathlib.Core.Path.{_≡_, refl, sym, _∙_}
 use borrow.Author.Tests.{not-true, not-false}
 use lib.ListN.{length, drop}
-use Rattle.types.specs.Names.{nameBytes}
-use Rattle.types.proofs.NameLaws.{bytes-on, bytes-off, bytes-done, good-empty, good-long, good-within}
-use Rattle.types.proofs.names.good_name.Statement.{statement}
-use Rattle.types.proofs.names.good_name.Tie as tie
+use Rattle.types.specs.book.Names.{nameBytes}
+use Rattle.types.proofs.book.NameLaws.{bytes-on, bytes-off, bytes-done, good-empty, good-long, good-within}
+use Rattle.types.proofs.book.names.good_name.Statement.{statement}
+use Rattle.types.proofs.book.names.good_name.Tie as tie
 
 abbrev Inv-loop : tie.InvT-loop
 Inv-loop s i₀ i = (i ≤ length s) × ((1 ≤ length s) × ((length s ≤ 40) × (nameBytes s ≡ nameBytes (drop i s))))

@@ -1,8 +1,8 @@
 -- `types::lower` meets its contract.
 use borrow.Author.Needs.{needs}
-use Rattle.types.proofs.NameLaws.{lower-below, lower-capital, lower-above}
-use Rattle.types.proofs.names.lower.Statement.{statement}
-use Rattle.types.proofs.names.lower.Tie as tie
+use Rattle.types.proofs.book.NameLaws.{lower-below, lower-capital, lower-above}
+use Rattle.types.proofs.book.names.lower.Statement.{statement}
+use Rattle.types.proofs.book.names.lower.Tie as tie
 
 returns : tie.Need-returns
 returns c = lower-below (c .before .args .x) (c .if1 .taken)

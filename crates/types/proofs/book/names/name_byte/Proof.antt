@@ -1,7 +1,7 @@
 -- `types::name_byte` meets its contract.
-use Rattle.types.proofs.NameLaws.{byte-below, byte-above, byte-within}
-use Rattle.types.proofs.names.name_byte.Statement.{statement}
-use Rattle.types.proofs.names.name_byte.Tie as tie
+use Rattle.types.proofs.book.NameLaws.{byte-below, byte-above, byte-within}
+use Rattle.types.proofs.book.names.name_byte.Statement.{statement}
+use Rattle.types.proofs.book.names.name_byte.Tie as tie
 
 returns : tie.Need-returns
 returns c = byte-below (c .before .args .x) (c .if1 .taken)

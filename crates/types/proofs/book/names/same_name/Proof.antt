@@ -2,9 +2,9 @@
 use native.Mathlib.Omega.{arith}
 use borrow.Author.Needs.{needs}
 use mathlib.Core.Path.{sym, _∙_}
-use Rattle.types.proofs.NameLaws.{same-long, SameFrom, from-end, from-less, from-not, from-first}
-use Rattle.types.proofs.names.same_name.Statement.{statement}
-use Rattle.types.proofs.names.same_name.Tie as tie
+use Rattle.types.proofs.book.NameLaws.{same-long, SameFrom, from-end, from-less, from-not, from-first}
+use Rattle.types.proofs.book.names.same_name.Statement.{statement}
+use Rattle.types.proofs.book.names.same_name.Tie as tie
 
 abbrev Inv-loop : tie.InvT-loop
 Inv-loop a b i₀ i = SameFrom a b i

@@ -1,9 +1,9 @@
 -- `types::bit_host_long` meets its contract.
 use native.Mathlib.Omega.{arith}
 use borrow.Author.Needs.{needs}
-use Rattle.types.proofs.DigitLaws.{bit-host-long}
-use Rattle.types.proofs.aoi.bit_host_long.Statement.{statement}
-use Rattle.types.proofs.aoi.bit_host_long.Tie as tie
+use Rattle.types.proofs.layout.DigitLaws.{bit-host-long}
+use Rattle.types.proofs.layout.aoi.bit_host_long.Statement.{statement}
+use Rattle.types.proofs.layout.aoi.bit_host_long.Tie as tie
 
 two-digits-requires : tie.Need-two-digits-requires
 two-digits-requires c κs = search needs

@@ -1,9 +1,9 @@
 -- `types::hosts_long` meets its contract: the names of all are those so far and those that are left.
 use native.Mathlib.Omega.{arith}
 use Prim.Native.Nat.{_-_}
-use Rattle.types.proofs.AoiLaws.{Adding, adding-start, adding-done, adding-on}
-use Rattle.types.proofs.aoi.hosts_long.Statement.{statement}
-use Rattle.types.proofs.aoi.hosts_long.Tie as tie
+use Rattle.types.proofs.layout.aoi.AoiLaws.{Adding, adding-start, adding-done, adding-on}
+use Rattle.types.proofs.layout.aoi.hosts_long.Statement.{statement}
+use Rattle.types.proofs.layout.aoi.hosts_long.Tie as tie
 
 abbrev Inv-loop : tie.InvT-loop
 Inv-loop h long₀ i₀ long i = Adding h long i

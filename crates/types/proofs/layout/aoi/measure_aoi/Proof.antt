@@ -2,11 +2,11 @@
 use native.Mathlib.Omega.{arith}
 use borrow.Author.Needs.{needs}
 use mathlib.Core.Path.{_∙_}
-use Rattle.types.specs.Passes.{measuredAoi}
-use Rattle.types.specs.Structs.{aoiHosts}
-use Rattle.types.proofs.Measuring.{from-hosts}
-use Rattle.types.proofs.aoi.measure_aoi.Statement.{statement}
-use Rattle.types.proofs.aoi.measure_aoi.Tie as tie
+use Rattle.types.specs.inside.layout.Passes.{measuredAoi}
+use Rattle.types.specs.layout.Structs.{aoiHosts}
+use Rattle.types.proofs.layout.Measuring.{from-hosts}
+use Rattle.types.proofs.layout.aoi.measure_aoi.Statement.{statement}
+use Rattle.types.proofs.layout.aoi.measure_aoi.Tie as tie
 
 count-bools-requires : tie.Need-count-bools-requires
 count-bools-requires c κs = search needs

@@ -5,12 +5,12 @@ use Prim.Native.Nat.{_+_, _*_, _≤_}
 use mathlib.Core.Path.{_≡_, sym, ap, _∙_}
 use lib.ListN.{length, take}
 use lib.Seq.{sets, length-take-le}
-use Rattle.types.specs.Digits.{bitHostName}
-use Rattle.types.specs.Structs.{bitHostAt}
-use Rattle.types.proofs.DigitLaws.{bit-host-long, bit-host-put}
-use Rattle.types.proofs.StoreLaws.{one-row-of, one-name}
-use Rattle.types.proofs.aoi.put_bit_host.Statement.{statement}
-use Rattle.types.proofs.aoi.put_bit_host.Tie as tie
+use Rattle.types.specs.layout.HostNames.{bitHostName}
+use Rattle.types.specs.layout.Structs.{bitHostAt}
+use Rattle.types.proofs.layout.DigitLaws.{bit-host-long, bit-host-put}
+use Rattle.types.proofs.layout.StoreLaws.{one-row-of, one-name}
+use Rattle.types.proofs.layout.aoi.put_bit_host.Statement.{statement}
+use Rattle.types.proofs.layout.aoi.put_bit_host.Tie as tie
 
 room : (c : tie.After-two-digits) → c .before .args .at + (9 + c .two-digits .result .long) ≤ 32768
 room c = rw (bit-host-long (c .before .args .i) _ (c .two-digits .ensures)) (c .before .pre .1 .1)

@@ -3,10 +3,10 @@ use borrow.Author.Needs.{needs}
 use native.Mathlib.Omega.{arith}
 use Prim.Native.Nat.{_+_}
 use mathlib.Core.Path.{refl}
-use Rattle.types.specs.Structs.{named, namesOf, enableIn, enableOut, enableAt}
-use Rattle.types.proofs.AoiLaws.{two-put}
-use Rattle.types.proofs.aoi.put_enables.Statement.{statement}
-use Rattle.types.proofs.aoi.put_enables.Tie as tie
+use Rattle.types.specs.layout.Structs.{named, namesOf, enableIn, enableOut, enableAt}
+use Rattle.types.proofs.layout.aoi.AoiLaws.{two-put}
+use Rattle.types.proofs.layout.aoi.put_enables.Statement.{statement}
+use Rattle.types.proofs.layout.aoi.put_enables.Tie as tie
 
 enable-requires : tie.Need-enable-requires
 enable-requires c κs = search needs

@@ -2,9 +2,9 @@
 use native.Mathlib.Omega.{arith}
 use borrow.Author.Needs.{needs}
 use Prim.Native.Nat.{_-_}
-use Rattle.types.proofs.AoiLaws.{Hosting, hosts-start, hosts-done, host-room, host-on}
-use Rattle.types.proofs.aoi.put_hosts.Statement.{statement}
-use Rattle.types.proofs.aoi.put_hosts.Tie as tie
+use Rattle.types.proofs.layout.aoi.AoiLaws.{Hosting, hosts-start, hosts-done, host-room, host-on}
+use Rattle.types.proofs.layout.aoi.put_hosts.Statement.{statement}
+use Rattle.types.proofs.layout.aoi.put_hosts.Tie as tie
 
 abbrev Inv-loop : tie.InvT-loop
 Inv-loop members₀ row names₀ place h at₀ i₀ members names at i = Hosting h row place members₀ names₀ members names at i

@@ -2,11 +2,12 @@
 use native.Mathlib.Omega.{arith}
 use borrow.Author.Needs.{needs}
 use Prim.Native.Nat.{_+_}
-use Rattle.types.specs.Passes.{Put}
-use Rattle.types.specs.Structs.{enableParts}
-use Rattle.types.proofs.AoiStoreLaws.{rows-room, names-room, rest-storable, third, all-rows, all-names}
-use Rattle.types.proofs.aoi.store_aoi.Statement.{statement}
-use Rattle.types.proofs.aoi.store_aoi.Tie as tie
+use Rattle.types.specs.inside.layout.Passes.{Put}
+use Rattle.types.specs.layout.Structs.{enableParts}
+use Rattle.types.proofs.layout.aoi.AoiStoreLaws.{rows-room, names-room, rest-storable, third, all-rows}
+use Rattle.types.proofs.layout.aoi.AoiStoreLaws.{all-names}
+use Rattle.types.proofs.layout.aoi.store_aoi.Statement.{statement}
+use Rattle.types.proofs.layout.aoi.store_aoi.Tie as tie
 
 -- EnableIn and EnableOut, after as many rows as there are hosts
 enables : (c : tie.After-put-enables)

@@ -1,9 +1,10 @@
 -- `types::put_bits` meets its contract. The invariant is `Putting`.
 use native.Mathlib.Omega.{arith}
 use Prim.Native.Nat.{_-_}
-use Rattle.types.proofs.FixedLaws.{Putting, bits-start, bits-rows, bits-names, bits-on, lent-pair, pair-long}
-use Rattle.types.proofs.fixed.put_bits.Statement.{statement}
-use Rattle.types.proofs.fixed.put_bits.Tie as tie
+use Rattle.types.proofs.layout.fixed.FixedLaws.{Putting, bits-start, bits-rows, bits-names, bits-on, lent-pair}
+use Rattle.types.proofs.layout.fixed.FixedLaws.{pair-long}
+use Rattle.types.proofs.layout.fixed.put_bits.Statement.{statement}
+use Rattle.types.proofs.layout.fixed.put_bits.Tie as tie
 
 abbrev Inv-loop : tie.InvT-loop
 Inv-loop members₀ row names₀ place bits n i₀ members names i = Putting bits members₀ names₀ row place n members names i

@@ -1,9 +1,9 @@
 -- `types::put_control` meets its contract: the hidden word's part, the two words', and those of the status bits.
 use native.Mathlib.Omega.{arith}
 use borrow.Author.Needs.{needs}
-use Rattle.types.proofs.FixedLaws.{first-long, second-long, control-rows, control-names}
-use Rattle.types.proofs.fixed.put_control.Statement.{statement}
-use Rattle.types.proofs.fixed.put_control.Tie as tie
+use Rattle.types.proofs.layout.fixed.FixedLaws.{first-long, second-long, control-rows, control-names}
+use Rattle.types.proofs.layout.fixed.put_control.Statement.{statement}
+use Rattle.types.proofs.layout.fixed.put_control.Tie as tie
 
 ctl-at-requires : tie.Need-ctl-at-requires
 ctl-at-requires c κs = search needs

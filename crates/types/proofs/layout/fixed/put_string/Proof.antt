@@ -1,9 +1,9 @@
 -- `types::put_string` meets its contract: LEN's part and then DATA's.
 use native.Mathlib.Omega.{arith}
 use borrow.Author.Needs.{needs}
-use Rattle.types.proofs.FixedLaws.{string-rows, string-names}
-use Rattle.types.proofs.fixed.put_string.Statement.{statement}
-use Rattle.types.proofs.fixed.put_string.Tie as tie
+use Rattle.types.proofs.layout.fixed.FixedLaws.{string-rows, string-names}
+use Rattle.types.proofs.layout.fixed.put_string.Statement.{statement}
+use Rattle.types.proofs.layout.fixed.put_string.Tie as tie
 
 dint-at-requires : tie.Need-dint-at-requires
 dint-at-requires c κs = search needs

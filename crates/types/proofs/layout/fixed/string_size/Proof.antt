@@ -1,10 +1,10 @@
 -- `types::string_size` meets its contract.
 use borrow.Author.Needs.{needs}
 use mathlib.Core.Path.{refl}
-use Rattle.types.specs.Layout.{alignUp}
-use Rattle.types.specs.Structs.{stringSize}
-use Rattle.types.proofs.fixed.string_size.Statement.{statement}
-use Rattle.types.proofs.fixed.string_size.Tie as tie
+use Rattle.types.specs.layout.Placing.{alignUp}
+use Rattle.types.specs.layout.Structs.{stringSize}
+use Rattle.types.proofs.layout.fixed.string_size.Statement.{statement}
+use Rattle.types.proofs.layout.fixed.string_size.Tie as tie
 
 add-result : tie.Need-add-result
 add-result c = search needs

@@ -1,9 +1,9 @@
 -- `types::host_long` meets its contract.
 use native.Mathlib.Omega.{arith}
 use borrow.Author.Needs.{needs}
-use Rattle.types.proofs.DigitLaws.{host-long}
-use Rattle.types.proofs.digits.host_long.Statement.{statement}
-use Rattle.types.proofs.digits.host_long.Tie as tie
+use Rattle.types.proofs.layout.DigitLaws.{host-long}
+use Rattle.types.proofs.layout.host_names.host_long.Statement.{statement}
+use Rattle.types.proofs.layout.host_names.host_long.Tie as tie
 
 at-most-ten-requires : tie.Need-at-most-ten-requires
 at-most-ten-requires c κs = search needs

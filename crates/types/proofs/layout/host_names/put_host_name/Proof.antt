@@ -5,9 +5,9 @@ use Prim.Native.Nat.{_+_, _≤_}
 use mathlib.Core.Path.{_≡_, sym}
 use lib.ListN.{length, take}
 use lib.Seq.{length-take-le}
-use Rattle.types.proofs.DigitLaws.{host-long, host-put}
-use Rattle.types.proofs.digits.put_host_name.Statement.{statement}
-use Rattle.types.proofs.digits.put_host_name.Tie as tie
+use Rattle.types.proofs.layout.DigitLaws.{host-long, host-put}
+use Rattle.types.proofs.layout.host_names.put_host_name.Statement.{statement}
+use Rattle.types.proofs.layout.host_names.put_host_name.Tie as tie
 
 room : (c : tie.After-spell)
     → c .before .before .before .args .at + (10 + c .before .at-most-ten .result + c .spell .result .long) ≤ 32768

@@ -1,9 +1,9 @@
 -- `types::spell` meets its contract: a case for each count of digits.
 use native.Mathlib.Omega.{arith}
 use borrow.Author.Needs.{needs}
-use Rattle.types.proofs.DigitLaws.{digits-1, digits-2, digits-3, digits-4, digits-5, digits-6}
-use Rattle.types.proofs.digits.spell.Statement.{statement}
-use Rattle.types.proofs.digits.spell.Tie as tie
+use Rattle.types.proofs.layout.DigitLaws.{digits-1, digits-2, digits-3, digits-4, digits-5, digits-6}
+use Rattle.types.proofs.layout.host_names.spell.Statement.{statement}
+use Rattle.types.proofs.layout.host_names.spell.Tie as tie
 
 digit-requires : tie.Need-digit-requires
 digit-requires c κs = search needs

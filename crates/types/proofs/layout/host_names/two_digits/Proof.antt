@@ -3,10 +3,10 @@ use native.Mathlib.Omega.{arith}
 use borrow.Author.Needs.{needs}
 use mathlib.Core.Path.{ap, _∙_}
 use mathlib.Core.List.{_++_}
-use Rattle.types.specs.Digits.{bitHost}
-use Rattle.types.proofs.DigitLaws.{host-short, host-digits}
-use Rattle.types.proofs.digits.two_digits.Statement.{statement}
-use Rattle.types.proofs.digits.two_digits.Tie as tie
+use Rattle.types.specs.layout.HostNames.{bitHost}
+use Rattle.types.proofs.layout.DigitLaws.{host-short, host-digits}
+use Rattle.types.proofs.layout.host_names.two_digits.Statement.{statement}
+use Rattle.types.proofs.layout.host_names.two_digits.Tie as tie
 
 digit-requires : tie.Need-digit-requires
 digit-requires c κs = search needs

@@ -4,13 +4,13 @@ use borrow.Author.Needs.{needs}
 use Prim.Native.Nat.{_-_}
 use mathlib.Core.Path.{_≡_, ap, _∙_}
 use Rattle.words.specs.Words.{Bytes}
-use Rattle.types.specs.Digits.{hostName}
-use Rattle.types.specs.Entries.{declAt}
-use Rattle.types.specs.Passes.{measureOne}
-use Rattle.types.proofs.Measuring.{Measuring, starts, all-done, one-near, one-found, refused-access}
-use Rattle.types.proofs.Measuring.{refused-far, goes-on}
-use Rattle.types.proofs.measure.measure.Statement.{statement}
-use Rattle.types.proofs.measure.measure.Tie as tie
+use Rattle.types.specs.inside.book.Decls.{declAt}
+use Rattle.types.specs.inside.layout.Passes.{measureOne}
+use Rattle.types.specs.layout.HostNames.{hostName}
+use Rattle.types.proofs.layout.Measuring.{Measuring, starts, all-done, one-near, one-found, refused-access}
+use Rattle.types.proofs.layout.Measuring.{refused-far, goes-on}
+use Rattle.types.proofs.layout.measure.measure.Statement.{statement}
+use Rattle.types.proofs.layout.measure.measure.Tie as tie
 
 abbrev Inv-loop : tie.InvT-loop
 Inv-loop types book tys at n name names c₀ long₀ j₀ c long j = Measuring types book tys name at n c₀ long₀ c long j

@@ -1,9 +1,9 @@
 -- `types::measure_one` meets its contract: the ways that placing can go.
 use borrow.Author.Needs.{needs}
-use Rattle.types.specs.Digits.{hostName}
-use Rattle.types.proofs.MeasureLaws.{one-hosted, one-alone, one-access, one-far}
-use Rattle.types.proofs.measure.measure_one.Statement.{statement}
-use Rattle.types.proofs.measure.measure_one.Tie as tie
+use Rattle.types.specs.layout.HostNames.{hostName}
+use Rattle.types.proofs.layout.MeasureLaws.{one-hosted, one-alone, one-access, one-far}
+use Rattle.types.proofs.layout.measure.measure_one.Statement.{statement}
+use Rattle.types.proofs.layout.measure.measure_one.Tie as tie
 
 place-requires : tie.Need-place-requires
 place-requires c κs = search needs

@@ -1,7 +1,7 @@
 -- `types::access_ok` meets its contract.
-use Rattle.types.proofs.LayoutLaws.{access-first, access-second, access-third}
-use Rattle.types.proofs.layout.access_ok.Statement.{statement}
-use Rattle.types.proofs.layout.access_ok.Tie as tie
+use Rattle.types.proofs.layout.LayoutLaws.{access-first, access-second, access-third}
+use Rattle.types.proofs.layout.placing.access_ok.Statement.{statement}
+use Rattle.types.proofs.layout.placing.access_ok.Tie as tie
 
 returns : tie.Need-returns
 returns c = access-first (c .before .args .access) (c .if1 .taken)

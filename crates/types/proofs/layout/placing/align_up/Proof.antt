@@ -2,10 +2,10 @@
 use native.Mathlib.Omega.{arith}
 use borrow.Author.Needs.{needs}
 use mathlib.Core.Path.{refl}
-use Rattle.types.specs.Layout.{alignUp}
-use Rattle.types.proofs.LayoutLaws.{align-most}
-use Rattle.types.proofs.layout.align_up.Statement.{statement}
-use Rattle.types.proofs.layout.align_up.Tie as tie
+use Rattle.types.specs.layout.Placing.{alignUp}
+use Rattle.types.proofs.layout.LayoutLaws.{align-most}
+use Rattle.types.proofs.layout.placing.align_up.Statement.{statement}
+use Rattle.types.proofs.layout.placing.align_up.Tie as tie
 
 sub-result : tie.Need-sub-result
 sub-result c = search needs

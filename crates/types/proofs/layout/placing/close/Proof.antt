@@ -1,9 +1,9 @@
 -- `types::close` meets its contract.
 use borrow.Author.Needs.{needs}
 use mathlib.Core.Path.{sym, ap}
-use Rattle.types.specs.Layout.{closed}
-use Rattle.types.proofs.layout.close.Statement.{statement}
-use Rattle.types.proofs.layout.close.Tie as tie
+use Rattle.types.specs.layout.Placing.{closed}
+use Rattle.types.proofs.layout.placing.close.Statement.{statement}
+use Rattle.types.proofs.layout.placing.close.Tie as tie
 
 enum-told : tie.Need-enum-told
 enum-told c = search needs

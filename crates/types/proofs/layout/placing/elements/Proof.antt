@@ -2,9 +2,9 @@
 use native.Mathlib.Omega.{arith}
 use borrow.Author.Needs.{needs}
 use mathlib.Core.Path.{_∙_}
-use Rattle.types.proofs.LayoutLaws.{times-one, times-same}
-use Rattle.types.proofs.layout.elements.Statement.{statement}
-use Rattle.types.proofs.layout.elements.Tie as tie
+use Rattle.types.proofs.layout.LayoutLaws.{times-one, times-same}
+use Rattle.types.proofs.layout.placing.elements.Statement.{statement}
+use Rattle.types.proofs.layout.placing.elements.Tie as tie
 
 returns : tie.Need-returns
 returns c = record { is = times-one (c .before .args .count) (c .if1 .taken); small = omega arith }

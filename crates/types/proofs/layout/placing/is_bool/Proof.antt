@@ -3,9 +3,9 @@ use borrow.Author.Needs.{needs}
 use Prim.Native.Nat.{ℕ}
 use mathlib.Core.Path.{sym, ap, _∙_}
 use lib.Dec.{eqb}
-use Rattle.types.specs.Layout.{isBool}
-use Rattle.types.proofs.layout.is_bool.Statement.{statement}
-use Rattle.types.proofs.layout.is_bool.Tie as tie
+use Rattle.types.specs.layout.Placing.{isBool}
+use Rattle.types.proofs.layout.placing.is_bool.Statement.{statement}
+use Rattle.types.proofs.layout.placing.is_bool.Tie as tie
 
 enum-known-ty : tie.Need-enum-known-ty
 enum-known-ty c = search needs

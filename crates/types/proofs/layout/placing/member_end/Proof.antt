@@ -3,10 +3,10 @@ use native.Mathlib.Omega.{arith}
 use borrow.Author.Needs.{needs}
 use mathlib.Core.Path.{_≡_}
 use Prim.Native.Nat.{_+_, _*_, _≤_}
-use Rattle.types.specs.Layout.{times}
-use Rattle.types.proofs.LayoutLaws.{product-most, end-at, end-over}
-use Rattle.types.proofs.layout.member_end.Statement.{statement}
-use Rattle.types.proofs.layout.member_end.Tie as tie
+use Rattle.types.specs.layout.Placing.{times}
+use Rattle.types.proofs.layout.LayoutLaws.{product-most, end-at, end-over}
+use Rattle.types.proofs.layout.placing.member_end.Statement.{statement}
+use Rattle.types.proofs.layout.placing.member_end.Tie as tie
 
 product : (c : tie.After-elements) → c .before .wide642 .result * c .elements .result ≤ 0xFFFF_FFFE_0000_0001
 product c = product-most (omega arith) (c .elements .ensures .small)

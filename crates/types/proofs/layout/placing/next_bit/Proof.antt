@@ -1,9 +1,9 @@
 -- `types::next_bit` meets its contract.
 use borrow.Author.Needs.{needs}
 use mathlib.Core.Path.{refl}
-use Rattle.types.specs.Layout.{nextBit}
-use Rattle.types.proofs.layout.next_bit.Statement.{statement}
-use Rattle.types.proofs.layout.next_bit.Tie as tie
+use Rattle.types.specs.layout.Placing.{nextBit}
+use Rattle.types.proofs.layout.placing.next_bit.Statement.{statement}
+use Rattle.types.proofs.layout.placing.next_bit.Tie as tie
 
 add-t10 : tie.Need-add-t10
 add-t10 c = search needs

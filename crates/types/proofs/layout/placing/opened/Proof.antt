@@ -1,9 +1,9 @@
 -- `types::opened` meets its contract.
 use borrow.Author.Needs.{needs}
 use mathlib.Core.Path.{refl}
-use Rattle.types.specs.Layout.{opened}
-use Rattle.types.proofs.layout.opened.Statement.{statement}
-use Rattle.types.proofs.layout.opened.Tie as tie
+use Rattle.types.specs.layout.Placing.{opened}
+use Rattle.types.proofs.layout.placing.opened.Statement.{statement}
+use Rattle.types.proofs.layout.placing.opened.Tie as tie
 
 add-t12 : tie.Need-add-t12
 add-t12 c = search needs

@@ -1,9 +1,9 @@
 -- `types::place` meets its contract.
 use borrow.Author.Needs.{needs}
 use mathlib.Core.Path.{sym, _∙_}
-use Rattle.types.proofs.LayoutLaws.{placed-bool, placed-other, placed-wrong}
-use Rattle.types.proofs.layout.place.Statement.{statement}
-use Rattle.types.proofs.layout.place.Tie as tie
+use Rattle.types.proofs.layout.LayoutLaws.{placed-bool, placed-other, placed-wrong}
+use Rattle.types.proofs.layout.placing.place.Statement.{statement}
+use Rattle.types.proofs.layout.placing.place.Tie as tie
 
 access-ok-requires : tie.Need-access-ok-requires
 access-ok-requires c κs = search needs

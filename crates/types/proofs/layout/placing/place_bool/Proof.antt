@@ -3,9 +3,9 @@ use native.Mathlib.Omega.{arith}
 use borrow.Author.Needs.{needs}
 use mathlib.Core.Path.{_∙_}
 use borrow.Author.Tests.{lt-ltb, le-ltb}
-use Rattle.types.specs.Layout.{placeBool}
-use Rattle.types.proofs.layout.place_bool.Statement.{statement}
-use Rattle.types.proofs.layout.place_bool.Tie as tie
+use Rattle.types.specs.layout.Placing.{placeBool}
+use Rattle.types.proofs.layout.placing.place_bool.Statement.{statement}
+use Rattle.types.proofs.layout.placing.place_bool.Tie as tie
 
 enum-told : tie.Need-enum-told
 enum-told c = search needs

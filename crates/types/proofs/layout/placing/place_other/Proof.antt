@@ -1,9 +1,9 @@
 -- `types::place_other` meets its contract: the end decides.
 use borrow.Author.Needs.{needs}
-use Rattle.types.specs.Layout.{startOf}
-use Rattle.types.proofs.LayoutLaws.{other-over, other-at}
-use Rattle.types.proofs.layout.place_other.Statement.{statement}
-use Rattle.types.proofs.layout.place_other.Tie as tie
+use Rattle.types.specs.layout.Placing.{startOf}
+use Rattle.types.proofs.layout.LayoutLaws.{other-over, other-at}
+use Rattle.types.proofs.layout.placing.place_other.Statement.{statement}
+use Rattle.types.proofs.layout.placing.place_other.Tie as tie
 
 align-up-requires : tie.Need-align-up-requires
 align-up-requires c κs = search needs

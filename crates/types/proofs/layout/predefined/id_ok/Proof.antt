@@ -1,7 +1,7 @@
 -- `types::id_ok` meets its contract, one test after the other.
-use Rattle.types.proofs.PredefinedLaws.{id-zero, id-large, id-low, id-user, id-high}
-use Rattle.types.proofs.predefined.id_ok.Statement.{statement}
-use Rattle.types.proofs.predefined.id_ok.Tie as tie
+use Rattle.types.proofs.layout.PredefinedLaws.{id-zero, id-large, id-low, id-user, id-high}
+use Rattle.types.proofs.layout.predefined.id_ok.Statement.{statement}
+use Rattle.types.proofs.layout.predefined.id_ok.Tie as tie
 
 returns : tie.Need-returns
 returns c = id-zero (c .before .args .id) (c .if1 .taken)

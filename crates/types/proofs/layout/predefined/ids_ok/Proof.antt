@@ -3,10 +3,10 @@ use borrow.Author.Needs.{needs}
 use borrow.Author.Tests.{not-true, not-false}
 use mathlib.Core.Path.{_≡_, sym, _∙_}
 use mathlib.Core.Bool.{true}
-use Rattle.types.specs.Predefined.{predefinedId}
-use Rattle.types.proofs.PredefinedLaws.{wrong-1, wrong-2, wrong-3, wrong-4, ids-differ}
-use Rattle.types.proofs.predefined.ids_ok.Statement.{statement}
-use Rattle.types.proofs.predefined.ids_ok.Tie as tie
+use Rattle.types.specs.layout.Predefined.{predefinedId}
+use Rattle.types.proofs.layout.PredefinedLaws.{wrong-1, wrong-2, wrong-3, wrong-4, ids-differ}
+use Rattle.types.proofs.layout.predefined.ids_ok.Statement.{statement}
+use Rattle.types.proofs.layout.predefined.ids_ok.Tie as tie
 
 -- the ids that passed
 one : (c : tie.Else1) → predefinedId (c .before .before .args .ids .timer) ≡ true

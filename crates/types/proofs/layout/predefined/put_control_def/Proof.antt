@@ -2,11 +2,11 @@
 use borrow.Author.Needs.{needs}
 use native.Mathlib.Omega.{arith}
 use mathlib.Core.Path.{_∙_}
-use Rattle.types.specs.declared.member.StructKind.the-variants.{Predefined}
-use Rattle.types.proofs.AddStoreLaws.{new-readable, new-took}
-use Rattle.types.proofs.PredefinedLaws.{control-counted}
-use Rattle.types.proofs.predefined.put_control_def.Statement.{statement}
-use Rattle.types.proofs.predefined.put_control_def.Tie as tie
+use Rattle.types.specs.declared.tables.member.StructKind.the-variants.{Predefined}
+use Rattle.types.proofs.adding.AddStoreLaws.{new-readable, new-took}
+use Rattle.types.proofs.layout.PredefinedLaws.{control-counted}
+use Rattle.types.proofs.layout.predefined.put_control_def.Statement.{statement}
+use Rattle.types.proofs.layout.predefined.put_control_def.Tie as tie
 
 -- where the function starts, from where the row was entered
 abbrev begun : tie.After-enter → tie.Start

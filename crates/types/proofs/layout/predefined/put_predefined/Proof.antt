@@ -1,13 +1,15 @@
 -- `types::put_predefined` meets its contract: after each call the tables stand for one type more.
 use borrow.Author.Needs.{needs}
 use native.Mathlib.Omega.{arith}
-use Rattle.types.specs.Predefined.{withTimer, withCounter, withControl}
-use Rattle.types.specs.Registry.{Stands}
-use Rattle.types.proofs.PredefinedLaws.{Allowed, ids-allowed, ready-for, none-built, timer-built, counter-built}
-use Rattle.types.proofs.PredefinedLaws.{control-built, none-stands, timer-stands, counter-stands}
-use Rattle.types.proofs.PredefinedLaws.{control-stands, string-stands, timer-ready, counter-ready, control-ready}
-use Rattle.types.proofs.predefined.put_predefined.Statement.{statement}
-use Rattle.types.proofs.predefined.put_predefined.Tie as tie
+use Rattle.types.specs.inside.tables.Registry.{Stands}
+use Rattle.types.specs.layout.Predefined.{withTimer, withCounter, withControl}
+use Rattle.types.proofs.layout.PredefinedLaws.{Allowed, ids-allowed, ready-for, none-built, timer-built}
+use Rattle.types.proofs.layout.PredefinedLaws.{counter-built}
+use Rattle.types.proofs.layout.PredefinedLaws.{control-built, none-stands, timer-stands, counter-stands}
+use Rattle.types.proofs.layout.PredefinedLaws.{control-stands, string-stands, timer-ready, counter-ready}
+use Rattle.types.proofs.layout.PredefinedLaws.{control-ready}
+use Rattle.types.proofs.layout.predefined.put_predefined.Statement.{statement}
+use Rattle.types.proofs.layout.predefined.put_predefined.Tie as tie
 
 good : (c : tie.Start) → Allowed (c .args .ids)
 good c = ids-allowed _ (c .pre .1)

@@ -3,10 +3,10 @@ use borrow.Author.Needs.{needs}
 use Prim.Native.Nat.{_*_}
 use mathlib.Core.Path.{ap, _∙_}
 use lib.Seq.{sets}
-use Rattle.types.specs.Digits.{hostName}
-use Rattle.types.proofs.StoreLaws.{one-row-of, one-name}
-use Rattle.types.proofs.store.put_host.Statement.{statement}
-use Rattle.types.proofs.store.put_host.Tie as tie
+use Rattle.types.specs.layout.HostNames.{hostName}
+use Rattle.types.proofs.layout.StoreLaws.{one-row-of, one-name}
+use Rattle.types.proofs.layout.store.put_host.Statement.{statement}
+use Rattle.types.proofs.layout.store.put_host.Tie as tie
 
 host-long-requires : tie.Need-host-long-requires
 host-long-requires c κs = search needs

@@ -3,9 +3,9 @@ use borrow.Author.Needs.{needs}
 use Prim.Native.Nat.{_*_}
 use mathlib.Core.Path.{ap, _∙_}
 use lib.Seq.{sets}
-use Rattle.types.proofs.StoreLaws.{one-row, one-name}
-use Rattle.types.proofs.store.put_part.Statement.{statement}
-use Rattle.types.proofs.store.put_part.Tie as tie
+use Rattle.types.proofs.layout.StoreLaws.{one-row, one-name}
+use Rattle.types.proofs.layout.store.put_part.Statement.{statement}
+use Rattle.types.proofs.layout.store.put_part.Tie as tie
 
 put-bytes-requires : tie.Need-put-bytes-requires
 put-bytes-requires c κs = search needs

@@ -5,13 +5,14 @@ use Prim.Native.Nat.{_-_, _*_}
 use mathlib.Core.Path.{_≡_}
 use lib.Seq.{sets}
 use Rattle.words.specs.Words.{Bytes}
-use Rattle.types.specs.Entries.{declAt}
-use Rattle.types.specs.Passes.{oneParts, storedOne}
-use Rattle.types.specs.Structs.{rowsOf, namesOf}
-use Rattle.types.proofs.Storing.{Storing, starts, rows-done, names-done, one-found, one-fits, rows-stopped}
-use Rattle.types.proofs.Storing.{names-stopped, goes-on}
-use Rattle.types.proofs.store.store.Statement.{statement}
-use Rattle.types.proofs.store.store.Tie as tie
+use Rattle.types.specs.inside.book.Decls.{declAt}
+use Rattle.types.specs.inside.layout.Passes.{oneParts, storedOne}
+use Rattle.types.specs.layout.Structs.{rowsOf, namesOf}
+use Rattle.types.proofs.layout.store.Storing.{Storing, starts, rows-done, names-done, one-found, one-fits}
+use Rattle.types.proofs.layout.store.Storing.{rows-stopped}
+use Rattle.types.proofs.layout.store.Storing.{names-stopped, goes-on}
+use Rattle.types.proofs.layout.store.store.Statement.{statement}
+use Rattle.types.proofs.layout.store.store.Tie as tie
 
 abbrev Inv-loop : tie.InvT-loop
 Inv-loop types book tys at n name members₀ row names₀ place c₀ next-row₀ next-place₀ j₀ members names c next-row

@@ -5,13 +5,14 @@ use Prim.Native.Nat.{_+_, _-_}
 use mathlib.Core.Path.{_≡_}
 use mathlib.Core.Logic.{inl, inr}
 use lib.ListN.{length, take, drop}
-use Rattle.types.specs.Defs.{nameIn}
-use Rattle.types.proofs.StoreOneLaws.{lent-name, lent-long, TwoFit, OneFits, two-fit, one-fits, next-hosted}
-use Rattle.types.proofs.StoreOneLaws.{next-alone}
-use Rattle.types.proofs.StoreOneLaws.{stop-access, stop-far, rows-hosted, names-hosted, rows-alone}
-use Rattle.types.proofs.StoreOneLaws.{names-alone, rows-kept, names-kept}
-use Rattle.types.proofs.store.store_one.Statement.{statement}
-use Rattle.types.proofs.store.store_one.Tie as tie
+use Rattle.types.specs.tables.Defs.{nameIn}
+use Rattle.types.proofs.layout.StoreOneLaws.{lent-name, lent-long, TwoFit, OneFits, two-fit, one-fits}
+use Rattle.types.proofs.layout.StoreOneLaws.{next-hosted}
+use Rattle.types.proofs.layout.StoreOneLaws.{next-alone}
+use Rattle.types.proofs.layout.StoreOneLaws.{stop-access, stop-far, rows-hosted, names-hosted, rows-alone}
+use Rattle.types.proofs.layout.StoreOneLaws.{names-alone, rows-kept, names-kept}
+use Rattle.types.proofs.layout.store.store_one.Statement.{statement}
+use Rattle.types.proofs.layout.store.store_one.Tie as tie
 
 two : (c : tie.After-p)
     → let a = c .before .before .before .before .before .before .before .args in

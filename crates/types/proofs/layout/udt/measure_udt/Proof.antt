@@ -1,9 +1,9 @@
 -- `types::measure_udt` meets its contract.
 use borrow.Author.Needs.{needs}
 use mathlib.Core.Path.{_∙_}
-use Rattle.types.proofs.Measuring.{from-start}
-use Rattle.types.proofs.udt.measure_udt.Statement.{statement}
-use Rattle.types.proofs.udt.measure_udt.Tie as tie
+use Rattle.types.proofs.layout.Measuring.{from-start}
+use Rattle.types.proofs.layout.udt.measure_udt.Statement.{statement}
+use Rattle.types.proofs.layout.udt.measure_udt.Tie as tie
 
 udt-start-requires : tie.Need-udt-start-requires
 udt-start-requires c κs = search needs

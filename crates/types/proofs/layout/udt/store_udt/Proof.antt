@@ -1,8 +1,8 @@
 -- `types::store_udt` meets its contract.
 use borrow.Author.Needs.{needs}
-use Rattle.types.specs.Passes.{udtParts}
-use Rattle.types.proofs.udt.store_udt.Statement.{statement}
-use Rattle.types.proofs.udt.store_udt.Tie as tie
+use Rattle.types.specs.inside.layout.Passes.{udtParts}
+use Rattle.types.proofs.layout.udt.store_udt.Statement.{statement}
+use Rattle.types.proofs.layout.udt.store_udt.Tie as tie
 
 udt-start-requires : tie.Need-udt-start-requires
 udt-start-requires c κs = search needs

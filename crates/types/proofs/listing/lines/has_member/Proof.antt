@@ -1,10 +1,10 @@
 -- `types::has_member` meets its contract.
 use borrow.Author.Needs.{needs}
 use mathlib.Core.Path.{sym, _∙_}
-use Rattle.types.specs.Listing.{hasMember}
-use Rattle.types.proofs.ThereLaws.{there-below}
-use Rattle.types.proofs.listing.has_member.Statement.{statement}
-use Rattle.types.proofs.listing.has_member.Tie as tie
+use Rattle.types.specs.listing.Lines.{hasMember}
+use Rattle.types.proofs.tables.ThereLaws.{there-below}
+use Rattle.types.proofs.listing.lines.has_member.Statement.{statement}
+use Rattle.types.proofs.listing.lines.has_member.Tie as tie
 
 is-there-requires : tie.Need-is-there-requires
 is-there-requires c κs = search needs

@@ -2,11 +2,13 @@
 use borrow.Author.Needs.{needs}
 use mathlib.Core.List.{List}
 use Prim.Native.Nat.{ℕ}
-use Rattle.types.specs.Listing.{line, TypeNamed, Short}
-use Rattle.types.proofs.ListingLaws.{Left, left-room, left-on, memberFields, member-lined, row-same, row-below}
-use Rattle.types.proofs.ListingLaws.{row-short, row-named, row-left}
-use Rattle.types.proofs.listing.member_line.Statement.{statement}
-use Rattle.types.proofs.listing.member_line.Tie as tie
+use Rattle.types.specs.inside.listing.Lines.{TypeNamed, Short}
+use Rattle.types.specs.listing.Lines.{line}
+use Rattle.types.proofs.listing.lines.ListingLaws.{Left, left-room, left-on, memberFields, member-lined}
+use Rattle.types.proofs.listing.lines.ListingLaws.{row-same, row-below}
+use Rattle.types.proofs.listing.lines.ListingLaws.{row-short, row-named, row-left}
+use Rattle.types.proofs.listing.lines.member_line.Statement.{statement}
+use Rattle.types.proofs.listing.lines.member_line.Tie as tie
 
 abbrev first : tie.After-name-row → tie.After-wide
 first c = c .before .before

@@ -2,9 +2,9 @@
 use borrow.Author.Needs.{needs}
 use mathlib.Core.Path.{sym}
 use lib.Seq.{length-take-le}
-use Rattle.types.proofs.AtomicLaws.{row-name, row-long}
-use Rattle.types.proofs.listing.put_atomic.Statement.{statement}
-use Rattle.types.proofs.listing.put_atomic.Tie as tie
+use Rattle.types.proofs.atomics.AtomicLaws.{row-name, row-long}
+use Rattle.types.proofs.listing.lines.put_atomic.Statement.{statement}
+use Rattle.types.proofs.listing.lines.put_atomic.Tie as tie
 
 row-requires : tie.Need-row-requires
 row-requires c κs = search needs

@@ -1,7 +1,7 @@
 -- `types::put_bit` meets its contract.
 use borrow.Author.Needs.{needs}
-use Rattle.types.proofs.listing.put_bit.Statement.{statement}
-use Rattle.types.proofs.listing.put_bit.Tie as tie
+use Rattle.types.proofs.listing.lines.put_bit.Statement.{statement}
+use Rattle.types.proofs.listing.lines.put_bit.Tie as tie
 
 enum-told : tie.Need-enum-told
 enum-told c = search needs

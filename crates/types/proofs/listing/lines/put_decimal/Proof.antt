@@ -1,8 +1,8 @@
 -- `types::put_decimal` meets its contract: the part of the bytes is the digits.
 use borrow.Author.Needs.{needs}
-use Rattle.types.proofs.ListingLaws.{spelt-part}
-use Rattle.types.proofs.listing.put_decimal.Statement.{statement}
-use Rattle.types.proofs.listing.put_decimal.Tie as tie
+use Rattle.types.proofs.listing.lines.ListingLaws.{spelt-part}
+use Rattle.types.proofs.listing.lines.put_decimal.Statement.{statement}
+use Rattle.types.proofs.listing.lines.put_decimal.Tie as tie
 
 decimal-of-requires : tie.Need-decimal-of-requires
 decimal-of-requires c κs = search needs

@@ -1,8 +1,8 @@
 -- `types::put_field` meets its contract: the bytes, then the one that ends them.
 use borrow.Author.Needs.{needs}
-use Rattle.types.proofs.ListingLaws.{fits-first, fits-then, added-both}
-use Rattle.types.proofs.listing.put_field.Statement.{statement}
-use Rattle.types.proofs.listing.put_field.Tie as tie
+use Rattle.types.proofs.listing.lines.ListingLaws.{fits-first, fits-then, added-both}
+use Rattle.types.proofs.listing.lines.put_field.Statement.{statement}
+use Rattle.types.proofs.listing.lines.put_field.Tie as tie
 
 put-text-requires : tie.Need-put-text-requires
 put-text-requires c κs = fits-first _ _ (c .before .before .before .pre)

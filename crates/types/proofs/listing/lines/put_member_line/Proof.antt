@@ -3,11 +3,11 @@ use native.Mathlib.Omega.{arith}
 use borrow.Author.Needs.{needs}
 use mathlib.Core.Path.{_≡_, sym, _∙_}
 use mathlib.Core.Bool.{true}
-use Rattle.types.specs.Listing.{hasMember}
-use Rattle.types.proofs.GivenLaws.{given-absent, line-given, line-inside, line-long, line-short}
-use Rattle.types.proofs.ThereLaws.{kept-there, member-there}
-use Rattle.types.proofs.listing.put_member_line.Statement.{statement}
-use Rattle.types.proofs.listing.put_member_line.Tie as tie
+use Rattle.types.specs.listing.Lines.{hasMember}
+use Rattle.types.proofs.refusals.GivenLaws.{given-absent, line-given, line-inside, line-long, line-short}
+use Rattle.types.proofs.tables.ThereLaws.{kept-there, member-there}
+use Rattle.types.proofs.listing.lines.put_member_line.Statement.{statement}
+use Rattle.types.proofs.listing.lines.put_member_line.Tie as tie
 
 -- the test was passed
 there : (c : tie.Then1)

@@ -1,8 +1,8 @@
 -- `types::put_name` meets its contract: the part of the table is the name.
 use borrow.Author.Needs.{needs}
-use Rattle.types.proofs.TemplateLaws.{table-part}
-use Rattle.types.proofs.listing.put_name.Statement.{statement}
-use Rattle.types.proofs.listing.put_name.Tie as tie
+use Rattle.types.proofs.templates.TemplateLaws.{table-part}
+use Rattle.types.proofs.listing.lines.put_name.Statement.{statement}
+use Rattle.types.proofs.listing.lines.put_name.Tie as tie
 
 wide-requires : tie.Need-wide-requires
 wide-requires c κs = search needs

@@ -1,8 +1,8 @@
 -- `types::put_number` meets its contract: the digits, then the byte that ends them.
 use borrow.Author.Needs.{needs}
-use Rattle.types.proofs.ListingLaws.{fits-first, fits-then, added-both}
-use Rattle.types.proofs.listing.put_number.Statement.{statement}
-use Rattle.types.proofs.listing.put_number.Tie as tie
+use Rattle.types.proofs.listing.lines.ListingLaws.{fits-first, fits-then, added-both}
+use Rattle.types.proofs.listing.lines.put_number.Statement.{statement}
+use Rattle.types.proofs.listing.lines.put_number.Tie as tie
 
 put-decimal-requires : tie.Need-put-decimal-requires
 put-decimal-requires c κs = fits-first _ _ (c .before .before .pre)

@@ -3,10 +3,10 @@ use borrow.Author.Needs.{needs}
 use mathlib.Core.Path.{_∙_}
 use mathlib.Core.List.{List}
 use Prim.Native.Nat.{ℕ}
-use Rattle.types.specs.Listing.{line, typeNumbers}
-use Rattle.types.proofs.ListingLaws.{Left, left-room, left-on, last-room, left-done, numbers-left}
-use Rattle.types.proofs.listing.put_numbers.Statement.{statement}
-use Rattle.types.proofs.listing.put_numbers.Tie as tie
+use Rattle.types.specs.listing.Lines.{line, typeNumbers}
+use Rattle.types.proofs.listing.lines.ListingLaws.{Left, left-room, left-on, last-room, left-done, numbers-left}
+use Rattle.types.proofs.listing.lines.put_numbers.Statement.{statement}
+use Rattle.types.proofs.listing.lines.put_numbers.Tie as tie
 
 abbrev start : tie.After-wide644 → tie.Start
 start c = c .before .before .before .before .before .before

@@ -2,12 +2,12 @@
 use borrow.Author.Needs.{needs}
 use mathlib.Core.List.{List, [], _∷_}
 use Prim.Native.Nat.{ℕ}
-use Rattle.types.specs.Defs.{nameIn}
-use Rattle.types.specs.Digits.{digits}
-use Rattle.types.specs.Listing.{line, bitText, memberPlace}
-use Rattle.types.proofs.ListingLaws.{Left, left-room, left-on, last-room, left-done, place-left}
-use Rattle.types.proofs.listing.put_place.Statement.{statement}
-use Rattle.types.proofs.listing.put_place.Tie as tie
+use Rattle.types.specs.layout.HostNames.{digits}
+use Rattle.types.specs.listing.Lines.{line, bitText, memberPlace}
+use Rattle.types.specs.tables.Defs.{nameIn}
+use Rattle.types.proofs.listing.lines.ListingLaws.{Left, left-room, left-on, last-room, left-done, place-left}
+use Rattle.types.proofs.listing.lines.put_place.Statement.{statement}
+use Rattle.types.proofs.listing.lines.put_place.Tie as tie
 
 abbrev start : tie.After-wide642 → tie.Start
 start c = c .before .before .before .before

@@ -2,9 +2,9 @@
 use borrow.Author.Needs.{needs}
 use native.Mathlib.Omega.{arith}
 use mathlib.Core.Path.{refl}
-use Rattle.types.proofs.GivenLaws.{line-given, line-inside, line-long, line-short}
-use Rattle.types.proofs.listing.put_refused_line.Statement.{statement}
-use Rattle.types.proofs.listing.put_refused_line.Tie as tie
+use Rattle.types.proofs.refusals.GivenLaws.{line-given, line-inside, line-long, line-short}
+use Rattle.types.proofs.listing.lines.put_refused_line.Statement.{statement}
+use Rattle.types.proofs.listing.lines.put_refused_line.Tie as tie
 
 slice-aggregate-refused-line : tie.Need-slice-aggregate-refused-line
 slice-aggregate-refused-line c = search needs

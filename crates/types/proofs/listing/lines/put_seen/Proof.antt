@@ -1,7 +1,7 @@
 -- `types::put_seen` meets its contract.
 use borrow.Author.Needs.{needs}
-use Rattle.types.proofs.listing.put_seen.Statement.{statement}
-use Rattle.types.proofs.listing.put_seen.Tie as tie
+use Rattle.types.proofs.listing.lines.put_seen.Statement.{statement}
+use Rattle.types.proofs.listing.lines.put_seen.Tie as tie
 
 slice-aggregate-put-field : tie.Need-slice-aggregate-put-field
 slice-aggregate-put-field c = search needs

@@ -3,12 +3,12 @@ use native.Mathlib.Omega.{arith}
 use borrow.Author.Needs.{needs}
 use mathlib.Core.Path.{_≡_, sym, _∙_}
 use mathlib.Core.Bool.{true}
-use Rattle.types.specs.declared.member.Ty.the-variants.{Struct}
-use Rattle.types.specs.Template.{hasTemplate}
-use Rattle.types.proofs.GivenLaws.{given-absent, line-given, line-inside, line-long, line-short}
-use Rattle.types.proofs.ThereLaws.{kept-there}
-use Rattle.types.proofs.listing.put_type_line.Statement.{statement}
-use Rattle.types.proofs.listing.put_type_line.Tie as tie
+use Rattle.types.specs.templates.Template.{hasTemplate}
+use Rattle.types.specs.declared.tables.member.Ty.the-variants.{Struct}
+use Rattle.types.proofs.refusals.GivenLaws.{given-absent, line-given, line-inside, line-long, line-short}
+use Rattle.types.proofs.tables.ThereLaws.{kept-there}
+use Rattle.types.proofs.listing.lines.put_type_line.Statement.{statement}
+use Rattle.types.proofs.listing.lines.put_type_line.Tie as tie
 
 -- the test was passed
 there : (c : tie.Then1)

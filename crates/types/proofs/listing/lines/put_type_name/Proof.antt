@@ -1,8 +1,8 @@
 -- `types::put_type_name` meets its contract: an atomic's name, or that of the structure in its row.
 use borrow.Author.Needs.{needs}
-use Rattle.types.proofs.ListingLaws.{struct-named}
-use Rattle.types.proofs.listing.put_type_name.Statement.{statement}
-use Rattle.types.proofs.listing.put_type_name.Tie as tie
+use Rattle.types.proofs.listing.lines.ListingLaws.{struct-named}
+use Rattle.types.proofs.listing.lines.put_type_name.Statement.{statement}
+use Rattle.types.proofs.listing.lines.put_type_name.Tie as tie
 
 enum-known-ty : tie.Need-enum-known-ty
 enum-known-ty c = search needs

@@ -2,11 +2,11 @@
 use borrow.Author.Needs.{needs}
 use mathlib.Core.List.{List}
 use Prim.Native.Nat.{ℕ}
-use Rattle.types.specs.Listing.{line}
-use Rattle.types.proofs.ListingLaws.{Left, left-room, left-on, last-room, left-done, refusedFields}
-use Rattle.types.proofs.ListingLaws.{refused-left, refused-lined}
-use Rattle.types.proofs.listing.refused_line.Statement.{statement}
-use Rattle.types.proofs.listing.refused_line.Tie as tie
+use Rattle.types.specs.listing.Lines.{line}
+use Rattle.types.proofs.listing.lines.ListingLaws.{Left, left-room, left-on, last-room, left-done, refusedFields}
+use Rattle.types.proofs.listing.lines.ListingLaws.{refused-left, refused-lined}
+use Rattle.types.proofs.listing.lines.refused_line.Statement.{statement}
+use Rattle.types.proofs.listing.lines.refused_line.Tie as tie
 
 abbrev start : tie.After-wide64 → tie.Start
 start c = c .before .before

@@ -2,10 +2,12 @@
 use borrow.Author.Needs.{needs}
 use mathlib.Core.List.{List}
 use Prim.Native.Nat.{ℕ}
-use Rattle.types.specs.Listing.{line, Listable}
-use Rattle.types.proofs.ListingLaws.{Left, left-room, left-on, typeFields, type-left, type-lined, listed}
-use Rattle.types.proofs.listing.type_line.Statement.{statement}
-use Rattle.types.proofs.listing.type_line.Tie as tie
+use Rattle.types.specs.inside.listing.Lines.{Listable}
+use Rattle.types.specs.listing.Lines.{line}
+use Rattle.types.proofs.listing.lines.ListingLaws.{Left, left-room, left-on, typeFields, type-left, type-lined}
+use Rattle.types.proofs.listing.lines.ListingLaws.{listed}
+use Rattle.types.proofs.listing.lines.type_line.Statement.{statement}
+use Rattle.types.proofs.listing.lines.type_line.Tie as tie
 
 abbrev start : tie.After-lost-bits → tie.Start
 start c = c .before .before .before .before

@@ -1,8 +1,8 @@
 -- `types::give` meets its contract: with room, and without it.
 use borrow.Author.Needs.{needs}
-use Rattle.types.proofs.GivenLaws.{given-none, given-room}
-use Rattle.types.proofs.given.give.Statement.{statement}
-use Rattle.types.proofs.given.give.Tie as tie
+use Rattle.types.proofs.refusals.GivenLaws.{given-none, given-room}
+use Rattle.types.proofs.refusals.given.give.Statement.{statement}
+use Rattle.types.proofs.refusals.given.give.Tie as tie
 
 returns : tie.Need-returns
 returns c = given-none _ _ (c .if1 .taken)

@@ -1,8 +1,8 @@
 -- `types::build` meets its contract: a scratch of 65,536 is enough for any book.
 use borrow.Author.Needs.{needs}
-use Rattle.types.proofs.ScratchLaws.{few-all, scratch-local}
-use Rattle.types.proofs.building.build.Statement.{statement}
-use Rattle.types.proofs.building.build.Tie as tie
+use Rattle.types.proofs.rounds.build.ScratchLaws.{few-all, scratch-local}
+use Rattle.types.proofs.rounds.build.build.Statement.{statement}
+use Rattle.types.proofs.rounds.build.build.Tie as tie
 
 is-small-requires : tie.Need-is-small-requires
 is-small-requires c κs = search needs

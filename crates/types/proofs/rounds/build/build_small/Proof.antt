@@ -1,8 +1,8 @@
 -- `types::build_small` meets its contract.
 use borrow.Author.Needs.{needs}
-use Rattle.types.proofs.ScratchLaws.{scratch-local}
-use Rattle.types.proofs.building.build_small.Statement.{statement}
-use Rattle.types.proofs.building.build_small.Tie as tie
+use Rattle.types.proofs.rounds.build.ScratchLaws.{scratch-local}
+use Rattle.types.proofs.rounds.build.build_small.Statement.{statement}
+use Rattle.types.proofs.rounds.build.build_small.Tie as tie
 
 slice-aggregate-build-with : tie.Need-slice-aggregate-build-with
 slice-aggregate-build-with c = search needs

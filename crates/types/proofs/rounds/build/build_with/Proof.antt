@@ -4,12 +4,12 @@ use borrow.Author.Needs.{needs}
 use mathlib.Core.Path.{_≡_, sym, _∙_}
 use mathlib.Core.Bool.{true}
 use borrow.Author.Tests.{not-true, not-false}
-use Rattle.types.specs.Book.{bookOk}
-use Rattle.types.specs.Predefined.{predefinedIds}
-use Rattle.types.proofs.BuildLaws.{ended-ids, ended-book, ended-run}
-use Rattle.types.proofs.SoundLaws.{sound}
-use Rattle.types.proofs.building.build_with.Statement.{statement}
-use Rattle.types.proofs.building.build_with.Tie as tie
+use Rattle.types.specs.book.Contents.{bookOk}
+use Rattle.types.specs.layout.Predefined.{predefinedIds}
+use Rattle.types.proofs.book.SoundLaws.{sound}
+use Rattle.types.proofs.rounds.build.BuildLaws.{ended-ids, ended-book, ended-run}
+use Rattle.types.proofs.rounds.build.build_with.Statement.{statement}
+use Rattle.types.proofs.rounds.build.build_with.Tie as tie
 
 -- where the build begins
 abbrev begun : tie.After-clear → tie.Start

@@ -1,7 +1,7 @@
 -- `types::clear` meets its contract.
-use Rattle.types.proofs.WaitLaws.{cleared}
-use Rattle.types.proofs.building.clear.Statement.{statement}
-use Rattle.types.proofs.building.clear.Tie as tie
+use Rattle.types.proofs.rounds.WaitLaws.{cleared}
+use Rattle.types.proofs.rounds.build.clear.Statement.{statement}
+use Rattle.types.proofs.rounds.build.clear.Tie as tie
 
 returns : tie.Need-returns
 returns c = cleared

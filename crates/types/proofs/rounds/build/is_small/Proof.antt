@@ -2,9 +2,9 @@
 use borrow.Author.Needs.{needs}
 use mathlib.Core.Path.{sym, _∙_}
 use mathlib.Core.Bool.{true≢false}
-use Rattle.types.proofs.ScratchLaws.{few-short, few-read}
-use Rattle.types.proofs.building.is_small.Statement.{statement}
-use Rattle.types.proofs.building.is_small.Tie as tie
+use Rattle.types.proofs.rounds.build.ScratchLaws.{few-short, few-read}
+use Rattle.types.proofs.rounds.build.is_small.Statement.{statement}
+use Rattle.types.proofs.rounds.build.is_small.Tie as tie
 
 returns : tie.Need-returns
 returns c q = few-short _ 256 2048 (c .if1 .taken)

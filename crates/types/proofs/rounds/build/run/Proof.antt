@@ -3,15 +3,15 @@ use native.Mathlib.Omega.{arith}
 use borrow.Author.Needs.{needs}
 use mathlib.Core.Path.{_∙_}
 use mathlib.Core.List.{List}
-use Rattle.types.specs.Defs.{Def}
-use Rattle.types.specs.OneRound.{Reached, first}
-use Rattle.types.specs.Predefined.{predefined}
-use Rattle.types.specs.Registry.{Stands}
-use Rattle.types.proofs.BuildLaws.{Going, going-start, going-few, going-in, going-less, going-next}
-use Rattle.types.proofs.BuildLaws.{ended-all, ended-no, ended-stuck}
-use Rattle.types.proofs.OneRoundLaws.{const-small}
-use Rattle.types.proofs.building.run.Statement.{statement}
-use Rattle.types.proofs.building.run.Tie as tie
+use Rattle.types.specs.inside.rounds.OneRound.{Reached, first}
+use Rattle.types.specs.inside.tables.Registry.{Stands}
+use Rattle.types.specs.layout.Predefined.{predefined}
+use Rattle.types.specs.tables.Defs.{Def}
+use Rattle.types.proofs.rounds.OneRoundLaws.{const-small}
+use Rattle.types.proofs.rounds.build.BuildLaws.{Going, going-start, going-few, going-in, going-less, going-next}
+use Rattle.types.proofs.rounds.build.BuildLaws.{ended-all, ended-no, ended-stuck}
+use Rattle.types.proofs.rounds.build.run.Statement.{statement}
+use Rattle.types.proofs.rounds.build.run.Tie as tie
 
 abbrev Inv-loop : tie.InvT-loop
 Inv-loop book T t₀ m₀ n₀ tys₀ f₀ k₀ r₀ u₀ left₀ t m n tys f k r u left =
@@ -46,7 +46,7 @@ abbrev added : tie.Else1 Inv-loop μ-loop → tie.After-tried Inv-loop μ-loop
 added c = c .before .before .before .before .before
 
 -- the round, and where it began
-abbrev made : tie.After-tried Inv-loop μ-loop → tie.After-turns Inv-loop μ-loop
+abbrev made : tie.After-tried Inv-loop μ-loop → tie.After-one-round Inv-loop μ-loop
 made c = c .before .before .before .before .before .before .before
 
 abbrev began : tie.After-tried Inv-loop μ-loop → tie.In-loop Inv-loop μ-loop
@@ -63,8 +63,8 @@ loop-holds c =
     λ start reached stands.
     going-start (known .before .pre) (λ k. (known .shared-slice-known .given k) .fits) reached stands
 
-turns-requires : tie.Need-turns-requires Inv-loop μ-loop
-turns-requires c κs = going-in (going (c .before .before .before .before .before .before .before .before))
+one-round-requires : tie.Need-one-round-requires Inv-loop μ-loop
+one-round-requires c κs = going-in (going (c .before .before .before .before .before .before .before .before))
 
 enum-known-r : tie.Need-enum-known-r Inv-loop μ-loop
 enum-known-r c = search needs
@@ -90,7 +90,7 @@ same-length-4 c = refused c .tried .given ∙ going (began (refused c) .before) 
 returns : tie.Need-returns Inv-loop μ-loop
 returns c =
     let turn = began (refused c) in
-    ended-no (going (turn .before)) (made (refused c) .turns .ensures) (turn .loop-test .taken) _
+    ended-no (going (turn .before)) (made (refused c) .one-round .ensures) (turn .loop-test .taken) _
     (c .before .before .before .before .before .r .given .1) (c .clear .ensures)
 
 enum-known-r-2 : tie.Need-enum-known-r-2 Inv-loop μ-loop
@@ -133,14 +133,14 @@ returns-2 : tie.Need-returns-2 Inv-loop μ-loop
 returns-2 c =
     let stuck = in-vain c in
     let turn = began (idle stuck) in
-    ended-stuck (going (turn .before)) (made (idle stuck) .turns .ensures) (turn .loop-test .taken) _ _
+    ended-stuck (going (turn .before)) (made (idle stuck) .one-round .ensures) (turn .loop-test .taken) _ _
     (stuck .before .before .r2 .given .1) _ (stuck .if1 .taken) (c .first-waiting .ensures)
     (c .before .before .clear2 .ensures)
 
 loop-less : tie.Need-loop-less Inv-loop μ-loop
 loop-less c =
     let turn = began (added c) in
-    going-less (going (turn .before)) (made (added c) .turns .ensures) (turn .loop-test .taken) _ _
+    going-less (going (turn .before)) (made (added c) .one-round .ensures) (turn .loop-test .taken) _ _
     (c .before .before .r2 .given .1) (c .if1 .left)
 
 loop-again : tie.Need-loop-again Inv-loop μ-loop
@@ -148,7 +148,7 @@ loop-again c =
     let round = added c in
     let turn = began round in
     λ start reached stands.
-    going-next (turn .before .loop .inv start reached stands) (made round .turns .ensures) (turn .loop-test .taken) _ _
+    going-next (turn .before .loop .inv start reached stands) (made round .one-round .ensures) (turn .loop-test .taken) _ _
     (c .before .before .r2 .given .1) (c .if1 .left) (round .before .before .before .before .before .before .tys .given)
     (round .before .before .before .before .done .given) (round .before .before .stuck .given) (round .tried .given)
 
@@ -178,7 +178,7 @@ run-spec =
     μ-loop
     put-predefined-requires
     loop-holds
-    turns-requires
+    one-round-requires
     enum-known-r
     clear-requires
     same-length

@@ -5,14 +5,15 @@ use Prim.Native.Nat.{_+_, _-_, _≤_}
 use native.Mathlib.Nat.{sub-zero, zero-add}
 use mathlib.Core.Path.{_≡_, refl, sym, _∙_}
 use lib.ListN.{length}
-use Rattle.types.specs.Lookup.{rowName, rowNames, typeAmong}
-use Rattle.types.specs.Resolve.{typeName, Resolvable}
-use Rattle.types.proofs.AgreeLaws.{length-list}
-use Rattle.types.proofs.DefLaws.{earlier-fits}
-use Rattle.types.proofs.ResolveLaws.{found-earlier, Left, left-on, left-stop, left-end}
-use Rattle.types.proofs.StoreOneLaws.{lent-name}
-use Rattle.types.proofs.resolve.resolve.Statement.{statement}
-use Rattle.types.proofs.resolve.resolve.Tie as tie
+use Rattle.types.specs.atomics.Lookup.{rowName, rowNames, typeAmong}
+use Rattle.types.specs.inside.rounds.Resolve.{Resolvable}
+use Rattle.types.specs.rounds.Resolve.{typeName}
+use Rattle.types.proofs.layout.StoreOneLaws.{lent-name}
+use Rattle.types.proofs.rounds.ResolveLaws.{found-earlier, Left, left-on, left-stop, left-end}
+use Rattle.types.proofs.tables.AgreeLaws.{length-list}
+use Rattle.types.proofs.tables.DefLaws.{earlier-fits}
+use Rattle.types.proofs.rounds.resolve.resolve.Statement.{statement}
+use Rattle.types.proofs.rounds.resolve.resolve.Tie as tie
 
 abbrev Inv-loop : tie.InvT-loop
 Inv-loop types names known book at n tys₀ j₀ tys j =

@@ -5,13 +5,13 @@ use Prim.Native.Nat.{_+_, _-_, _≤_}
 use mathlib.Core.Path.{_≡_, sym, _∙_}
 use mathlib.Core.Bool.{true≢false}
 use lib.ListN.{length}
-use Rattle.types.specs.Book.{listFrom}
-use Rattle.types.specs.Lookup.{rowName, namedAmong}
-use Rattle.types.specs.Resolve.{typeName}
-use Rattle.types.proofs.SearchLaws.{unseen-none}
-use Rattle.types.proofs.StoreOneLaws.{lent-name}
-use Rattle.types.proofs.resolve.waits_still.Statement.{statement}
-use Rattle.types.proofs.resolve.waits_still.Tie as tie
+use Rattle.types.specs.atomics.Lookup.{rowName, namedAmong}
+use Rattle.types.specs.book.Contents.{listFrom}
+use Rattle.types.specs.rounds.Resolve.{typeName}
+use Rattle.types.proofs.layout.StoreOneLaws.{lent-name}
+use Rattle.types.proofs.rounds.SearchLaws.{unseen-none}
+use Rattle.types.proofs.rounds.resolve.waits_still.Statement.{statement}
+use Rattle.types.proofs.rounds.resolve.waits_still.Tie as tie
 
 returns : tie.Need-returns
 returns c = λ q. absurd (true≢false (sym q))

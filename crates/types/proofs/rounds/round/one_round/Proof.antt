@@ -4,13 +4,14 @@ use borrow.Author.Needs.{needs}
 use Prim.Native.Nat.{_-_}
 use mathlib.Core.Logic.{⊎-elim}
 use mathlib.Core.Path.{_≡_, ap, _∙_}
-use Rattle.types.specs.declared.book.TypeEntry.{TypeEntry}
-use Rattle.types.specs.Turns.{countOf}
-use Rattle.types.proofs.OneRoundLaws.{Within, const-small, start-small, within-start, within-in, within-near}
-use Rattle.types.proofs.OneRoundLaws.{within-flag, within-left, within-past, within-wait, within-yes}
-use Rattle.types.proofs.OneRoundLaws.{made-all, made-no}
-use Rattle.types.proofs.round.turns.Statement.{statement}
-use Rattle.types.proofs.round.turns.Tie as tie
+use Rattle.types.specs.rounds.Turns.{countOf}
+use Rattle.types.specs.declared.book.contents.TypeEntry.{TypeEntry}
+use Rattle.types.proofs.rounds.OneRoundLaws.{Within, const-small, start-small, within-start, within-in}
+use Rattle.types.proofs.rounds.OneRoundLaws.{within-near}
+use Rattle.types.proofs.rounds.OneRoundLaws.{within-flag, within-left, within-past, within-wait, within-yes}
+use Rattle.types.proofs.rounds.OneRoundLaws.{made-all, made-no}
+use Rattle.types.proofs.rounds.round.one_round.Statement.{statement}
+use Rattle.types.proofs.rounds.round.one_round.Tie as tie
 
 abbrev Inv-loop : tie.InvT-loop
 Inv-loop book T l t₀ m₀ n₀ tys₀ f₀ k₀ r₀ u₀ left₀ i₀ at₀ t m n tys f k r u left i at =
@@ -170,8 +171,8 @@ same-length-8 c = c .before .loop .inv .rows
 returns-2 : tie.Need-returns-2 Inv-loop μ-loop
 returns-2 c = made-all (c .before .loop .inv) (c .loop-test .left)
 
-pub turns-spec : {M : Type 1} → statement M
-turns-spec =
+pub one-round-spec : {M : Type 1} → statement M
+one-round-spec =
     tie.close
     (tie.spec
     Inv-loop

@@ -4,12 +4,12 @@ use borrow.Author.Needs.{needs}
 use Prim.Native.Nat.{_+_, _≤_}
 use mathlib.Core.Path.{_≡_, refl, ap, _∙_}
 use lib.ListN.{length}
-use Rattle.types.specs.declared.book.TypeEntry.{TypeEntry}
-use Rattle.types.specs.Turns.{countOf}
-use Rattle.types.proofs.StoreOneLaws.{lent-name}
-use Rattle.types.proofs.TurnLaws.{turn-looks, turn-still, turn-waits, turn-ready, turn-takes}
-use Rattle.types.proofs.turn.take_turn.Statement.{statement}
-use Rattle.types.proofs.turn.take_turn.Tie as tie
+use Rattle.types.specs.rounds.Turns.{countOf}
+use Rattle.types.specs.declared.book.contents.TypeEntry.{TypeEntry}
+use Rattle.types.proofs.layout.StoreOneLaws.{lent-name}
+use Rattle.types.proofs.rounds.turn.TurnLaws.{turn-looks, turn-still, turn-waits, turn-ready, turn-takes}
+use Rattle.types.proofs.rounds.turn.take_turn.Statement.{statement}
+use Rattle.types.proofs.rounds.turn.take_turn.Tie as tie
 
 -- where the turn begins, from its two tests
 abbrev begun : tie.After-waits-still → tie.Start

@@ -2,10 +2,10 @@
 use borrow.Author.Needs.{needs}
 use Prim.Native.Nat.{_+_, _*_, _/_}
 use mathlib.Core.Path.{_≡_, _∙_}
-use Rattle.types.specs.Layout.{alignUp}
-use Rattle.types.proofs.ShapeLaws.{bool-over, bool-within}
-use Rattle.types.proofs.shape.bool_shape.Statement.{statement}
-use Rattle.types.proofs.shape.bool_shape.Tie as tie
+use Rattle.types.specs.layout.Placing.{alignUp}
+use Rattle.types.proofs.shape.ShapeLaws.{bool-over, bool-within}
+use Rattle.types.proofs.shape.tags.bool_shape.Statement.{statement}
+use Rattle.types.proofs.shape.tags.bool_shape.Tie as tie
 
 rounded : (c : tie.After-wide64) → (c .wide64 .result + 31) / 32 * 32 ≡ alignUp (c .before .args .n) 32
 unfolding alignUp

@@ -1,9 +1,9 @@
 -- `types::bool_tag` meets its contract.
 use borrow.Author.Needs.{needs}
 use mathlib.Core.Path.{sym, _∙_}
-use Rattle.types.proofs.ShapeLaws.{tag-bool, tag-other}
-use Rattle.types.proofs.shape.bool_tag.Statement.{statement}
-use Rattle.types.proofs.shape.bool_tag.Tie as tie
+use Rattle.types.proofs.shape.ShapeLaws.{tag-bool, tag-other}
+use Rattle.types.proofs.shape.tags.bool_tag.Statement.{statement}
+use Rattle.types.proofs.shape.tags.bool_tag.Tie as tie
 
 is-bool-requires : tie.Need-is-bool-requires
 is-bool-requires c κs = search needs

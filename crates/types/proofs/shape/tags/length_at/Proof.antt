@@ -2,8 +2,8 @@
 use borrow.Author.Needs.{needs}
 use mathlib.Core.Path.{sym}
 use lib.ListN.{List·getD-eq-default}
-use Rattle.types.proofs.shape.length_at.Statement.{statement}
-use Rattle.types.proofs.shape.length_at.Tie as tie
+use Rattle.types.proofs.shape.tags.length_at.Statement.{statement}
+use Rattle.types.proofs.shape.tags.length_at.Tie as tie
 
 mul-result : tie.Need-mul-result
 mul-result c = search needs

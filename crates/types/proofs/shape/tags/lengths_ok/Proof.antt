@@ -1,9 +1,9 @@
 -- `types::lengths_ok` meets its contract.
 use borrow.Author.Needs.{needs}
 use mathlib.Core.Path.{_∙_}
-use Rattle.types.proofs.ShapeLaws.{too-many, few}
-use Rattle.types.proofs.shape.lengths_ok.Statement.{statement}
-use Rattle.types.proofs.shape.lengths_ok.Tie as tie
+use Rattle.types.proofs.shape.ShapeLaws.{too-many, few}
+use Rattle.types.proofs.shape.tags.lengths_ok.Statement.{statement}
+use Rattle.types.proofs.shape.tags.lengths_ok.Tie as tie
 
 most-lengths-requires : tie.Need-most-lengths-requires
 most-lengths-requires c κs = search needs

@@ -1,9 +1,9 @@
 -- `types::most_lengths` meets its contract.
 use borrow.Author.Needs.{needs}
 use mathlib.Core.Path.{sym, _∙_}
-use Rattle.types.proofs.ShapeLaws.{most-bool, most-other}
-use Rattle.types.proofs.shape.most_lengths.Statement.{statement}
-use Rattle.types.proofs.shape.most_lengths.Tie as tie
+use Rattle.types.proofs.shape.ShapeLaws.{most-bool, most-other}
+use Rattle.types.proofs.shape.tags.most_lengths.Statement.{statement}
+use Rattle.types.proofs.shape.tags.most_lengths.Tie as tie
 
 is-bool-requires : tie.Need-is-bool-requires
 is-bool-requires c κs = search needs

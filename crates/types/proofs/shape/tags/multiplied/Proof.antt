@@ -7,9 +7,9 @@ use mathlib.Core.Path.{_≡_, sym, _∙_}
 use mathlib.Core.Bool.{true}
 use lib.Dec.{leb}
 use lib.ListN.{length}
-use Rattle.types.proofs.ShapeLaws.{Multiplying, mul-start, mul-on, mul-over, mul-done}
-use Rattle.types.proofs.shape.multiplied.Statement.{statement}
-use Rattle.types.proofs.shape.multiplied.Tie as tie
+use Rattle.types.proofs.shape.ShapeLaws.{Multiplying, mul-start, mul-on, mul-over, mul-done}
+use Rattle.types.proofs.shape.tags.multiplied.Statement.{statement}
+use Rattle.types.proofs.shape.tags.multiplied.Tie as tie
 
 abbrev Inv-loop : tie.InvT-loop
 Inv-loop lengths n₀ i₀ n i = Multiplying lengths n i

@@ -3,10 +3,10 @@ use native.Mathlib.Omega.{arith}
 use Prim.Native.Nat.{_-_, _≤_}
 use mathlib.Core.Path.{_≡_, refl, sym, _∙_}
 use lib.ListN.{length, drop}
-use Rattle.types.specs.Shape.{noneZero}
-use Rattle.types.proofs.ShapeLaws.{none-on, none-off, none-done}
-use Rattle.types.proofs.shape.none_zero.Statement.{statement}
-use Rattle.types.proofs.shape.none_zero.Tie as tie
+use Rattle.types.specs.shape.Tags.{noneZero}
+use Rattle.types.proofs.shape.ShapeLaws.{none-on, none-off, none-done}
+use Rattle.types.proofs.shape.tags.none_zero.Statement.{statement}
+use Rattle.types.proofs.shape.tags.none_zero.Tie as tie
 
 abbrev Inv-loop : tie.InvT-loop
 Inv-loop lengths i₀ i = (i ≤ length lengths) × (noneZero lengths ≡ noneZero (drop i lengths))

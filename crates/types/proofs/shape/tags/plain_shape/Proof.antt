@@ -1,9 +1,9 @@
 -- `types::plain_shape` meets its contract: the product decides.
 use borrow.Author.Needs.{needs}
 use mathlib.Core.Path.{_∙_}
-use Rattle.types.proofs.ShapeLaws.{plain-over, plain-is}
-use Rattle.types.proofs.shape.plain_shape.Statement.{statement}
-use Rattle.types.proofs.shape.plain_shape.Tie as tie
+use Rattle.types.proofs.shape.ShapeLaws.{plain-over, plain-is}
+use Rattle.types.proofs.shape.tags.plain_shape.Statement.{statement}
+use Rattle.types.proofs.shape.tags.plain_shape.Tie as tie
 
 multiplied-requires : tie.Need-multiplied-requires
 multiplied-requires c κs = search needs

@@ -1,8 +1,8 @@
 -- `types::product_fits` meets its contract: a quotient decides.
 use borrow.Author.Needs.{needs}
-use Rattle.types.proofs.ShapeLaws.{fits-zero, fits-div}
-use Rattle.types.proofs.shape.product_fits.Statement.{statement}
-use Rattle.types.proofs.shape.product_fits.Tie as tie
+use Rattle.types.proofs.shape.ShapeLaws.{fits-zero, fits-div}
+use Rattle.types.proofs.shape.tags.product_fits.Statement.{statement}
+use Rattle.types.proofs.shape.tags.product_fits.Tie as tie
 
 returns : tie.Need-returns
 returns c =

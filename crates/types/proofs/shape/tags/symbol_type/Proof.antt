@@ -4,10 +4,10 @@ use borrow.Author.Needs.{needs}
 use Prim.Native.Nat.{_<_}
 use mathlib.Core.Path.{_≡_, sym, _∙_}
 use mathlib.Core.Bool.{true}
-use Rattle.types.specs.Shape.{isThere}
-use Rattle.types.proofs.ShapeLaws.{symbol-absent, symbol-is, symbol-many, there-fits, type-below}
-use Rattle.types.proofs.shape.symbol_type.Statement.{statement}
-use Rattle.types.proofs.shape.symbol_type.Tie as tie
+use Rattle.types.specs.tables.There.{isThere}
+use Rattle.types.proofs.shape.ShapeLaws.{symbol-absent, symbol-is, symbol-many, there-fits, type-below}
+use Rattle.types.proofs.shape.tags.symbol_type.Statement.{statement}
+use Rattle.types.proofs.shape.tags.symbol_type.Tie as tie
 
 -- the test was passed
 there : (c : tie.Then1) → isThere (c .before .before .args .types .now) (c .before .before .args .s .ty) ≡ true

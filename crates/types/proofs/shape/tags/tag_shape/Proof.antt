@@ -2,10 +2,11 @@
 use borrow.Author.Needs.{needs}
 use mathlib.Core.Path.{_≡_, sym, _∙_}
 use mathlib.Core.Bool.{true}
-use Rattle.types.specs.Shape.{isThere, lengthsOk}
-use Rattle.types.proofs.ShapeLaws.{there-fits, ok-none, not-there, lengths-wrong, bools, others}
-use Rattle.types.proofs.shape.tag_shape.Statement.{statement}
-use Rattle.types.proofs.shape.tag_shape.Tie as tie
+use Rattle.types.specs.shape.Tags.{lengthsOk}
+use Rattle.types.specs.tables.There.{isThere}
+use Rattle.types.proofs.shape.ShapeLaws.{there-fits, ok-none, not-there, lengths-wrong, bools, others}
+use Rattle.types.proofs.shape.tags.tag_shape.Statement.{statement}
+use Rattle.types.proofs.shape.tags.tag_shape.Tie as tie
 
 there : (c : tie.Then1)
     → isThere (c .before .before .before .args .types .now) (c .before .before .before .args .ty) ≡ true

@@ -4,10 +4,10 @@ use borrow.Author.Needs.{needs}
 use borrow.Author.Tests.{leb-true}
 use Prim.Native.Nat.{_*_, _≤_}
 use mathlib.Core.Path.{sym, _∙_}
-use Rattle.types.specs.Layout.{most}
-use Rattle.types.proofs.ShapeLaws.{within-fits, within-over}
-use Rattle.types.proofs.shape.tag_within.Statement.{statement}
-use Rattle.types.proofs.shape.tag_within.Tie as tie
+use Rattle.types.specs.layout.Placing.{most}
+use Rattle.types.proofs.shape.ShapeLaws.{within-fits, within-over}
+use Rattle.types.proofs.shape.tags.tag_within.Statement.{statement}
+use Rattle.types.proofs.shape.tags.tag_within.Tie as tie
 
 -- the bytes are few enough to multiply
 small : (c : tie.Then1) → c .before .before .size-in .result * c .before .before .before .args .n ≤ most

@@ -3,11 +3,11 @@ use native.Mathlib.Omega.{arith}
 use Prim.Native.Nat.{_+_, _-_, _≤_}
 use native.Mathlib.Nat.{sub-zero, zero-add}
 use mathlib.Core.Path.{_≡_, sym, _∙_}
-use Rattle.types.specs.Ids.{idWord}
-use Rattle.types.specs.Registry.{countFrom, typeCount}
-use Rattle.types.proofs.CountLaws.{count-stop, count-on, count-end}
-use Rattle.types.proofs.count.type_count.Statement.{statement}
-use Rattle.types.proofs.count.type_count.Tie as tie
+use Rattle.types.specs.adding.Ids.{idWord}
+use Rattle.types.specs.tables.Registry.{countFrom, typeCount}
+use Rattle.types.proofs.tables.CountLaws.{count-stop, count-on, count-end}
+use Rattle.types.proofs.tables.count.type_count.Statement.{statement}
+use Rattle.types.proofs.tables.count.type_count.Tie as tie
 
 abbrev Inv-loop : tie.InvT-loop
 Inv-loop types i₀ i = (i ≤ 200) × (typeCount types ≡ i + countFrom (idWord types) i (200 - i))

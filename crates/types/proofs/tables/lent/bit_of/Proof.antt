@@ -1,9 +1,9 @@
 -- `types::bit_of` meets its contract.
 use borrow.Author.Needs.{needs}
 use borrow.Author.Tests.{eq-eqb, ne-eqb}
-use Rattle.types.specs.Tables.{bitOf}
-use Rattle.types.proofs.tables.bit_of.Statement.{statement}
-use Rattle.types.proofs.tables.bit_of.Tie as tie
+use Rattle.types.specs.tables.Lent.{bitOf}
+use Rattle.types.proofs.tables.lent.bit_of.Statement.{statement}
+use Rattle.types.proofs.tables.lent.bit_of.Tie as tie
 
 returns : tie.Need-returns
 unfolding bitOf

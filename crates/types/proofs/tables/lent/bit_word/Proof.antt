@@ -1,9 +1,9 @@
 -- `types::bit_word` meets its contract.
 use borrow.Author.Needs.{needs}
 use mathlib.Core.Path.{sym, ap}
-use Rattle.types.specs.Tables.{bitWord}
-use Rattle.types.proofs.tables.bit_word.Statement.{statement}
-use Rattle.types.proofs.tables.bit_word.Tie as tie
+use Rattle.types.specs.tables.Lent.{bitWord}
+use Rattle.types.proofs.tables.lent.bit_word.Statement.{statement}
+use Rattle.types.proofs.tables.lent.bit_word.Tie as tie
 
 enum-told : tie.Need-enum-told
 enum-told c = search needs

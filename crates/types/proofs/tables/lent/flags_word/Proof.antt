@@ -1,6 +1,6 @@
 -- `types::flags_word` meets its contract.
-use Rattle.types.proofs.tables.flags_word.Statement.{statement}
-use Rattle.types.proofs.tables.flags_word.Tie as tie
+use Rattle.types.proofs.tables.lent.flags_word.Statement.{statement}
+use Rattle.types.proofs.tables.lent.flags_word.Tie as tie
 
 returns : tie.Need-returns
 returns c = simp (c .before .if1 .taken, c .if2 .taken)

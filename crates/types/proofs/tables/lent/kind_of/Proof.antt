@@ -1,9 +1,9 @@
 -- `types::kind_of` meets its contract.
 use mathlib.Core.Path.{sym, ap}
 use borrow.Author.Tests.{ne-eqb}
-use Rattle.types.specs.Tables.{kindOf}
-use Rattle.types.proofs.tables.kind_of.Statement.{statement}
-use Rattle.types.proofs.tables.kind_of.Tie as tie
+use Rattle.types.specs.tables.Lent.{kindOf}
+use Rattle.types.proofs.tables.lent.kind_of.Statement.{statement}
+use Rattle.types.proofs.tables.lent.kind_of.Tie as tie
 
 returns : tie.Need-returns
 unfolding kindOf

@@ -1,8 +1,8 @@
 -- `types::member_row` meets its contract: each field is read from its own word.
 use borrow.Author.Needs.{needs}
-use Rattle.types.specs.Tables.{memberAt}
-use Rattle.types.proofs.tables.member_row.Statement.{statement}
-use Rattle.types.proofs.tables.member_row.Tie as tie
+use Rattle.types.specs.tables.Lent.{memberAt}
+use Rattle.types.proofs.tables.lent.member_row.Statement.{statement}
+use Rattle.types.proofs.tables.lent.member_row.Tie as tie
 
 mul-at : tie.Need-mul-at
 mul-at c = search needs

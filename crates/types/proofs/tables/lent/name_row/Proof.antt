@@ -1,9 +1,9 @@
 -- `types::name_row` meets its contract: the first two words of the row.
 use borrow.Author.Needs.{needs}
 use mathlib.Core.Path.{refl}
-use Rattle.types.specs.Tables.{nameAt}
-use Rattle.types.proofs.tables.name_row.Statement.{statement}
-use Rattle.types.proofs.tables.name_row.Tie as tie
+use Rattle.types.specs.tables.Lent.{nameAt}
+use Rattle.types.proofs.tables.lent.name_row.Statement.{statement}
+use Rattle.types.proofs.tables.lent.name_row.Tie as tie
 
 mul-at : tie.Need-mul-at
 mul-at c = search needs

@@ -1,8 +1,8 @@
 -- `types::no_members` meets its contract.
 use mathlib.Core.Path.{refl}
-use Rattle.types.specs.Registry.{noMembers}
-use Rattle.types.proofs.tables.no_members.Statement.{statement}
-use Rattle.types.proofs.tables.no_members.Tie as tie
+use Rattle.types.specs.tables.Registry.{noMembers}
+use Rattle.types.proofs.tables.lent.no_members.Statement.{statement}
+use Rattle.types.proofs.tables.lent.no_members.Tie as tie
 
 returns : tie.Need-returns
 unfolding noMembers

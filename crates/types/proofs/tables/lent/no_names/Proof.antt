@@ -1,8 +1,8 @@
 -- `types::no_names` meets its contract.
 use mathlib.Core.Path.{refl}
-use Rattle.types.specs.Registry.{noNames}
-use Rattle.types.proofs.tables.no_names.Statement.{statement}
-use Rattle.types.proofs.tables.no_names.Tie as tie
+use Rattle.types.specs.tables.Registry.{noNames}
+use Rattle.types.proofs.tables.lent.no_names.Statement.{statement}
+use Rattle.types.proofs.tables.lent.no_names.Tie as tie
 
 returns : tie.Need-returns
 unfolding noNames

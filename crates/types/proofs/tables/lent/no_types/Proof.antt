@@ -1,8 +1,8 @@
 -- `types::no_types` meets its contract.
 use mathlib.Core.Path.{refl}
-use Rattle.types.specs.Registry.{noTypes}
-use Rattle.types.proofs.tables.no_types.Statement.{statement}
-use Rattle.types.proofs.tables.no_types.Tie as tie
+use Rattle.types.specs.tables.Registry.{noTypes}
+use Rattle.types.proofs.tables.lent.no_types.Statement.{statement}
+use Rattle.types.proofs.tables.lent.no_types.Tie as tie
 
 returns : tie.Need-returns
 unfolding noTypes

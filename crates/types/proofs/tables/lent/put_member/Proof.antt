@@ -1,10 +1,10 @@
 -- `types::put_member` meets its contract: eight stores are the member's row.
 use borrow.Author.Needs.{needs}
 use Prim.Native.Nat.{_*_}
-use Rattle.types.specs.Tables.{memberRow}
 use Rattle.words.proofs.Lists.{eight}
-use Rattle.types.proofs.tables.put_member.Statement.{statement}
-use Rattle.types.proofs.tables.put_member.Tie as tie
+use Rattle.types.specs.tables.Lent.{memberRow}
+use Rattle.types.proofs.tables.lent.put_member.Statement.{statement}
+use Rattle.types.proofs.tables.lent.put_member.Tie as tie
 
 mul-at : tie.Need-mul-at
 mul-at c = search needs

@@ -1,10 +1,10 @@
 -- `types::put_type` meets its contract: eight stores are the structure's row.
 use borrow.Author.Needs.{needs}
 use Prim.Native.Nat.{_*_}
-use Rattle.types.specs.Tables.{typeRow}
 use Rattle.words.proofs.Lists.{eight}
-use Rattle.types.proofs.tables.put_type.Statement.{statement}
-use Rattle.types.proofs.tables.put_type.Tie as tie
+use Rattle.types.specs.tables.Lent.{typeRow}
+use Rattle.types.proofs.tables.lent.put_type.Statement.{statement}
+use Rattle.types.proofs.tables.lent.put_type.Tie as tie
 
 mul-at : tie.Need-mul-at
 mul-at c = search needs

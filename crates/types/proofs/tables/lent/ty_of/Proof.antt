@@ -1,10 +1,10 @@
 -- `types::ty_of` meets its contract.
 use borrow.Author.Needs.{needs}
 use borrow.Author.Tests.{lt-ltb, le-ltb}
-use Rattle.types.specs.Tables.{tyOf}
-use Rattle.types.proofs.AtomicLaws.{at-is}
-use Rattle.types.proofs.tables.ty_of.Statement.{statement}
-use Rattle.types.proofs.tables.ty_of.Tie as tie
+use Rattle.types.specs.tables.Lent.{tyOf}
+use Rattle.types.proofs.atomics.AtomicLaws.{at-is}
+use Rattle.types.proofs.tables.lent.ty_of.Statement.{statement}
+use Rattle.types.proofs.tables.lent.ty_of.Tie as tie
 
 wide-requires : tie.Need-wide-requires
 wide-requires c κs = search needs

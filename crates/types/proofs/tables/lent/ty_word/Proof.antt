@@ -2,9 +2,9 @@
 use native.Mathlib.Omega.{arith}
 use borrow.Author.Needs.{needs}
 use mathlib.Core.Path.{sym, ap, _∙_}
-use Rattle.types.specs.Tables.{tyWord}
-use Rattle.types.proofs.tables.ty_word.Statement.{statement}
-use Rattle.types.proofs.tables.ty_word.Tie as tie
+use Rattle.types.specs.tables.Lent.{tyWord}
+use Rattle.types.proofs.tables.lent.ty_word.Statement.{statement}
+use Rattle.types.proofs.tables.lent.ty_word.Tie as tie
 
 enum-known-ty : tie.Need-enum-known-ty
 enum-known-ty c = search needs

@@ -1,8 +1,8 @@
 -- `types::type_row` meets its contract: each field is read from its own word.
 use borrow.Author.Needs.{needs}
-use Rattle.types.specs.Tables.{typeAt}
-use Rattle.types.proofs.tables.type_row.Statement.{statement}
-use Rattle.types.proofs.tables.type_row.Tie as tie
+use Rattle.types.specs.tables.Lent.{typeAt}
+use Rattle.types.proofs.tables.lent.type_row.Statement.{statement}
+use Rattle.types.proofs.tables.lent.type_row.Tie as tie
 
 mul-at : tie.Need-mul-at
 mul-at c = search needs

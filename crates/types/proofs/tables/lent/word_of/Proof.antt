@@ -1,9 +1,9 @@
 -- `types::word_of` meets its contract: the word of a type that fits is below 0x8000 + 200.
 use borrow.Author.Needs.{needs}
 use native.Mathlib.Omega.{arith}
-use Rattle.types.proofs.TableLaws.{word-below}
-use Rattle.types.proofs.tables.word_of.Statement.{statement}
-use Rattle.types.proofs.tables.word_of.Tie as tie
+use Rattle.types.proofs.tables.TableLaws.{word-below}
+use Rattle.types.proofs.tables.lent.word_of.Statement.{statement}
+use Rattle.types.proofs.tables.lent.word_of.Tie as tie
 
 ty-word-requires : tie.Need-ty-word-requires
 ty-word-requires c κs = search needs

@@ -1,10 +1,10 @@
 -- `types::member_at` meets its contract: what was read says its row's words.
 use borrow.Author.Needs.{needs}
 use mathlib.Core.Path.{ap, _∙_}
-use Rattle.types.specs.Tables.{memberSays}
-use Rattle.types.proofs.RowWords.{member-said}
-use Rattle.types.proofs.rows.member_at.Statement.{statement}
-use Rattle.types.proofs.rows.member_at.Tie as tie
+use Rattle.types.specs.tables.Lent.{memberSays}
+use Rattle.types.proofs.tables.rows.RowWords.{member-said}
+use Rattle.types.proofs.tables.rows.member_at.Statement.{statement}
+use Rattle.types.proofs.tables.rows.member_at.Tie as tie
 
 member-row-requires : tie.Need-member-row-requires
 member-row-requires c κs = search needs

@@ -1,10 +1,10 @@
 -- `types::type_at` meets its contract: what was read says its row's words.
 use borrow.Author.Needs.{needs}
 use mathlib.Core.Path.{ap, _∙_}
-use Rattle.types.specs.Tables.{typeRow}
-use Rattle.types.proofs.RowWords.{type-said}
-use Rattle.types.proofs.rows.type_at.Statement.{statement}
-use Rattle.types.proofs.rows.type_at.Tie as tie
+use Rattle.types.specs.tables.Lent.{typeRow}
+use Rattle.types.proofs.tables.rows.RowWords.{type-said}
+use Rattle.types.proofs.tables.rows.type_at.Statement.{statement}
+use Rattle.types.proofs.tables.rows.type_at.Tie as tie
 
 type-row-requires : tie.Need-type-row-requires
 type-row-requires c κs = search needs

@@ -1,7 +1,7 @@
 -- `types::size_in` meets its contract.
 use borrow.Author.Needs.{needs}
-use Rattle.types.proofs.waste_bits.size_in.Statement.{statement}
-use Rattle.types.proofs.waste_bits.size_in.Tie as tie
+use Rattle.types.proofs.tables.sizes.size_in.Statement.{statement}
+use Rattle.types.proofs.tables.sizes.size_in.Tie as tie
 
 enum-known-ty : tie.Need-enum-known-ty
 enum-known-ty c = search needs

@@ -1,8 +1,8 @@
 -- `types::is_there` meets its contract.
 use borrow.Author.Needs.{needs}
-use Rattle.types.proofs.ShapeLaws.{no-row, row-used}
-use Rattle.types.proofs.shape.is_there.Statement.{statement}
-use Rattle.types.proofs.shape.is_there.Tie as tie
+use Rattle.types.proofs.shape.ShapeLaws.{no-row, row-used}
+use Rattle.types.proofs.tables.there.is_there.Statement.{statement}
+use Rattle.types.proofs.tables.there.is_there.Tie as tie
 
 enum-told : tie.Need-enum-told
 enum-told c = search needs

@@ -1,7 +1,7 @@
 -- `types::type_in` meets its contract.
 use borrow.Author.Needs.{needs}
-use Rattle.types.proofs.pieces.type_in.Statement.{statement}
-use Rattle.types.proofs.pieces.type_in.Tie as tie
+use Rattle.types.proofs.tables.type_word.type_in.Statement.{statement}
+use Rattle.types.proofs.tables.type_word.type_in.Tie as tie
 
 enum-known-ty : tie.Need-enum-known-ty
 enum-known-ty c = search needs

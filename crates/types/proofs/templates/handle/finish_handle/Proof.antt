@@ -1,7 +1,7 @@
 -- `types::finish_handle` meets its contract.
-use Rattle.types.proofs.HandleLaws.{zero-one, other-same}
-use Rattle.types.proofs.handle.finish_handle.Statement.{statement}
-use Rattle.types.proofs.handle.finish_handle.Tie as tie
+use Rattle.types.proofs.templates.HandleLaws.{zero-one, other-same}
+use Rattle.types.proofs.templates.handle.finish_handle.Statement.{statement}
+use Rattle.types.proofs.templates.handle.finish_handle.Tie as tie
 
 returns : tie.Need-returns
 returns c = zero-one (c .before .args .h) (c .if1 .taken)

@@ -3,8 +3,8 @@ use native.Mathlib.Omega.{arith}
 use borrow.Author.Needs.{needs}
 use Prim.Native.Nat.{_+_, _*_, _/_, _%_}
 use lib.Bits.{xor-lt}
-use Rattle.types.proofs.handle.turn.Statement.{statement}
-use Rattle.types.proofs.handle.turn.Tie as tie
+use Rattle.types.proofs.templates.handle.fold_byte.Statement.{statement}
+use Rattle.types.proofs.templates.handle.fold_byte.Tie as tie
 
 wide16-requires : tie.Need-wide16-requires
 wide16-requires c κs = search needs
@@ -29,7 +29,7 @@ cast-result c = search needs
 returns : tie.Need-returns
 returns c = rw (c .before .wide16 .ensures, c .wide8 .ensures)
 
-pub turn-spec : {M : Type 1} → statement M
-turn-spec =
+pub fold-byte-spec : {M : Type 1} → statement M
+fold-byte-spec =
     tie.close
     (tie.spec wide16-requires mul-rotated add-rotated wide8-requires mul-result cast-result returns)

@@ -4,10 +4,10 @@ use borrow.Author.Needs.{needs}
 use Prim.Native.Nat.{_-_, _≤_}
 use mathlib.Core.Path.{_≡_, refl, sym, _∙_}
 use lib.ListN.{length, drop}
-use Rattle.types.specs.Handle.{foldFrom}
-use Rattle.types.proofs.HandleLaws.{fold-on, fold-done}
-use Rattle.types.proofs.handle.fold_handle.Statement.{statement}
-use Rattle.types.proofs.handle.fold_handle.Tie as tie
+use Rattle.types.specs.templates.Handle.{foldFrom}
+use Rattle.types.proofs.templates.HandleLaws.{fold-on, fold-done}
+use Rattle.types.proofs.templates.handle.fold_handle.Statement.{statement}
+use Rattle.types.proofs.templates.handle.fold_handle.Tie as tie
 
 abbrev Inv-loop : tie.InvT-loop
 Inv-loop h s fold₀ i₀ fold i = (i ≤ length s) × (foldFrom h s ≡ foldFrom fold (drop i s))
@@ -18,11 +18,11 @@ abbrev μ-loop : tie.MeasureT-loop
 loop-holds : tie.Need-loop-holds Inv-loop μ-loop
 loop-holds c = (omega arith, refl)
 
-shared-slice-read-turn : tie.Need-shared-slice-read-turn Inv-loop μ-loop
-shared-slice-read-turn c = omega arith
+shared-slice-read-fold-byte : tie.Need-shared-slice-read-fold-byte Inv-loop μ-loop
+shared-slice-read-fold-byte c = omega arith
 
-turn-requires : tie.Need-turn-requires Inv-loop μ-loop
-turn-requires c κs = search needs
+fold-byte-requires : tie.Need-fold-byte-requires Inv-loop μ-loop
+fold-byte-requires c κs = search needs
 
 add-i : tie.Need-add-i Inv-loop μ-loop
 add-i c = omega arith
@@ -49,8 +49,8 @@ fold-handle-spec =
     Inv-loop
     μ-loop
     loop-holds
-    shared-slice-read-turn
-    turn-requires
+    shared-slice-read-fold-byte
+    fold-byte-requires
     add-i
     loop-less
     loop-again

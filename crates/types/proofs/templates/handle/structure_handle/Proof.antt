@@ -1,9 +1,9 @@
 -- `types::structure_handle` meets its contract: the finished fold from the start.
 use borrow.Author.Needs.{needs}
 use mathlib.Core.Path.{ap, _∙_}
-use Rattle.types.specs.Handle.{notZero, handleOf}
-use Rattle.types.proofs.handle.structure_handle.Statement.{statement}
-use Rattle.types.proofs.handle.structure_handle.Tie as tie
+use Rattle.types.specs.templates.Handle.{notZero, handleOf}
+use Rattle.types.proofs.templates.handle.structure_handle.Statement.{statement}
+use Rattle.types.proofs.templates.handle.structure_handle.Tie as tie
 
 fold-handle-requires : tie.Need-fold-handle-requires
 fold-handle-requires c κs = search needs

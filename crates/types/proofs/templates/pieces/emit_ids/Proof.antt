@@ -5,11 +5,11 @@ use Prim.Native.Nat.{_+_, _-_}
 use native.Mathlib.Nat.{sub-zero}
 use mathlib.Core.Path.{_≡_, _∙_}
 use Rattle.words.specs.Words.{bytesOf}
-use Rattle.types.specs.Template.{memberIds}
-use Rattle.types.proofs.SinkLaws.{Turn, turn-first, left-room, left-on, left-none}
-use Rattle.types.proofs.TemplateLaws.{two-bytes, ids-on, ids-off}
-use Rattle.types.proofs.pieces.emit_ids.Statement.{statement}
-use Rattle.types.proofs.pieces.emit_ids.Tie as tie
+use Rattle.types.specs.templates.Template.{memberIds}
+use Rattle.types.proofs.templates.SinkLaws.{Turn, turn-first, left-room, left-on, left-none}
+use Rattle.types.proofs.templates.TemplateLaws.{two-bytes, ids-on, ids-off}
+use Rattle.types.proofs.templates.pieces.emit_ids.Statement.{statement}
+use Rattle.types.proofs.templates.pieces.emit_ids.Tie as tie
 
 abbrev Inv-loop : tie.InvT-loop
 Inv-loop n out₀ k₀ i₀ out k i = Turn (memberIds 0 n) (λ j. memberIds j (n - j)) n k₀ out₀ i k out

@@ -1,11 +1,11 @@
 -- `types::emit_name_n` meets its contract: two pieces are one.
 use borrow.Author.Needs.{needs}
 use mathlib.Core.Path.{refl}
-use Rattle.types.specs.Defs.{nameIn}
-use Rattle.types.specs.Template.{semicolonN}
-use Rattle.types.proofs.SinkLaws.{left-all, left-room, left-on, came-both}
-use Rattle.types.proofs.pieces.emit_name_n.Statement.{statement}
-use Rattle.types.proofs.pieces.emit_name_n.Tie as tie
+use Rattle.types.specs.tables.Defs.{nameIn}
+use Rattle.types.specs.templates.Template.{semicolonN}
+use Rattle.types.proofs.templates.SinkLaws.{left-all, left-room, left-on, came-both}
+use Rattle.types.proofs.templates.pieces.emit_name_n.Statement.{statement}
+use Rattle.types.proofs.templates.pieces.emit_name_n.Tie as tie
 
 emit-name-requires : tie.Need-emit-name-requires
 emit-name-requires c κs =

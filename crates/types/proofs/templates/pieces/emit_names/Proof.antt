@@ -5,11 +5,11 @@ use Prim.Native.Nat.{_+_, _-_}
 use native.Mathlib.Nat.{add-zero, sub-zero}
 use mathlib.Core.Path.{refl}
 use mathlib.Core.List.{[], _∷_}
-use Rattle.types.specs.Pieces.{namesFrom}
-use Rattle.types.proofs.SinkLaws.{Turn, turn-first, left-room, left-on, left-none}
-use Rattle.types.proofs.TemplateLaws.{row-inside, row-name, names-on, names-off, name-came}
-use Rattle.types.proofs.pieces.emit_names.Statement.{statement}
-use Rattle.types.proofs.pieces.emit_names.Tie as tie
+use Rattle.types.specs.inside.templates.Pieces.{namesFrom}
+use Rattle.types.proofs.templates.SinkLaws.{Turn, turn-first, left-room, left-on, left-none}
+use Rattle.types.proofs.templates.TemplateLaws.{row-inside, row-name, names-on, names-off, name-came}
+use Rattle.types.proofs.templates.pieces.emit_names.Statement.{statement}
+use Rattle.types.proofs.templates.pieces.emit_names.Tie as tie
 
 abbrev Inv-loop : tie.InvT-loop
 Inv-loop members names out₀ first n k₀ i₀ t11 out k i =

@@ -1,9 +1,9 @@
 -- `types::emit_padding` meets its contract: at most three zeros.
 use borrow.Author.Needs.{needs}
 use mathlib.Core.Path.{sym}
-use Rattle.types.proofs.TemplateLaws.{zeros-padding, padding-count}
-use Rattle.types.proofs.pieces.emit_padding.Statement.{statement}
-use Rattle.types.proofs.pieces.emit_padding.Tie as tie
+use Rattle.types.proofs.templates.TemplateLaws.{zeros-padding, padding-count}
+use Rattle.types.proofs.templates.pieces.emit_padding.Statement.{statement}
+use Rattle.types.proofs.templates.pieces.emit_padding.Tie as tie
 
 add-n : tie.Need-add-n
 add-n c = search needs

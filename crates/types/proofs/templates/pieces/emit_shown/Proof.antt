@@ -1,8 +1,8 @@
 -- `types::emit_shown` meets its contract: the name of each kind.
 use borrow.Author.Needs.{needs}
-use Rattle.types.proofs.TemplateLaws.{shown-udt, shown-bare, shown-aoi, shown-string, shown-ascii}
-use Rattle.types.proofs.pieces.emit_shown.Statement.{statement}
-use Rattle.types.proofs.pieces.emit_shown.Tie as tie
+use Rattle.types.proofs.templates.TemplateLaws.{shown-udt, shown-bare, shown-aoi, shown-string, shown-ascii}
+use Rattle.types.proofs.templates.pieces.emit_shown.Statement.{statement}
+use Rattle.types.proofs.templates.pieces.emit_shown.Tie as tie
 
 enum-told : tie.Need-enum-told
 enum-told c = search needs

@@ -2,10 +2,11 @@
 use borrow.Author.Needs.{needs}
 use Prim.Native.Nat.{ℕ, _%_}
 use mathlib.Core.Path.{ap, _∙_}
-use Rattle.types.specs.Template.{idsIn, infoBytes}
-use Rattle.types.proofs.TemplateLaws.{info-bytes}
-use Rattle.types.proofs.pieces.info.Statement.{statement}
-use Rattle.types.proofs.pieces.info.Tie as tie
+use Rattle.types.specs.tables.TypeWord.{idsIn}
+use Rattle.types.specs.templates.Template.{infoBytes}
+use Rattle.types.proofs.templates.TemplateLaws.{info-bytes}
+use Rattle.types.proofs.templates.pieces.info.Statement.{statement}
+use Rattle.types.proofs.templates.pieces.info.Tie as tie
 
 member-row-requires : tie.Need-member-row-requires
 member-row-requires c κs = search needs

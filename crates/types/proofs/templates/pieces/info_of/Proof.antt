@@ -1,7 +1,7 @@
 -- `types::info_of` meets its contract.
 use borrow.Author.Needs.{needs}
-use Rattle.types.proofs.pieces.info_of.Statement.{statement}
-use Rattle.types.proofs.pieces.info_of.Tie as tie
+use Rattle.types.proofs.templates.pieces.info_of.Statement.{statement}
+use Rattle.types.proofs.templates.pieces.info_of.Tie as tie
 
 enum-told : tie.Need-enum-told
 enum-told c = search needs

@@ -1,7 +1,7 @@
 -- `types::user_id` meets its contract.
-use Rattle.types.proofs.TemplateLaws.{id-below, id-within}
-use Rattle.types.proofs.pieces.user_id.Statement.{statement}
-use Rattle.types.proofs.pieces.user_id.Tie as tie
+use Rattle.types.proofs.templates.TemplateLaws.{id-below, id-within}
+use Rattle.types.proofs.templates.pieces.user_id.Statement.{statement}
+use Rattle.types.proofs.templates.pieces.user_id.Tie as tie
 
 returns : tie.Need-returns
 returns c = id-below (c .before .args .id) (c .if1 .taken)

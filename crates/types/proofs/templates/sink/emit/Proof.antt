@@ -1,8 +1,8 @@
 -- `types::emit` meets its contract: the bytes are folded, and stored if the sink writes.
 use borrow.Author.Needs.{needs}
-use Rattle.types.proofs.SinkLaws.{wrote}
-use Rattle.types.proofs.sink.emit.Statement.{statement}
-use Rattle.types.proofs.sink.emit.Tie as tie
+use Rattle.types.proofs.templates.SinkLaws.{wrote}
+use Rattle.types.proofs.templates.sink.emit.Statement.{statement}
+use Rattle.types.proofs.templates.sink.emit.Tie as tie
 
 fold-handle-requires : tie.Need-fold-handle-requires
 fold-handle-requires c κs = search needs

@@ -3,11 +3,11 @@ use native.Mathlib.Omega.{arith}
 use borrow.Author.Needs.{needs}
 use mathlib.Core.Path.{refl}
 use mathlib.Core.List.{[], _∷_}
-use Rattle.types.specs.Pieces.{infosIn, shownIn}
-use Rattle.types.proofs.SinkLaws.{left-all, left-room, left-on}
-use Rattle.types.proofs.WalkLaws.{front-is}
-use Rattle.types.proofs.templates.emit_front.Statement.{statement}
-use Rattle.types.proofs.templates.emit_front.Tie as tie
+use Rattle.types.specs.inside.templates.Pieces.{infosIn, shownIn}
+use Rattle.types.proofs.templates.SinkLaws.{left-all, left-room, left-on}
+use Rattle.types.proofs.templates.template.WalkLaws.{front-is}
+use Rattle.types.proofs.templates.template.emit_front.Statement.{statement}
+use Rattle.types.proofs.templates.template.emit_front.Tie as tie
 
 emit-infos-requires : tie.Need-emit-infos-requires
 emit-infos-requires c κs =

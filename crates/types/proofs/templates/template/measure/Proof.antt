@@ -2,9 +2,9 @@
 use borrow.Author.Needs.{needs}
 use mathlib.Core.Path.{refl, _∙_}
 use native.Mathlib.Nat.{zero-add}
-use Rattle.types.proofs.WalkLaws.{template-small, quiet-room}
-use Rattle.types.proofs.templates.measure.Statement.{statement}
-use Rattle.types.proofs.templates.measure.Tie as tie
+use Rattle.types.proofs.templates.template.WalkLaws.{template-small, quiet-room}
+use Rattle.types.proofs.templates.template.measure.Statement.{statement}
+use Rattle.types.proofs.templates.template.measure.Tie as tie
 
 slice-aggregate-walk : tie.Need-slice-aggregate-walk
 slice-aggregate-walk c = search needs

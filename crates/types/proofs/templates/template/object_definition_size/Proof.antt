@@ -1,8 +1,8 @@
 -- `types::object_definition_size` meets its contract.
 use borrow.Author.Needs.{needs}
-use Rattle.types.specs.Template.{objectSize}
-use Rattle.types.proofs.templates.object_definition_size.Statement.{statement}
-use Rattle.types.proofs.templates.object_definition_size.Tie as tie
+use Rattle.types.specs.templates.Template.{objectSize}
+use Rattle.types.proofs.templates.template.object_definition_size.Statement.{statement}
+use Rattle.types.proofs.templates.template.object_definition_size.Tie as tie
 
 wide-requires : tie.Need-wide-requires
 wide-requires c κs = search needs

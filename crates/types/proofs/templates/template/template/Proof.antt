@@ -2,13 +2,13 @@
 use borrow.Author.Needs.{needs}
 use mathlib.Core.Path.{_≡_, refl, sym, _∙_}
 use mathlib.Core.Bool.{true}
-use Rattle.types.specs.declared.member.Ty.the-variants.{Struct}
-use Rattle.types.specs.Defs.{Readable}
-use Rattle.types.specs.Template.{hasTemplate}
-use Rattle.types.proofs.GivenLaws.{given-none, given-room, given-absent}
-use Rattle.types.proofs.ThereLaws.{kept-there, there-below}
-use Rattle.types.proofs.templates.template.Statement.{statement}
-use Rattle.types.proofs.templates.template.Tie as tie
+use Rattle.types.specs.inside.tables.Defs.{Readable}
+use Rattle.types.specs.templates.Template.{hasTemplate}
+use Rattle.types.specs.declared.tables.member.Ty.the-variants.{Struct}
+use Rattle.types.proofs.refusals.GivenLaws.{given-none, given-room, given-absent}
+use Rattle.types.proofs.tables.ThereLaws.{kept-there, there-below}
+use Rattle.types.proofs.templates.template.template.Statement.{statement}
+use Rattle.types.proofs.templates.template.template.Tie as tie
 
 enum-told : tie.Need-enum-told
 enum-told c = search needs

@@ -1,9 +1,9 @@
 -- `types::template_handle` meets its contract: the finished fold of the walk.
 use borrow.Author.Needs.{needs}
 use mathlib.Core.Path.{ap, _∙_}
-use Rattle.types.specs.Handle.{notZero, handleOf}
-use Rattle.types.proofs.templates.template_handle.Statement.{statement}
-use Rattle.types.proofs.templates.template_handle.Tie as tie
+use Rattle.types.specs.templates.Handle.{notZero, handleOf}
+use Rattle.types.proofs.templates.template.template_handle.Statement.{statement}
+use Rattle.types.proofs.templates.template.template_handle.Tie as tie
 
 measure-requires : tie.Need-measure-requires
 measure-requires c κs = search needs

@@ -1,10 +1,10 @@
 -- `types::template_len` meets its contract: of a structure that is there, or 15.
 use borrow.Author.Needs.{needs}
 use mathlib.Core.Path.{sym, _∙_}
-use Rattle.types.specs.Template.{templateLength}
-use Rattle.types.proofs.ThereLaws.{kept-there, there-below}
-use Rattle.types.proofs.templates.template_len.Statement.{statement}
-use Rattle.types.proofs.templates.template_len.Tie as tie
+use Rattle.types.specs.templates.Template.{templateLength}
+use Rattle.types.proofs.tables.ThereLaws.{kept-there, there-below}
+use Rattle.types.proofs.templates.template.template_len.Statement.{statement}
+use Rattle.types.proofs.templates.template.template_len.Tie as tie
 
 is-there-requires : tie.Need-is-there-requires
 is-there-requires c κs = search needs

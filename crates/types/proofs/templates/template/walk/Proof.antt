@@ -2,11 +2,11 @@
 use native.Mathlib.Omega.{arith}
 use borrow.Author.Needs.{needs}
 use mathlib.Core.Path.{refl}
-use Rattle.types.specs.Template.{padding, memberIds}
-use Rattle.types.proofs.SinkLaws.{left-room, left-on}
-use Rattle.types.proofs.WalkLaws.{front-room, front-user, front-bare}
-use Rattle.types.proofs.templates.walk.Statement.{statement}
-use Rattle.types.proofs.templates.walk.Tie as tie
+use Rattle.types.specs.templates.Template.{padding, memberIds}
+use Rattle.types.proofs.templates.SinkLaws.{left-room, left-on}
+use Rattle.types.proofs.templates.template.WalkLaws.{front-room, front-user, front-bare}
+use Rattle.types.proofs.templates.template.walk.Statement.{statement}
+use Rattle.types.proofs.templates.template.walk.Tie as tie
 
 emit-front-requires : tie.Need-emit-front-requires
 emit-front-requires c κs =

@@ -1,9 +1,9 @@
 -- `types::write_template` meets its contract: the walk that stores starts at 0.
 use borrow.Author.Needs.{needs}
 use mathlib.Core.Path.{refl}
-use Rattle.types.proofs.WalkLaws.{template-small, writing-room}
-use Rattle.types.proofs.templates.write_template.Statement.{statement}
-use Rattle.types.proofs.templates.write_template.Tie as tie
+use Rattle.types.proofs.templates.template.WalkLaws.{template-small, writing-room}
+use Rattle.types.proofs.templates.template.write_template.Statement.{statement}
+use Rattle.types.proofs.templates.template.write_template.Tie as tie
 
 walk-requires : tie.Need-walk-requires
 walk-requires c κs =

@@ -2,9 +2,9 @@
 use native.Mathlib.Omega.{arith}
 use borrow.Author.Needs.{needs}
 use Prim.Native.Nat.{_*_, _^_, _≤_}
-use Rattle.types.proofs.WasteLaws.{whole-bits}
-use Rattle.types.proofs.waste_bits.seen_bits.Statement.{statement}
-use Rattle.types.proofs.waste_bits.seen_bits.Tie as tie
+use Rattle.types.proofs.templates.waste.WasteLaws.{whole-bits}
+use Rattle.types.proofs.templates.waste.seen_bits.Statement.{statement}
+use Rattle.types.proofs.templates.waste.seen_bits.Tie as tie
 
 product : (c : tie.After-elements) → c .before .size-in .result * c .elements .result ≤ 2 ^ 28
 product c =

@@ -1,10 +1,10 @@
 -- `types::waste` meets its contract: of a structure that is there, or 15.
 use borrow.Author.Needs.{needs}
 use mathlib.Core.Path.{sym, _∙_}
-use Rattle.types.specs.Waste.{wasteAt}
-use Rattle.types.proofs.ThereLaws.{kept-there, there-below}
-use Rattle.types.proofs.waste_bits.waste.Statement.{statement}
-use Rattle.types.proofs.waste_bits.waste.Tie as tie
+use Rattle.types.specs.templates.Waste.{wasteAt}
+use Rattle.types.proofs.tables.ThereLaws.{kept-there, there-below}
+use Rattle.types.proofs.templates.waste.waste.Statement.{statement}
+use Rattle.types.proofs.templates.waste.waste.Tie as tie
 
 is-there-requires : tie.Need-is-there-requires
 is-there-requires c κs = search needs

@@ -2,9 +2,9 @@
 use Prim.Native.Nat.{_-_, _≤_}
 use native.Mathlib.Omega.{arith}
 use mathlib.Core.Path.{refl}
-use Rattle.values.proofs.FlagRows.{Keeping, keeping-more, keeping-none, one-row}
-use Rattle.values.proofs.flags.keep_flags.Statement.{statement}
-use Rattle.values.proofs.flags.keep_flags.Tie as tie
+use Rattle.values.proofs.normal_image.FlagRows.{Keeping, keeping-more, keeping-none, one-row}
+use Rattle.values.proofs.normal_image.flags.keep_flags.Statement.{statement}
+use Rattle.values.proofs.normal_image.flags.keep_flags.Tie as tie
 
 abbrev Inv-loop : tie.InvT-loop
 Inv-loop members first n image base kept₀ k₀ kept k = (k ≤ n) × Keeping members first base image kept₀ k kept

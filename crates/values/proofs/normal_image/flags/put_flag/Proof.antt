@@ -2,9 +2,10 @@
 use native.Mathlib.Omega.{arith}
 use borrow.Author.Needs.{needs}
 use denote.Ref.{now}
-use Rattle.values.proofs.FlagRows.{FlagHere, flag-inside, flag-put, unflagged-hidden, unflagged-whole}
-use Rattle.values.proofs.flags.put_flag.Statement.{statement}
-use Rattle.values.proofs.flags.put_flag.Tie as tie
+use Rattle.values.proofs.normal_image.FlagRows.{FlagHere, flag-inside, flag-put, unflagged-hidden}
+use Rattle.values.proofs.normal_image.FlagRows.{unflagged-whole}
+use Rattle.values.proofs.normal_image.flags.put_flag.Statement.{statement}
+use Rattle.values.proofs.normal_image.flags.put_flag.Tie as tie
 
 abbrev start : tie.After-wide → tie.Start
 start c = c .before .before .before .before .before .before .before .before .before

@@ -3,9 +3,9 @@ use Prim.Native.Nat.{_-_, _*_, _≤_}
 use native.Mathlib.Omega.{arith}
 use mathlib.Core.Path.{refl}
 use Rattle.words.specs.Bits.{flat}
-use Rattle.values.proofs.FlagRows.{Putting, one-row, putting-all, putting-more, putting-none}
-use Rattle.values.proofs.flags.put_flags.Statement.{statement}
-use Rattle.values.proofs.flags.put_flags.Tie as tie
+use Rattle.values.proofs.normal_image.FlagRows.{Putting, one-row, putting-all, putting-more, putting-none}
+use Rattle.values.proofs.normal_image.flags.put_flags.Statement.{statement}
+use Rattle.values.proofs.normal_image.flags.put_flags.Tie as tie
 
 abbrev Inv-loop : tie.InvT-loop
 Inv-loop members first n kept image₀ base k₀ image k =

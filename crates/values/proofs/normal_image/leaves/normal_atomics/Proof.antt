@@ -5,10 +5,10 @@ use Prim.Native.Nat.{_*_}
 use mathlib.Core.Path.{_≡_, sym, ap, _∙_}
 use lib.ListN.{length}
 use Rattle.words.specs.Bits.{flat}
-use Rattle.values.specs.Numbers.{formOf}
-use Rattle.values.proofs.LeafMade.{atomics-kept, bools-made, bools-room}
-use Rattle.values.proofs.norms.normal_atomics.Statement.{statement}
-use Rattle.values.proofs.norms.normal_atomics.Tie as tie
+use Rattle.values.specs.inside.reading.Numbers.{formOf}
+use Rattle.values.proofs.normal_image.leaves.LeafMade.{atomics-kept, bools-made, bools-room}
+use Rattle.values.proofs.normal_image.leaves.normal_atomics.Statement.{statement}
+use Rattle.values.proofs.normal_image.leaves.normal_atomics.Tie as tie
 
 -- a BOOL is the atomic of kind 1
 is-bool : (c : tie.Then1) → formOf (c .before .before .before .args .a) .kind ≡ 1

@@ -4,9 +4,9 @@ use borrow.Author.Needs.{needs}
 use Prim.Native.Nat.{_-_}
 use native.Mathlib.Omega.{arith}
 use mathlib.Core.Path.{refl}
-use Rattle.values.proofs.LeafMade.{Booling, bools-start, bools-on, bools-done}
-use Rattle.values.proofs.norms.normal_bools.Statement.{statement}
-use Rattle.values.proofs.norms.normal_bools.Tie as tie
+use Rattle.values.proofs.normal_image.leaves.LeafMade.{Booling, bools-start, bools-on, bools-done}
+use Rattle.values.proofs.normal_image.leaves.normal_bools.Statement.{statement}
+use Rattle.values.proofs.normal_image.leaves.normal_bools.Tie as tie
 
 abbrev Inv-loop : tie.InvT-loop
 Inv-loop n image₀ base k₀ image k = Booling image₀ base n image k

@@ -2,9 +2,9 @@
 use borrow.Author.Needs.{needs}
 use Prim.Native.Nat.{_+_, _*_, _/_, min}
 use mathlib.Core.Path.{ap, _∙_}
-use Rattle.values.proofs.LeafMade.{text-made}
-use Rattle.values.proofs.norms.normal_text.Statement.{statement}
-use Rattle.values.proofs.norms.normal_text.Tie as tie
+use Rattle.values.proofs.normal_image.leaves.LeafMade.{text-made}
+use Rattle.values.proofs.normal_image.leaves.normal_text.Statement.{statement}
+use Rattle.values.proofs.normal_image.leaves.normal_text.Tie as tie
 
 wide-requires : tie.Need-wide-requires
 wide-requires c κs = search needs

@@ -1,7 +1,7 @@
 -- `values::truth_byte` meets its contract (document 01, "Normal image").
 use borrow.Author.Tests.{eq-eqb, ne-eqb}
-use Rattle.values.proofs.norms.truth_byte.Statement.{statement}
-use Rattle.values.proofs.norms.truth_byte.Tie as tie
+use Rattle.values.proofs.normal_image.leaves.truth_byte.Statement.{statement}
+use Rattle.values.proofs.normal_image.leaves.truth_byte.Tie as tie
 
 returns : tie.Need-returns
 returns c = simp (eq-eqb _ _ (c .if1 .taken))

@@ -6,16 +6,16 @@ use mathlib.Core.Bool.{true}
 use borrow.Author.Tests.{eqb-true, not-true, not-false}
 use lib.Dec.{eqb}
 use lib.ListN.{length}
-use Rattle.types.specs.Layout.{times}
-use Rattle.types.specs.Shape.{isThere}
-use Rattle.types.specs.Waste.{sizeIn, sizesIn}
-use Rattle.types.proofs.ShapeLaws.{there-fits}
-use Rattle.values.specs.Reading.{imageFits}
-use Rattle.values.proofs.KeptSweepable.{kept-sweepable}
-use Rattle.values.proofs.NormalisedLaws.{no-image, no-type, whole-normal}
+use Rattle.types.specs.layout.Placing.{times}
+use Rattle.types.specs.tables.Sizes.{sizeIn, sizesIn}
+use Rattle.types.specs.tables.There.{isThere}
+use Rattle.types.proofs.Face.{there-fits}
+use Rattle.values.specs.reading.Read.{imageFits}
+use Rattle.values.proofs.normal_image.normal.KeptSweepable.{kept-sweepable}
+use Rattle.values.proofs.normal_image.normal.NormalisedLaws.{no-image, no-type, whole-normal}
 use borrow.Author.Needs.{needs}
-use Rattle.values.proofs.normals.normal.Statement.{statement}
-use Rattle.values.proofs.normals.normal.Tie as tie
+use Rattle.values.proofs.normal_image.normal.normal.Statement.{statement}
+use Rattle.values.proofs.normal_image.normal.normal.Tie as tie
 
 -- the type is there
 there : (c : tie.Else1) → isThere (c .before .before .before .args .types .now)

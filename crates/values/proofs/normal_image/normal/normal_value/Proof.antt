@@ -2,10 +2,10 @@
 -- structures, from the first byte on, made normal are the normal image.
 use native.Mathlib.Omega.{arith}
 use borrow.Author.Needs.{needs}
-use Rattle.values.proofs.NormalisedLaws.{all-normal, atomics-normal, one-normal}
-use Rattle.values.proofs.SettingLaws.{atomics-fit, value-here, values-here}
-use Rattle.values.proofs.normals.normal_value.Statement.{statement}
-use Rattle.values.proofs.normals.normal_value.Tie as tie
+use Rattle.values.proofs.normal_image.normal.NormalisedLaws.{all-normal, atomics-normal, one-normal}
+use Rattle.values.proofs.writing.SettingLaws.{atomics-fit, value-here, values-here}
+use Rattle.values.proofs.normal_image.normal.normal_value.Statement.{statement}
+use Rattle.values.proofs.normal_image.normal.normal_value.Tie as tie
 
 enum-known-ty : tie.Need-enum-known-ty
 enum-known-ty c = search needs

@@ -1,12 +1,12 @@
 -- The cycle of `normal_struct`, `sweep`, `normal_member` and `normal_elements` meets its contracts (document 01,
 -- "Normal image"): each function in a file of its own.
-use Rattle.values.proofs.tidy.+normal_elements+normal_member+normal_struct+sweep.{statement}
-use Rattle.values.proofs.tidy.+normal_elements+normal_member+normal_struct+sweep.Tie.{close}
-use Rattle.values.proofs.tidy.+normal_elements+normal_member+normal_struct+sweep.Proof.Elements as elements
-use Rattle.values.proofs.tidy.+normal_elements+normal_member+normal_struct+sweep.Proof.Measures as measures
-use Rattle.values.proofs.tidy.+normal_elements+normal_member+normal_struct+sweep.Proof.Member as member
-use Rattle.values.proofs.tidy.+normal_elements+normal_member+normal_struct+sweep.Proof.Struct as struct
-use Rattle.values.proofs.tidy.+normal_elements+normal_member+normal_struct+sweep.Proof.Sweep as sweep
+use Rattle.values.proofs.normal_image.structs.+normal_elements+normal_member+normal_struct+sweep.{statement}
+use Rattle.values.proofs.normal_image.structs.+normal_elements+normal_member+normal_struct+sweep.Tie.{close}
+use Rattle.values.proofs.normal_image.structs.+normal_elements+normal_member+normal_struct+sweep.Proof.Elements as elements
+use Rattle.values.proofs.normal_image.structs.+normal_elements+normal_member+normal_struct+sweep.Proof.Measures as measures
+use Rattle.values.proofs.normal_image.structs.+normal_elements+normal_member+normal_struct+sweep.Proof.Member as member
+use Rattle.values.proofs.normal_image.structs.+normal_elements+normal_member+normal_struct+sweep.Proof.Struct as struct
+use Rattle.values.proofs.normal_image.structs.+normal_elements+normal_member+normal_struct+sweep.Proof.Sweep as sweep
 mod Elements
 mod Measures
 mod Member

@@ -1,8 +1,8 @@
 -- `values::bit_of` meets its contract: the remainder by 2 is the bit's digit.
 use borrow.Author.Needs.{needs}
-use Rattle.values.proofs.BitRunLaws.{bit-digit}
-use Rattle.values.proofs.atomics.bit_of.Statement.{statement}
-use Rattle.values.proofs.atomics.bit_of.Tie as tie
+use Rattle.values.proofs.reading.atomics.BitRunLaws.{bit-digit}
+use Rattle.values.proofs.reading.atomics.bit_of.Statement.{statement}
+use Rattle.values.proofs.reading.atomics.bit_of.Tie as tie
 
 shr-result : tie.Need-shr-result
 shr-result c = search needs

@@ -5,13 +5,13 @@ use native.Mathlib.Omega.{arith}
 use mathlib.Core.Path.{_≡_, sym, ap, _∙_}
 use mathlib.Core.Bool.{false}
 use lib.ListN.{length}
-use Rattle.types.specs.Atomic.{bitString}
-use Rattle.values.specs.Walk.{atomicsOut, bitsOut, elementOut, numbersOut, upTo}
-use Rattle.values.proofs.PutLaws.{put-as}
-use Rattle.values.proofs.AtomicRunLaws.{one-long, array-long, elements-long}
-use Rattle.values.proofs.AtomicRunLaws.{atomics-bits, atomics-one, atomics-array}
-use Rattle.values.proofs.atomics.put_atomics.Statement.{statement}
-use Rattle.values.proofs.atomics.put_atomics.Tie as tie
+use Rattle.types.specs.atomics.Atomic.{bitString}
+use Rattle.values.specs.inside.reading.Walk.{atomicsOut, bitsOut, elementOut, numbersOut, upTo}
+use Rattle.values.proofs.reading.atomics.AtomicRunLaws.{one-long, array-long, elements-long}
+use Rattle.values.proofs.reading.atomics.AtomicRunLaws.{atomics-bits, atomics-one, atomics-array}
+use Rattle.values.proofs.stream.PutLaws.{put-as}
+use Rattle.values.proofs.reading.atomics.put_atomics.Statement.{statement}
+use Rattle.values.proofs.reading.atomics.put_atomics.Tie as tie
 
 -- what each case puts is what the value gives
 

@@ -3,9 +3,9 @@ use Prim.Native.Nat.{_+_, _*_, _-_, _≤_}
 use native.Mathlib.Omega.{arith}
 use mathlib.Core.Path.{_∙_}
 use lib.ListN.{length}
-use Rattle.values.proofs.BitRunLaws.{FirstBytes, no-byte, byte-more, bits-long, bits-put}
-use Rattle.values.proofs.atomics.put_bits.Statement.{statement}
-use Rattle.values.proofs.atomics.put_bits.Tie as tie
+use Rattle.values.proofs.reading.atomics.BitRunLaws.{FirstBytes, no-byte, byte-more, bits-long, bits-put}
+use Rattle.values.proofs.reading.atomics.put_bits.Statement.{statement}
+use Rattle.values.proofs.reading.atomics.put_bits.Tie as tie
 
 abbrev Inv-loop : tie.InvT-loop
 Inv-loop s out₀ at p₀ i₀ out p i = FirstBytes s out₀ p₀ out p i

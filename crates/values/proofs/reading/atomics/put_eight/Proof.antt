@@ -4,9 +4,9 @@ use Prim.Native.Nat.{ℕ}
 use native.Mathlib.Omega.{arith}
 use mathlib.Core.Path.{refl}
 use mathlib.Core.List.{List}
-use Rattle.values.proofs.BitRunLaws.{LowBits, first-bit, next-bit}
-use Rattle.values.proofs.atomics.put_eight.Statement.{statement}
-use Rattle.values.proofs.atomics.put_eight.Tie as tie
+use Rattle.values.proofs.reading.atomics.BitRunLaws.{LowBits, first-bit, next-bit}
+use Rattle.values.proofs.reading.atomics.put_eight.Statement.{statement}
+use Rattle.values.proofs.reading.atomics.put_eight.Tie as tie
 
 -- ---- what is put after each call
 

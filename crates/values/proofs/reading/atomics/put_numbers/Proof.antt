@@ -4,10 +4,10 @@ use Prim.Native.Nat.{_+_, _*_, _≤_}
 use native.Mathlib.Omega.{arith}
 use mathlib.Core.Path.{_≡_, _∙_}
 use lib.ListN.{length}
-use Rattle.values.proofs.PutLaws.{put-length}
-use Rattle.values.proofs.AtomicRunLaws.{elements-long, numbers-long, numbers-put}
-use Rattle.values.proofs.atomics.put_numbers.Statement.{statement}
-use Rattle.values.proofs.atomics.put_numbers.Tie as tie
+use Rattle.values.proofs.reading.atomics.AtomicRunLaws.{elements-long, numbers-long, numbers-put}
+use Rattle.values.proofs.stream.PutLaws.{put-length}
+use Rattle.values.proofs.reading.atomics.put_numbers.Statement.{statement}
+use Rattle.values.proofs.reading.atomics.put_numbers.Tie as tie
 
 -- the numbers and the brackets have room
 fits : (c : tie.Start) → c .args .at + 12 * (c .args .n + 2) ≤ length (c .args .out .now)

@@ -1,9 +1,9 @@
 -- `values::extend` meets its contract: below the first negative number it stays, else `fill` stands above it.
 use borrow.Author.Needs.{needs}
 use borrow.Author.Tests.{lt-ltb, le-ltb}
-use Rattle.values.specs.Numbers.{extended}
-use Rattle.values.proofs.numbers.extend.Statement.{statement}
-use Rattle.values.proofs.numbers.extend.Tie as tie
+use Rattle.values.specs.inside.reading.Numbers.{extended}
+use Rattle.values.proofs.reading.numbers.extend.Statement.{statement}
+use Rattle.values.proofs.reading.numbers.extend.Tie as tie
 
 returns : tie.Need-returns
 unfolding extended

@@ -1,9 +1,9 @@
 -- `values::form_of` meets its contract: an arm for each atomic.
 use borrow.Author.Needs.{needs}
 use mathlib.Core.Path.{sym, ap, _∙_}
-use Rattle.values.specs.Numbers.{formOf}
-use Rattle.values.proofs.numbers.form_of.Statement.{statement}
-use Rattle.values.proofs.numbers.form_of.Tie as tie
+use Rattle.values.specs.inside.reading.Numbers.{formOf}
+use Rattle.values.proofs.reading.numbers.form_of.Statement.{statement}
+use Rattle.values.proofs.reading.numbers.form_of.Tie as tie
 
 pub form-of-spec : {M : Type 1} → statement M
 form-of-spec =

@@ -1,7 +1,7 @@
 -- `values::truth` meets its contract.
 use borrow.Author.Tests.{eq-eqb, ne-eqb}
-use Rattle.values.proofs.numbers.truth.Statement.{statement}
-use Rattle.values.proofs.numbers.truth.Tie as tie
+use Rattle.values.proofs.reading.numbers.truth.Statement.{statement}
+use Rattle.values.proofs.reading.numbers.truth.Tie as tie
 
 returns : tie.Need-returns
 returns c = simp (eq-eqb _ _ (c .if1 .taken))

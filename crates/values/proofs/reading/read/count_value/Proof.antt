@@ -1,11 +1,11 @@
 -- `values::count_value` meets its contract.
 use native.Mathlib.Omega.{arith}
 use mathlib.Core.Path.{sym}
-use Rattle.values.proofs.ReadingLaws.{value-atomic, value-struct}
-use Rattle.values.proofs.CountLaws.{counted-same}
+use Rattle.values.proofs.reading.ReadingLaws.{value-atomic, value-struct}
+use Rattle.values.proofs.stream.CountLaws.{counted-same}
 use borrow.Author.Needs.{needs}
-use Rattle.values.proofs.reading.count_value.Statement.{statement}
-use Rattle.values.proofs.reading.count_value.Tie as tie
+use Rattle.values.proofs.reading.read.count_value.Statement.{statement}
+use Rattle.values.proofs.reading.read.count_value.Tie as tie
 
 enum-known-ty : tie.Need-enum-known-ty
 enum-known-ty c = search needs

@@ -1,9 +1,9 @@
 -- `values::read_structs` meets its contract.
-use Rattle.values.proofs.LayingLaws.{room-as, wrote-as}
-use Rattle.values.proofs.ReadingLaws.{image-one, image-some, value-one, value-some}
+use Rattle.values.proofs.reading.ReadingLaws.{image-one, image-some, value-one, value-some}
+use Rattle.values.proofs.stream.LayingLaws.{room-as, wrote-as}
 use borrow.Author.Needs.{needs}
-use Rattle.values.proofs.reading.read_structs.Statement.{statement}
-use Rattle.values.proofs.reading.read_structs.Tie as tie
+use Rattle.values.proofs.reading.read.read_structs.Statement.{statement}
+use Rattle.values.proofs.reading.read.read_structs.Tie as tie
 
 read-struct-requires : tie.Need-read-struct-requires
 read-struct-requires c κs =

@@ -1,15 +1,15 @@
 -- `values::read_value` meets its contract.
 use native.Mathlib.Omega.{arith}
 use mathlib.Core.Path.{ap}
-use Rattle.types.specs.declared.member.Ty.{Ty}
-use Rattle.values.specs.Walk.{valueOut}
-use Rattle.values.proofs.PutLaws.{put-wrote}
-use Rattle.values.proofs.LayingLaws.{room-as, wrote-as}
-use Rattle.values.proofs.ReadingLaws.{images, value-atomic}
-use Rattle.values.proofs.LeafLaws.{textless-atomics}
+use Rattle.types.specs.declared.tables.member.Ty.{Ty}
+use Rattle.values.specs.inside.reading.Walk.{valueOut}
+use Rattle.values.proofs.reading.LeafLaws.{textless-atomics}
+use Rattle.values.proofs.reading.ReadingLaws.{images, value-atomic}
+use Rattle.values.proofs.stream.LayingLaws.{room-as, wrote-as}
+use Rattle.values.proofs.stream.PutLaws.{put-wrote}
 use borrow.Author.Needs.{needs}
-use Rattle.values.proofs.reading.read_value.Statement.{statement}
-use Rattle.values.proofs.reading.read_value.Tie as tie
+use Rattle.values.proofs.reading.read.read_value.Statement.{statement}
+use Rattle.values.proofs.reading.read.read_value.Tie as tie
 
 enum-known-ty : tie.Need-enum-known-ty
 enum-known-ty c = search needs

@@ -2,13 +2,13 @@
 -- or nothing.
 use native.Mathlib.Omega.{arith}
 use mathlib.Core.Path.{_≡_, sym}
-use Rattle.values.specs.Reading.{valueStream}
-use Rattle.values.specs.Stream.{streamBytes}
-use Rattle.values.specs.Walk.{valueOut}
-use Rattle.values.proofs.ReadingLaws.{no-room, over-room, read-all, stream-is}
+use Rattle.values.specs.inside.reading.Walk.{valueOut}
+use Rattle.values.specs.reading.Read.{valueStream}
+use Rattle.values.specs.stream.Stream.{streamBytes}
+use Rattle.values.proofs.reading.ReadingLaws.{no-room, over-room, read-all, stream-is}
 use borrow.Author.Needs.{needs}
-use Rattle.values.proofs.reading.read_within.Statement.{statement}
-use Rattle.values.proofs.reading.read_within.Tie as tie
+use Rattle.values.proofs.reading.read.read_within.Statement.{statement}
+use Rattle.values.proofs.reading.read.read_within.Tie as tie
 
 -- the stream is that of the walk's entries
 same : (c : tie.After-shared-slice-known) →

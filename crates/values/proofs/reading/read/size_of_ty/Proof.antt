@@ -1,7 +1,7 @@
 -- `values::size_of_ty` meets its contract.
 use borrow.Author.Needs.{needs}
-use Rattle.values.proofs.reading.size_of_ty.Statement.{statement}
-use Rattle.values.proofs.reading.size_of_ty.Tie as tie
+use Rattle.values.proofs.reading.read.size_of_ty.Statement.{statement}
+use Rattle.values.proofs.reading.read.size_of_ty.Tie as tie
 
 enum-known-ty : tie.Need-enum-known-ty
 enum-known-ty c = search needs

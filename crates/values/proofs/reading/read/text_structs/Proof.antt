@@ -1,9 +1,9 @@
 -- `values::text_structs` meets its contract.
 use mathlib.Core.Path.{sym}
-use Rattle.values.proofs.ReadingLaws.{image-one, image-some, value-one, value-some}
-use Rattle.values.proofs.TextCountLaws.{texts-as}
-use Rattle.values.proofs.reading.text_structs.Statement.{statement}
-use Rattle.values.proofs.reading.text_structs.Tie as tie
+use Rattle.values.proofs.reading.ReadingLaws.{image-one, image-some, value-one, value-some}
+use Rattle.values.proofs.stream.TextCountLaws.{texts-as}
+use Rattle.values.proofs.reading.read.text_structs.Statement.{statement}
+use Rattle.values.proofs.reading.read.text_structs.Tie as tie
 
 text-struct-requires : tie.Need-text-struct-requires
 text-struct-requires c κs =

@@ -1,15 +1,15 @@
 -- `values::text_value` meets its contract.
 use mathlib.Core.Path.{_∙_, ap, sym}
-use Rattle.types.specs.declared.member.Ty.{Ty}
-use Rattle.values.specs.Stream.{bodies}
-use Rattle.values.specs.Walk.{valueOut}
-use Rattle.values.proofs.ReadingLaws.{images, no-texts, value-atomic}
-use Rattle.values.proofs.TextCountLaws.{texts-as}
-use Rattle.values.proofs.LeafLaws.{textless-atomics}
+use Rattle.types.specs.declared.tables.member.Ty.{Ty}
+use Rattle.values.specs.inside.reading.Walk.{valueOut}
+use Rattle.values.specs.stream.Stream.{bodies}
+use Rattle.values.proofs.reading.LeafLaws.{textless-atomics}
+use Rattle.values.proofs.reading.ReadingLaws.{images, no-texts, value-atomic}
+use Rattle.values.proofs.stream.TextCountLaws.{texts-as}
 use borrow.Author.Needs.{needs}
 use borrow.Author.Tests.{not-true}
-use Rattle.values.proofs.reading.text_value.Statement.{statement}
-use Rattle.values.proofs.reading.text_value.Tie as tie
+use Rattle.values.proofs.reading.read.text_value.Statement.{statement}
+use Rattle.values.proofs.reading.read.text_value.Tie as tie
 
 returns : tie.Need-returns
 returns c = no-texts (c .before .before .pre .1 (not-true _ (c .if1 .taken)))

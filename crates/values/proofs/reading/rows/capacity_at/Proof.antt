@@ -1,9 +1,9 @@
 -- `values::capacity_at` meets its contract: the capacity is the count in the string's second row.
 use borrow.Author.Needs.{needs}
 use mathlib.Core.Path.{ap}
-use Rattle.types.specs.declared.member.Member.{Member}
-use Rattle.values.proofs.rows.capacity_at.Statement.{statement}
-use Rattle.values.proofs.rows.capacity_at.Tie as tie
+use Rattle.types.specs.declared.tables.member.Member.{Member}
+use Rattle.values.proofs.reading.rows.capacity_at.Statement.{statement}
+use Rattle.values.proofs.reading.rows.capacity_at.Tie as tie
 
 add-member-row : tie.Need-add-member-row
 add-member-row c = search needs

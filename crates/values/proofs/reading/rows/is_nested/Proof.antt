@@ -1,8 +1,8 @@
 -- `values::is_nested` meets its contract: an answer for each kind of row.
 use borrow.Author.Needs.{needs}
-use Rattle.values.proofs.NestedLaws.{nested-hidden, nested-bit, nested-atomic, nested-struct}
-use Rattle.values.proofs.rows.is_nested.Statement.{statement}
-use Rattle.values.proofs.rows.is_nested.Tie as tie
+use Rattle.values.proofs.reading.rows.NestedLaws.{nested-hidden, nested-bit, nested-atomic, nested-struct}
+use Rattle.values.proofs.reading.rows.is_nested.Statement.{statement}
+use Rattle.values.proofs.reading.rows.is_nested.Tie as tie
 
 member-row-requires : tie.Need-member-row-requires
 member-row-requires c κs = search needs

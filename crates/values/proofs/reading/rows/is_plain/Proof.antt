@@ -1,8 +1,8 @@
 -- `values::is_plain` meets its contract: an answer for each kind of row.
 use borrow.Author.Needs.{needs}
-use Rattle.values.proofs.FlagRows.{plain-hidden, plain-bit, plain-whole}
-use Rattle.values.proofs.rows.is_plain.Statement.{statement}
-use Rattle.values.proofs.rows.is_plain.Tie as tie
+use Rattle.values.proofs.normal_image.FlagRows.{plain-hidden, plain-bit, plain-whole}
+use Rattle.values.proofs.reading.rows.is_plain.Statement.{statement}
+use Rattle.values.proofs.reading.rows.is_plain.Tie as tie
 
 member-row-requires : tie.Need-member-row-requires
 member-row-requires c κs = search needs

@@ -1,9 +1,9 @@
 -- `values::struct_size` meets its contract: the size is in the type's row.
 use borrow.Author.Needs.{needs}
 use mathlib.Core.Path.{ap, _∙_}
-use Rattle.types.specs.declared.member.StructDef.{StructDef}
-use Rattle.values.proofs.rows.struct_size.Statement.{statement}
-use Rattle.values.proofs.rows.struct_size.Tie as tie
+use Rattle.types.specs.declared.tables.member.StructDef.{StructDef}
+use Rattle.values.proofs.reading.rows.struct_size.Statement.{statement}
+use Rattle.values.proofs.reading.rows.struct_size.Tie as tie
 
 type-row-requires : tie.Need-type-row-requires
 type-row-requires c κs = search needs

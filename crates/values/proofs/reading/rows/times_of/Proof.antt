@@ -1,7 +1,7 @@
 -- `values::times_of` meets its contract.
-use Rattle.types.proofs.LayoutLaws.{times-one, times-same}
-use Rattle.values.proofs.rows.times_of.Statement.{statement}
-use Rattle.values.proofs.rows.times_of.Tie as tie
+use Rattle.types.proofs.Face.{times-one, times-same}
+use Rattle.values.proofs.reading.rows.times_of.Statement.{statement}
+use Rattle.values.proofs.reading.rows.times_of.Tie as tie
 
 returns : tie.Need-returns
 returns c = times-one (c .before .args .n) (c .if1 .taken)

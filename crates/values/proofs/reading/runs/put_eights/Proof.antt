@@ -2,10 +2,11 @@
 use native.Mathlib.Omega.{arith}
 use borrow.Author.Needs.{needs}
 use Prim.Native.Nat.{_*_, _-_}
-use Rattle.values.proofs.RunLaws.{Running, formed, run-start, run-room, run-length, numbers-on, numbers-done}
-use Rattle.values.proofs.RunLaws.{number-fits}
-use Rattle.values.proofs.runs.put_eights.Statement.{statement}
-use Rattle.values.proofs.runs.put_eights.Tie as tie
+use Rattle.values.proofs.reading.runs.RunLaws.{Running, formed, run-start, run-room, run-length, numbers-on}
+use Rattle.values.proofs.reading.runs.RunLaws.{numbers-done}
+use Rattle.values.proofs.reading.runs.RunLaws.{number-fits}
+use Rattle.values.proofs.reading.runs.put_eights.Statement.{statement}
+use Rattle.values.proofs.reading.runs.put_eights.Tie as tie
 
 abbrev Inv-loop : tie.InvT-loop
 Inv-loop n s out₀ at f p₀ i₀ out p i = Running (formed f 8 s) n out₀ at out p i

@@ -1,10 +1,10 @@
 -- `values::put_run` meets its contract: an arm for each atomic, by its size.
 use borrow.Author.Needs.{needs}
 use mathlib.Core.Path.{refl}
-use Rattle.types.specs.Atomic.{sizeOf}
-use Rattle.values.proofs.RunLaws.{run-given, truths-given, truths-put}
-use Rattle.values.proofs.runs.put_run.Statement.{statement}
-use Rattle.values.proofs.runs.put_run.Tie as tie
+use Rattle.types.specs.atomics.Atomic.{sizeOf}
+use Rattle.values.proofs.reading.runs.RunLaws.{run-given, truths-given, truths-put}
+use Rattle.values.proofs.reading.runs.put_run.Statement.{statement}
+use Rattle.values.proofs.reading.runs.put_run.Tie as tie
 
 pub put-run-spec : {M : Type 1} → statement M
 unfolding sizeOf

@@ -1,9 +1,9 @@
 -- `values::string_number` meets its contract: a way out for each number.
 use borrow.Author.Needs.{needs}
 use mathlib.Core.Path.{sym, _∙_}
-use Rattle.values.proofs.StoredLaws.{string-fits, string-misfits, no-string}
-use Rattle.values.proofs.stored.string_number.Statement.{statement}
-use Rattle.values.proofs.stored.string_number.Tie as tie
+use Rattle.values.proofs.reading.StoredLaws.{string-fits, string-misfits, no-string}
+use Rattle.values.proofs.reading.stored.string_number.Statement.{statement}
+use Rattle.values.proofs.reading.stored.string_number.Tie as tie
 
 type-row-requires : tie.Need-type-row-requires
 type-row-requires c κs = search needs

@@ -1,10 +1,10 @@
 -- `values::text` meets its contract: the text's part of the image, or an empty part.
 use mathlib.Core.Path.{refl, sym, _∙_}
 use borrow.Author.Needs.{needs}
-use Rattle.values.proofs.KeptWalkable.{kept-walkable}
-use Rattle.values.proofs.StoredLaws.{stored-text, stored-none}
-use Rattle.values.proofs.stored.text.Statement.{statement}
-use Rattle.values.proofs.stored.text.Tie as tie
+use Rattle.values.proofs.reading.KeptWalkable.{kept-walkable}
+use Rattle.values.proofs.reading.StoredLaws.{stored-text, stored-none}
+use Rattle.values.proofs.reading.stored.text.Statement.{statement}
+use Rattle.values.proofs.reading.stored.text.Tie as tie
 
 text-number-requires : tie.Need-text-number-requires
 text-number-requires c κs = search needs

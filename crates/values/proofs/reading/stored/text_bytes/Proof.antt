@@ -3,12 +3,12 @@ use borrow.Author.Needs.{needs}
 use native.Mathlib.Omega.{arith}
 use mathlib.Core.Path.{_≡_, ap, _∙_}
 use Prim.Native.Nat.{ℕ}
-use Rattle.types.specs.Tables.{typeAt}
-use Rattle.types.specs.declared.member.StructDef.{StructDef}
-use Rattle.values.specs.Walk.{capacityAt, textLength}
-use Rattle.values.proofs.StoredLaws.{Readable, readable, held-atomic, held-struct}
-use Rattle.values.proofs.stored.text_bytes.Statement.{statement}
-use Rattle.values.proofs.stored.text_bytes.Tie as tie
+use Rattle.types.specs.tables.Lent.{typeAt}
+use Rattle.types.specs.declared.tables.member.StructDef.{StructDef}
+use Rattle.values.specs.reading.Texts.{capacityAt, textLength}
+use Rattle.values.proofs.reading.StoredLaws.{Readable, readable, held-atomic, held-struct}
+use Rattle.values.proofs.reading.stored.text_bytes.Statement.{statement}
+use Rattle.values.proofs.reading.stored.text_bytes.Tie as tie
 
 -- the structure's rows and the image
 known : (c : tie.After-ty)

@@ -2,10 +2,10 @@
 use borrow.Author.Needs.{needs}
 use mathlib.Core.Path.{_≡_, sym, _∙_}
 use mathlib.Core.Bool.{true}
-use Rattle.types.specs.Shape.{isThere}
-use Rattle.values.proofs.StoredLaws.{number-none, number-atomic, number-struct, there-low}
-use Rattle.values.proofs.stored.text_number.Statement.{statement}
-use Rattle.values.proofs.stored.text_number.Tie as tie
+use Rattle.types.specs.tables.There.{isThere}
+use Rattle.values.proofs.reading.StoredLaws.{number-none, number-atomic, number-struct, there-low}
+use Rattle.values.proofs.reading.stored.text_number.Statement.{statement}
+use Rattle.values.proofs.reading.stored.text_number.Tie as tie
 
 there : (c : tie.Then1)
     → isThere (c .before .before .before .args .types .now) (c .before .before .before .args .ty) ≡ true

@@ -3,9 +3,9 @@ use borrow.Author.Needs.{needs}
 use native.Mathlib.Omega.{arith}
 use mathlib.Core.Path.{ap}
 use lib.ListN.{length}
-use Rattle.values.proofs.TextLaws.{text-long, text-part, text-room, text-wrote}
-use Rattle.values.proofs.texts.put_text.Statement.{statement}
-use Rattle.values.proofs.texts.put_text.Tie as tie
+use Rattle.values.proofs.reading.texts.TextLaws.{text-long, text-part, text-room, text-wrote}
+use Rattle.values.proofs.reading.texts.put_text.Statement.{statement}
+use Rattle.values.proofs.reading.texts.put_text.Tie as tie
 
 text-length-requires : tie.Need-text-length-requires
 text-length-requires c κs = search needs

@@ -1,9 +1,9 @@
 -- `values::text_length` meets its contract (document 01, "Reading"): min(LEN as u32, capacity).
 use native.Mathlib.Omega.{arith}
 use borrow.Author.Needs.{needs}
-use Rattle.values.proofs.TextLaws.{len-is}
-use Rattle.values.proofs.texts.text_length.Statement.{statement}
-use Rattle.values.proofs.texts.text_length.Tie as tie
+use Rattle.values.proofs.reading.texts.TextLaws.{len-is}
+use Rattle.values.proofs.reading.texts.text_length.Statement.{statement}
+use Rattle.values.proofs.reading.texts.text_length.Tie as tie
 
 load32-requires : tie.Need-load32-requires
 load32-requires c κs = search needs

@@ -3,10 +3,11 @@
 use borrow.Author.Needs.{needs}
 use native.Mathlib.Omega.{arith}
 use denote.Ref.{now}
-use Rattle.values.proofs.LeafLaws.{put-hidden, shown-room, Numbered, bit-inside, bit-room, put-bit, put-struct}
-use Rattle.values.proofs.LeafLaws.{Atomics, atomics-inside, atomics-asks, put-atomics}
-use Rattle.values.proofs.walk.read_leaf.Statement.{statement}
-use Rattle.values.proofs.walk.read_leaf.Tie as tie
+use Rattle.values.proofs.reading.LeafLaws.{put-hidden, shown-room, Numbered, bit-inside, bit-room, put-bit}
+use Rattle.values.proofs.reading.LeafLaws.{put-struct}
+use Rattle.values.proofs.reading.LeafLaws.{Atomics, atomics-inside, atomics-asks, put-atomics}
+use Rattle.values.proofs.reading.walk.read_leaf.Statement.{statement}
+use Rattle.values.proofs.reading.walk.read_leaf.Tie as tie
 
 member-row-requires : tie.Need-member-row-requires
 member-row-requires c κs = search needs

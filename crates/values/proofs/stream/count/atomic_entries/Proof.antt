@@ -4,9 +4,9 @@ use borrow.Author.Needs.{needs}
 use native.Mathlib.Omega.{arith}
 use Prim.Native.Nat.{_*_, _^_, _≤_}
 use mathlib.Core.Path.{sym, _∙_}
-use Rattle.values.proofs.CountLeaves.{atomics-bits, atomics-one, atomics-many, bytes-fit}
-use Rattle.values.proofs.count.atomic_entries.Statement.{statement}
-use Rattle.values.proofs.count.atomic_entries.Tie as tie
+use Rattle.values.proofs.stream.CountLeaves.{atomics-bits, atomics-one, atomics-many, bytes-fit}
+use Rattle.values.proofs.stream.count.atomic_entries.Statement.{statement}
+use Rattle.values.proofs.stream.count.atomic_entries.Tie as tie
 
 product : (c : tie.After-times-of) → c .before .size-of .result * c .times-of .result ≤ 2 ^ 36
 product c =

@@ -1,10 +1,10 @@
 -- `values::count_atomics` meets its contract (document 01, "Value stream"): more elements than `most` are more entries.
 use borrow.Author.Needs.{needs}
 use native.Mathlib.Omega.{arith}
-use Rattle.values.proofs.CountLaws.{plain-counted}
-use Rattle.values.proofs.CountLeaves.{atomics-over}
-use Rattle.values.proofs.count.count_atomics.Statement.{statement}
-use Rattle.values.proofs.count.count_atomics.Tie as tie
+use Rattle.values.proofs.stream.CountLaws.{plain-counted}
+use Rattle.values.proofs.stream.CountLeaves.{atomics-over}
+use Rattle.values.proofs.stream.count.count_atomics.Statement.{statement}
+use Rattle.values.proofs.stream.count.count_atomics.Tie as tie
 
 add-result : tie.Need-add-result
 add-result c = search needs

@@ -3,9 +3,9 @@
 use borrow.Author.Needs.{needs}
 use native.Mathlib.Omega.{arith}
 use Prim.Native.Nat.{_^_, _≤_}
-use Rattle.values.proofs.CountLeaves.{atomics-few, leaf-hidden, leaf-bit, leaf-atomic, leaf-struct}
-use Rattle.values.proofs.count.leaf_entries.Statement.{statement}
-use Rattle.values.proofs.count.leaf_entries.Tie as tie
+use Rattle.values.proofs.stream.CountLeaves.{atomics-few, leaf-hidden, leaf-bit, leaf-atomic, leaf-struct}
+use Rattle.values.proofs.stream.count.leaf_entries.Statement.{statement}
+use Rattle.values.proofs.stream.count.leaf_entries.Tie as tie
 
 member-row-requires : tie.Need-member-row-requires
 member-row-requires c κs = search needs

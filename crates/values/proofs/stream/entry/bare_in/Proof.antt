@@ -1,8 +1,8 @@
 -- `values::bare_in` meets its contract.
 use borrow.Author.Tests.{eq-eqb, ne-eqb}
-use Rattle.values.specs.Entry.{bareIn}
-use Rattle.values.proofs.entries.bare_in.Statement.{statement}
-use Rattle.values.proofs.entries.bare_in.Tie as tie
+use Rattle.values.specs.stream.Entry.{bareIn}
+use Rattle.values.proofs.stream.entry.bare_in.Statement.{statement}
+use Rattle.values.proofs.stream.entry.bare_in.Tie as tie
 
 returns : tie.Need-returns
 unfolding bareIn

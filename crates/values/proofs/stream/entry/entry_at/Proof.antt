@@ -2,10 +2,10 @@
 use mathlib.Core.Path.{sym, ap, _∙_}
 use borrow.Author.Needs.{needs}
 use borrow.Author.Tests.{leb-true}
-use Rattle.values.specs.Entry.{saidBy}
-use Rattle.values.proofs.EntryLaws.{entry-said, nothing-said}
-use Rattle.values.proofs.entries.entry_at.Statement.{statement}
-use Rattle.values.proofs.entries.entry_at.Tie as tie
+use Rattle.values.specs.stream.Entry.{saidBy}
+use Rattle.values.proofs.stream.EntryLaws.{entry-said, nothing-said}
+use Rattle.values.proofs.stream.entry.entry_at.Statement.{statement}
+use Rattle.values.proofs.stream.entry.entry_at.Tie as tie
 
 is-inside-requires : tie.Need-is-inside-requires
 is-inside-requires c κs = search needs

@@ -3,9 +3,9 @@ use Prim.Native.Nat.{_+_}
 use native.Mathlib.Omega.{arith}
 use mathlib.Core.Path.{sym}
 use borrow.Author.Tests.{lt-leb}
-use Rattle.values.proofs.EntryLaws.{inside-test}
-use Rattle.values.proofs.entries.is_inside.Statement.{statement}
-use Rattle.values.proofs.entries.is_inside.Tie as tie
+use Rattle.values.proofs.stream.EntryLaws.{inside-test}
+use Rattle.values.proofs.stream.entry.is_inside.Statement.{statement}
+use Rattle.values.proofs.stream.entry.is_inside.Tie as tie
 
 returns : tie.Need-returns
 returns c =

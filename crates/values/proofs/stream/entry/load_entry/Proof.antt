@@ -2,10 +2,10 @@
 use borrow.Author.Needs.{needs}
 use borrow.Author.Tests.{eq-eqb, ne-eqb}
 use mathlib.Core.Path.{sym, _∙_}
-use Rattle.values.specs.Entry.{entryIn, threeZeros}
-use Rattle.values.proofs.EntryLaws.{zeros-read}
-use Rattle.values.proofs.entries.load_entry.Statement.{statement}
-use Rattle.values.proofs.entries.load_entry.Tie as tie
+use Rattle.values.specs.stream.Entry.{entryIn, threeZeros}
+use Rattle.values.proofs.stream.EntryLaws.{zeros-read}
+use Rattle.values.proofs.stream.entry.load_entry.Statement.{statement}
+use Rattle.values.proofs.stream.entry.load_entry.Tie as tie
 
 add-if1 : tie.Need-add-if1
 add-if1 c = search needs

@@ -1,10 +1,10 @@
 -- `values::loaded_of` meets its contract: an arm for each kind.
 use borrow.Author.Needs.{needs}
 use mathlib.Core.Path.{refl}
-use Rattle.values.specs.Entry.{loadedOf}
-use Rattle.values.proofs.EntryLaws.{kind-told, kind-above}
-use Rattle.values.proofs.entries.loaded_of.Statement.{statement}
-use Rattle.values.proofs.entries.loaded_of.Tie as tie
+use Rattle.values.specs.stream.Entry.{loadedOf}
+use Rattle.values.proofs.stream.EntryLaws.{kind-told, kind-above}
+use Rattle.values.proofs.stream.entry.loaded_of.Statement.{statement}
+use Rattle.values.proofs.stream.entry.loaded_of.Tie as tie
 
 pub loaded-of-spec : {M : Type 1} → statement M
 unfolding loadedOf

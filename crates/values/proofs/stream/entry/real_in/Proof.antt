@@ -1,9 +1,9 @@
 -- `values::real_in` meets its contract: a number below 2^32 is its own low half.
 use borrow.Author.Needs.{needs}
-use Rattle.values.specs.declared.entries.Entry.the-variants as entry
-use Rattle.values.proofs.EntryLaws.{low-is, low-none}
-use Rattle.values.proofs.entries.real_in.Statement.{statement}
-use Rattle.values.proofs.entries.real_in.Tie as tie
+use Rattle.values.specs.declared.stream.entry.Entry.the-variants as entry
+use Rattle.values.proofs.stream.EntryLaws.{low-is, low-none}
+use Rattle.values.proofs.stream.entry.real_in.Statement.{statement}
+use Rattle.values.proofs.stream.entry.real_in.Tie as tie
 
 low-requires : tie.Need-low-requires
 low-requires c κs = search needs

@@ -2,9 +2,9 @@
 use mathlib.Core.Path.{sym, _∙_}
 use borrow.Author.Needs.{needs}
 use borrow.Author.Tests.{leb-true}
-use Rattle.values.proofs.EntryLaws.{stored-nowhere, stored-there}
-use Rattle.values.proofs.entries.store_entry.Statement.{statement}
-use Rattle.values.proofs.entries.store_entry.Tie as tie
+use Rattle.values.proofs.stream.EntryLaws.{stored-nowhere, stored-there}
+use Rattle.values.proofs.stream.entry.store_entry.Statement.{statement}
+use Rattle.values.proofs.stream.entry.store_entry.Tie as tie
 
 is-inside-requires : tie.Need-is-inside-requires
 is-inside-requires c κs = search needs

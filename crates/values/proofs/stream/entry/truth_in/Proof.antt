@@ -1,8 +1,8 @@
 -- `values::truth_in` meets its contract.
 use borrow.Author.Tests.{eq-eqb, ne-eqb}
-use Rattle.values.specs.Entry.{truthIn}
-use Rattle.values.proofs.entries.truth_in.Statement.{statement}
-use Rattle.values.proofs.entries.truth_in.Tie as tie
+use Rattle.values.specs.stream.Entry.{truthIn}
+use Rattle.values.proofs.stream.entry.truth_in.Statement.{statement}
+use Rattle.values.proofs.stream.entry.truth_in.Tie as tie
 
 returns : tie.Need-returns
 unfolding truthIn

@@ -1,12 +1,12 @@
 -- `values::entries_ok` meets its contract, by what is left of the entries.
 use Prim.Native.Nat.{_+_, _*_, _-_}
 use native.Mathlib.Omega.{arith}
-use Rattle.values.specs.Entry.{entryIn}
-use Rattle.values.specs.Form.{loadedStep}
-use Rattle.values.specs.Steps.{Moved}
-use Rattle.values.proofs.FormLaws.{Left, left-start, left-on, left-broken, left-done, words-moved}
-use Rattle.values.proofs.form.entries_ok.Statement.{statement}
-use Rattle.values.proofs.form.entries_ok.Tie as tie
+use Rattle.values.specs.inside.stream.Steps.{Moved}
+use Rattle.values.specs.stream.Entry.{entryIn}
+use Rattle.values.specs.stream.Form.{loadedStep}
+use Rattle.values.proofs.stream.FormLaws.{Left, left-start, left-on, left-broken, left-done, words-moved}
+use Rattle.values.proofs.stream.form.entries_ok.Statement.{statement}
+use Rattle.values.proofs.stream.form.entries_ok.Tie as tie
 
 abbrev Inv-loop : tie.InvT-loop
 Inv-loop s base n place₀ k₀ place k = Left s base n place k

@@ -1,9 +1,9 @@
 -- `values::most_of` meets its contract: an arm for each kind that has a payload, and one for the others.
 use mathlib.Core.Path.{sym, ap}
 use borrow.Author.Tests.{ne-eqb}
-use Rattle.values.specs.Steps.{mostOf}
-use Rattle.values.proofs.form.most_of.Statement.{statement}
-use Rattle.values.proofs.form.most_of.Tie as tie
+use Rattle.values.specs.inside.stream.Steps.{mostOf}
+use Rattle.values.proofs.stream.form.most_of.Statement.{statement}
+use Rattle.values.proofs.stream.form.most_of.Tie as tie
 
 none : tie.Need-returns-7
 unfolding mostOf

@@ -4,13 +4,14 @@ use Prim.Native.Nat.{ℕ, _+_, _*_, _^_, _<_}
 use native.Mathlib.Omega.{arith}
 use mathlib.Core.Path.{_≡_, ap₂, subst}
 use borrow.Author.Needs.{needs}
-use Rattle.values.specs.Entry.{loadedOf}
-use Rattle.values.specs.Form.{loadedStep}
-use Rattle.values.specs.Steps.{Moved}
-use Rattle.values.proofs.FormLaws.{above, bool-broken, bool-fits, high-broken, kind-none, mark-broken, mark-fits}
-use Rattle.values.proofs.FormLaws.{member-fits, moved-none, moved-to, signed-fits}
-use Rattle.values.proofs.form.next_place.Statement.{statement}
-use Rattle.values.proofs.form.next_place.Tie as tie
+use Rattle.values.specs.inside.stream.Steps.{Moved}
+use Rattle.values.specs.stream.Entry.{loadedOf}
+use Rattle.values.specs.stream.Form.{loadedStep}
+use Rattle.values.proofs.stream.FormLaws.{above, bool-broken, bool-fits, high-broken, kind-none, mark-broken}
+use Rattle.values.proofs.stream.FormLaws.{mark-fits}
+use Rattle.values.proofs.stream.FormLaws.{member-fits, moved-none, moved-to, signed-fits}
+use Rattle.values.proofs.stream.form.next_place.Statement.{statement}
+use Rattle.values.proofs.stream.form.next_place.Tie as tie
 
 -- the payload
 abbrev payload : tie.Start → ℕ

@@ -3,11 +3,12 @@ use Prim.Native.Nat.{_+_}
 use native.Mathlib.Omega.{arith}
 use mathlib.Core.Path.{sym, ap, _∙_}
 use borrow.Author.Needs.{needs}
-use Rattle.values.specs.Form.{At}
-use Rattle.values.proofs.FormLaws.{kind-none, moved-none, moved-to, plain-broken, plain-fits, text-elsewhere}
-use Rattle.values.proofs.FormLaws.{text-here}
-use Rattle.values.proofs.form.other_place.Statement.{statement}
-use Rattle.values.proofs.form.other_place.Tie as tie
+use Rattle.values.specs.stream.Form.{At}
+use Rattle.values.proofs.stream.FormLaws.{kind-none, moved-none, moved-to, plain-broken, plain-fits}
+use Rattle.values.proofs.stream.FormLaws.{text-elsewhere}
+use Rattle.values.proofs.stream.FormLaws.{text-here}
+use Rattle.values.proofs.stream.form.other_place.Statement.{statement}
+use Rattle.values.proofs.stream.form.other_place.Tie as tie
 
 returns : tie.Need-returns
 returns c = let a = c .before .args in moved-none (kind-none (a .head) (a .x) (a .place) (c .if1 .taken))

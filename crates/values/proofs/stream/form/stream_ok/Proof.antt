@@ -2,11 +2,11 @@
 use Prim.Native.Nat.{ℕ, _+_, _*_}
 use native.Mathlib.Omega.{arith}
 use mathlib.Core.Path.{_≡_, _∙_, ap}
-use Rattle.values.specs.Form.{countIn, formed}
-use Rattle.values.proofs.FormLaws.{too-short, too-long, too-many, all-ok}
+use Rattle.values.specs.stream.Form.{countIn, formed}
+use Rattle.values.proofs.stream.FormLaws.{too-short, too-long, too-many, all-ok}
 use borrow.Author.Needs.{needs}
-use Rattle.values.proofs.form.stream_ok.Statement.{statement}
-use Rattle.values.proofs.form.stream_ok.Tie as tie
+use Rattle.values.proofs.stream.form.stream_ok.Statement.{statement}
+use Rattle.values.proofs.stream.form.stream_ok.Tie as tie
 
 -- the number of entries is the first word
 counted : (c : tie.After-wide) → c .wide .result ≡ countIn (c .before .before .before .before .before .args .s .now)

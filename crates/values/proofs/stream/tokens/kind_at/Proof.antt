@@ -1,9 +1,9 @@
 -- `values::kind_at` meets its contract: past the last entry there is none.
 use native.Mathlib.Omega.{arith}
 use mathlib.Core.Path.{sym}
-use Rattle.values.proofs.LeftLaws.{kind-none}
-use Rattle.values.proofs.tokens.kind_at.Statement.{statement}
-use Rattle.values.proofs.tokens.kind_at.Tie as tie
+use Rattle.values.proofs.stream.LeftLaws.{kind-none}
+use Rattle.values.proofs.stream.tokens.kind_at.Statement.{statement}
+use Rattle.values.proofs.stream.tokens.kind_at.Tie as tie
 
 returns : tie.Need-returns
 returns c =

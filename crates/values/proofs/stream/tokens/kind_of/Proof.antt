@@ -1,9 +1,9 @@
 -- `values::kind_of` meets its contract: the first of an entry's bytes is its kind.
 use native.Mathlib.Omega.{arith}
 use mathlib.Core.Path.{sym, _∙_}
-use Rattle.values.proofs.LeftLaws.{entries-inside, few-entries, kind-there, there}
-use Rattle.values.proofs.tokens.kind_of.Statement.{statement}
-use Rattle.values.proofs.tokens.kind_of.Tie as tie
+use Rattle.values.proofs.stream.LeftLaws.{entries-inside, few-entries, kind-there, there}
+use Rattle.values.proofs.stream.tokens.kind_of.Statement.{statement}
+use Rattle.values.proofs.stream.tokens.kind_of.Tie as tie
 
 mul-result : tie.Need-mul-result
 mul-result c = omega (arith, c .pre .1, few-entries _ (c .pre .0))

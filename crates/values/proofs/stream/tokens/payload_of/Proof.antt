@@ -1,8 +1,8 @@
 -- `values::payload_of` meets its contract: an entry's payload lies in the stream.
 use native.Mathlib.Omega.{arith}
-use Rattle.values.proofs.LeftLaws.{entries-inside, few-entries}
-use Rattle.values.proofs.tokens.payload_of.Statement.{statement}
-use Rattle.values.proofs.tokens.payload_of.Tie as tie
+use Rattle.values.proofs.stream.LeftLaws.{entries-inside, few-entries}
+use Rattle.values.proofs.stream.tokens.payload_of.Statement.{statement}
+use Rattle.values.proofs.stream.tokens.payload_of.Tie as tie
 
 mul-load64 : tie.Need-mul-load64
 mul-load64 c = let at-start = c .before in omega (arith, at-start .pre .1, few-entries _ (at-start .pre .0))

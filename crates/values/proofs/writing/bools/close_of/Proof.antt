@@ -2,11 +2,11 @@
 use Prim.Native.Nat.{_-_, _<_}
 use native.Mathlib.Omega.{arith}
 use mathlib.Core.Path.{sym, _∙_}
-use Rattle.values.specs.Form.{countIn}
-use Rattle.values.proofs.BoolRuns.{Among, among-close, among-on, among-start}
-use Rattle.values.proofs.LeftLaws.{few-entries}
-use Rattle.values.proofs.bools.close_of.Statement.{statement}
-use Rattle.values.proofs.bools.close_of.Tie as tie
+use Rattle.values.specs.stream.Form.{countIn}
+use Rattle.values.proofs.stream.LeftLaws.{few-entries}
+use Rattle.values.proofs.writing.bools.BoolRuns.{Among, among-close, among-on, among-start}
+use Rattle.values.proofs.writing.bools.close_of.Statement.{statement}
+use Rattle.values.proofs.writing.bools.close_of.Tie as tie
 
 abbrev Inv-loop : tie.InvT-loop
 Inv-loop s k p₀ p = Among s k p

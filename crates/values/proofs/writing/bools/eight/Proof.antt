@@ -1,9 +1,9 @@
 -- `values::eight` meets its contract: each byte is 0 or 1, so that no sum overflows.
 use native.Mathlib.Omega.{arith}
 use Prim.Native.Nat.{_+_, _*_}
-use Rattle.values.proofs.BoolLaws.{EightBytes, eight-bytes, eight-val}
-use Rattle.values.proofs.bools.eight.Statement.{statement}
-use Rattle.values.proofs.bools.eight.Tie as tie
+use Rattle.values.proofs.writing.bools.BoolLaws.{EightBytes, eight-bytes, eight-val}
+use Rattle.values.proofs.writing.bools.eight.Statement.{statement}
+use Rattle.values.proofs.writing.bools.eight.Tie as tie
 
 -- the eight bytes
 known : (c : tie.Start) → EightBytes (c .args .s .now) (8 + 12 * c .args .k)

@@ -1,8 +1,8 @@
 -- `values::put_bit` meets its contract: the byte with the bit is stored in its place.
 use borrow.Author.Needs.{needs}
-use Rattle.values.proofs.BoolLaws.{bit-set}
-use Rattle.values.proofs.bools.put_bit.Statement.{statement}
-use Rattle.values.proofs.bools.put_bit.Tie as tie
+use Rattle.values.proofs.writing.bools.BoolLaws.{bit-set}
+use Rattle.values.proofs.writing.bools.put_bit.Statement.{statement}
+use Rattle.values.proofs.writing.bools.put_bit.Tie as tie
 
 slice-read-byte : tie.Need-slice-read-byte
 slice-read-byte c = search needs

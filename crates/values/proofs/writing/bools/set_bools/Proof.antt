@@ -2,10 +2,10 @@
 use Prim.Native.Nat.{_+_, _-_}
 use native.Mathlib.Omega.{arith}
 use mathlib.Core.Path.{_≡_, _∙_}
-use Rattle.values.proofs.BoolLaws.{Parts, bools-applied, laid-both, parts-of}
-use Rattle.values.proofs.BoolRuns.{accepts, bools-run}
-use Rattle.values.proofs.bools.set_bools.Statement.{statement}
-use Rattle.values.proofs.bools.set_bools.Tie as tie
+use Rattle.values.proofs.writing.bools.BoolLaws.{Parts, bools-applied, laid-both, parts-of}
+use Rattle.values.proofs.writing.bools.BoolRuns.{accepts, bools-run}
+use Rattle.values.proofs.writing.bools.set_bools.Statement.{statement}
+use Rattle.values.proofs.writing.bools.set_bools.Tie as tie
 
 abbrev start : tie.After-close-of → tie.Start
 start c = c .before .before .before

@@ -1,12 +1,12 @@
 -- The cycle of `check_elements`, `check_members`, `check_nested` and `check_struct` meets its contracts (document 01,
 -- "Writing"): each function in a file of its own.
-use Rattle.values.proofs.checks.+check_elements+check_members+check_nested+check_struct.{statement}
-use Rattle.values.proofs.checks.+check_elements+check_members+check_nested+check_struct.Tie.{close}
-use Rattle.values.proofs.checks.+check_elements+check_members+check_nested+check_struct.Proof.Measures as measure
-use Rattle.values.proofs.checks.+check_elements+check_members+check_nested+check_struct.Proof.Elements as arrays
-use Rattle.values.proofs.checks.+check_elements+check_members+check_nested+check_struct.Proof.Members as members
-use Rattle.values.proofs.checks.+check_elements+check_members+check_nested+check_struct.Proof.Nested as nested
-use Rattle.values.proofs.checks.+check_elements+check_members+check_nested+check_struct.Proof.Struct as struct
+use Rattle.values.proofs.writing.checks.+check_elements+check_members+check_nested+check_struct.{statement}
+use Rattle.values.proofs.writing.checks.+check_elements+check_members+check_nested+check_struct.Tie.{close}
+use Rattle.values.proofs.writing.checks.+check_elements+check_members+check_nested+check_struct.Proof.Measures as measure
+use Rattle.values.proofs.writing.checks.+check_elements+check_members+check_nested+check_struct.Proof.Elements as arrays
+use Rattle.values.proofs.writing.checks.+check_elements+check_members+check_nested+check_struct.Proof.Members as members
+use Rattle.values.proofs.writing.checks.+check_elements+check_members+check_nested+check_struct.Proof.Nested as nested
+use Rattle.values.proofs.writing.checks.+check_elements+check_members+check_nested+check_struct.Proof.Struct as struct
 mod Measures
 mod Elements
 mod Members

@@ -1,8 +1,8 @@
 -- `values::visible_row` meets its contract: a member too large or hidden has no row.
 use borrow.Author.Needs.{needs}
-use Rattle.values.proofs.CheckRows.{row-past, row-hidden, row-shown}
-use Rattle.values.proofs.checks.visible_row.Statement.{statement}
-use Rattle.values.proofs.checks.visible_row.Tie as tie
+use Rattle.values.proofs.writing.checks.CheckRows.{row-past, row-hidden, row-shown}
+use Rattle.values.proofs.writing.checks.visible_row.Statement.{statement}
+use Rattle.values.proofs.writing.checks.visible_row.Tie as tie
 
 add-member-row : tie.Need-add-member-row
 add-member-row c = search needs

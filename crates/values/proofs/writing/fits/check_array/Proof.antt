@@ -2,10 +2,10 @@
 use borrow.Author.Needs.{needs}
 use native.Mathlib.Omega.{arith}
 use Prim.Native.Nat.{_+_, _≤_}
-use Rattle.values.proofs.FitLeafLaws.{array-goes, array-keeps, array-refuses, opening}
-use Rattle.values.proofs.FitRunLaws.{few}
-use Rattle.values.proofs.fits.check_array.Statement.{statement}
-use Rattle.values.proofs.fits.check_array.Tie as tie
+use Rattle.values.proofs.writing.fits.FitLeafLaws.{array-goes, array-keeps, array-refuses, opening}
+use Rattle.values.proofs.writing.fits.FitRunLaws.{few}
+use Rattle.values.proofs.writing.fits.check_array.Statement.{statement}
+use Rattle.values.proofs.writing.fits.check_array.Tie as tie
 
 kind-at-requires : tie.Need-kind-at-requires
 kind-at-requires c κs = search needs

@@ -1,12 +1,13 @@
 -- `values::check_atomic` meets its contract: no entry is left, or the limits judge the entry that is there.
 use native.Mathlib.Omega.{arith}
 use borrow.Author.Needs.{needs}
-use Rattle.values.specs.Effects.{Judged, atomicTakes, orNull}
-use Rattle.values.proofs.FitLaws.{atomic-here, misfit-small}
-use Rattle.values.proofs.LeftLaws.{There, few-entries, there}
-use Rattle.values.proofs.StepLaws.{one-judged, one-missing, one-refused}
-use Rattle.values.proofs.fits.check_atomic.Statement.{statement}
-use Rattle.values.proofs.fits.check_atomic.Tie as tie
+use Rattle.values.specs.inside.writing.Effects.{Judged, atomicTakes}
+use Rattle.values.specs.writing.Effects.{orNull}
+use Rattle.values.proofs.stream.LeftLaws.{There, few-entries, there}
+use Rattle.values.proofs.writing.FitLaws.{atomic-here, misfit-small}
+use Rattle.values.proofs.writing.StepLaws.{one-judged, one-missing, one-refused}
+use Rattle.values.proofs.writing.fits.check_atomic.Statement.{statement}
+use Rattle.values.proofs.writing.fits.check_atomic.Tie as tie
 
 here : (c : tie.Else1) → There (c .before .before .args .s .now) (c .before .before .args .k)
 here c =

@@ -2,9 +2,9 @@
 -- "Writing").
 use borrow.Author.Needs.{needs}
 use mathlib.Core.Path.{_∙_, sym}
-use Rattle.values.proofs.FitLeafLaws.{one-of}
-use Rattle.values.proofs.fits.check_atomics.Statement.{statement}
-use Rattle.values.proofs.fits.check_atomics.Tie as tie
+use Rattle.values.proofs.writing.fits.FitLeafLaws.{one-of}
+use Rattle.values.proofs.writing.fits.check_atomics.Statement.{statement}
+use Rattle.values.proofs.writing.fits.check_atomics.Tie as tie
 
 is-bits-requires : tie.Need-is-bits-requires
 is-bits-requires c κs = search needs

@@ -3,10 +3,10 @@
 use borrow.Author.Needs.{needs}
 use native.Mathlib.Omega.{arith}
 use Prim.Native.Nat.{_+_, _≤_}
-use Rattle.values.proofs.FitLeafLaws.{bits-array, bits-one, opening}
-use Rattle.values.proofs.FitRunLaws.{few}
-use Rattle.values.proofs.fits.check_bits.Statement.{statement}
-use Rattle.values.proofs.fits.check_bits.Tie as tie
+use Rattle.values.proofs.writing.fits.FitLeafLaws.{bits-array, bits-one, opening}
+use Rattle.values.proofs.writing.fits.FitRunLaws.{few}
+use Rattle.values.proofs.writing.fits.check_bits.Statement.{statement}
+use Rattle.values.proofs.writing.fits.check_bits.Tie as tie
 
 kind-at-requires : tie.Need-kind-at-requires
 kind-at-requires c κs = search needs

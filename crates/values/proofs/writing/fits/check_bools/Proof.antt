@@ -2,12 +2,13 @@
 -- "Writing").
 use native.Mathlib.Omega.{arith}
 use Prim.Native.Nat.{_-_, _*_}
-use Rattle.values.specs.Effects.{taken}
-use Rattle.values.specs.Leaf.{flag}
-use Rattle.values.proofs.FitRunLaws.{Next, Walked, asked, bool-on, bool-refused, next-closes, next-low}
-use Rattle.values.proofs.FitRunLaws.{walked-done, walked-start}
-use Rattle.values.proofs.fits.check_bools.Statement.{statement}
-use Rattle.values.proofs.fits.check_bools.Tie as tie
+use Rattle.values.specs.reading.Leaf.{flag}
+use Rattle.values.specs.writing.Effects.{taken}
+use Rattle.values.proofs.writing.fits.FitRunLaws.{Next, Walked, asked, bool-on, bool-refused, next-closes}
+use Rattle.values.proofs.writing.fits.FitRunLaws.{next-low}
+use Rattle.values.proofs.writing.fits.FitRunLaws.{walked-done, walked-start}
+use Rattle.values.proofs.writing.fits.check_bools.Statement.{statement}
+use Rattle.values.proofs.writing.fits.check_bools.Tie as tie
 
 abbrev Inv-loop : tie.InvT-loop
 Inv-loop bytes s n k last p₀ p = Walked s (taken flag) (8 * bytes) k p

@@ -3,12 +3,12 @@
 use borrow.Author.Needs.{needs}
 use native.Mathlib.Omega.{arith}
 use mathlib.Core.Path.{_∙_, ap}
-use Rattle.types.specs.declared.member.Member.{Member}
-use Rattle.values.specs.Walk.{isNested}
-use Rattle.values.proofs.FitLeafLaws.{bytes-low, member-atomic, member-bit, member-struct}
-use Rattle.values.proofs.FitRunLaws.{few}
-use Rattle.values.proofs.fits.check_leaf.Statement.{statement}
-use Rattle.values.proofs.fits.check_leaf.Tie as tie
+use Rattle.types.specs.declared.tables.member.Member.{Member}
+use Rattle.values.specs.inside.reading.Walk.{isNested}
+use Rattle.values.proofs.writing.fits.FitLeafLaws.{bytes-low, member-atomic, member-bit, member-struct}
+use Rattle.values.proofs.writing.fits.FitRunLaws.{few}
+use Rattle.values.proofs.writing.fits.check_leaf.Statement.{statement}
+use Rattle.values.proofs.writing.fits.check_leaf.Tie as tie
 
 member-row-requires : tie.Need-member-row-requires
 member-row-requires c κs = search needs

@@ -3,14 +3,15 @@
 use native.Mathlib.Omega.{arith}
 use Prim.Native.Nat.{_-_}
 use mathlib.Core.Path.{_≡_}
-use Rattle.types.specs.declared.atomic.Atomic.{Atomic}
-use Rattle.values.specs.Effects.{atomicTakes, orNull}
-use Rattle.values.specs.Limits.{limitsOf}
-use Rattle.values.proofs.FitLaws.{misfit-small}
-use Rattle.values.proofs.FitRunLaws.{Judging, Next, Walked, asked, next-closes, next-low}
-use Rattle.values.proofs.FitRunLaws.{number-on, number-refused, walked-done, walked-start}
-use Rattle.values.proofs.fits.check_numbers.Statement.{statement}
-use Rattle.values.proofs.fits.check_numbers.Tie as tie
+use Rattle.types.specs.declared.atomics.atomic.Atomic.{Atomic}
+use Rattle.values.specs.inside.writing.Effects.{atomicTakes}
+use Rattle.values.specs.inside.writing.Limits.{limitsOf}
+use Rattle.values.specs.writing.Effects.{orNull}
+use Rattle.values.proofs.writing.FitLaws.{misfit-small}
+use Rattle.values.proofs.writing.fits.FitRunLaws.{Judging, Next, Walked, asked, next-closes, next-low}
+use Rattle.values.proofs.writing.fits.FitRunLaws.{number-on, number-refused, walked-done, walked-start}
+use Rattle.values.proofs.writing.fits.check_numbers.Statement.{statement}
+use Rattle.values.proofs.writing.fits.check_numbers.Tie as tie
 
 abbrev Inv-loop : tie.InvT-loop
 Inv-loop count s n k limits last p₀ p =

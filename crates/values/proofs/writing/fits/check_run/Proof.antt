@@ -4,9 +4,9 @@ use borrow.Author.Needs.{needs}
 use native.Mathlib.Omega.{arith}
 use Prim.Native.Nat.{ℕ, _*_}
 use mathlib.Core.Path.{_∙_, ap, sym}
-use Rattle.values.proofs.FitLeafLaws.{run-of-bools, run-of-numbers, run-of-wholes}
-use Rattle.values.proofs.fits.check_run.Statement.{statement}
-use Rattle.values.proofs.fits.check_run.Tie as tie
+use Rattle.values.proofs.writing.fits.FitLeafLaws.{run-of-bools, run-of-numbers, run-of-wholes}
+use Rattle.values.proofs.writing.fits.check_run.Statement.{statement}
+use Rattle.values.proofs.writing.fits.check_run.Tie as tie
 
 is-bits-requires : tie.Need-is-bits-requires
 is-bits-requires c κs = search needs

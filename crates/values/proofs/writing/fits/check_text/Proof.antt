@@ -4,13 +4,13 @@ use native.Mathlib.Omega.{arith}
 use mathlib.Core.Path.{_≡_, refl, sym, ap, _∙_}
 use borrow.Author.Needs.{needs}
 use lib.ListN.{length}
-use Rattle.values.specs.Effects.{asText, orNull}
-use Rattle.values.specs.Stream.{bodyOf, kindOf}
-use Rattle.values.proofs.FitLaws.{no-text, text-fits, text-long, text-null}
-use Rattle.values.proofs.LeftLaws.{There, by-kind, few-entries, kind-there}
-use Rattle.values.proofs.StepLaws.{one-judged, one-refused}
-use Rattle.values.proofs.fits.check_text.Statement.{statement}
-use Rattle.values.proofs.fits.check_text.Tie as tie
+use Rattle.values.specs.stream.Stream.{bodyOf, kindOf}
+use Rattle.values.specs.writing.Effects.{asText, orNull}
+use Rattle.values.proofs.stream.LeftLaws.{There, by-kind, few-entries, kind-there}
+use Rattle.values.proofs.writing.FitLaws.{no-text, text-fits, text-long, text-null}
+use Rattle.values.proofs.writing.StepLaws.{one-judged, one-refused}
+use Rattle.values.proofs.writing.fits.check_text.Statement.{statement}
+use Rattle.values.proofs.writing.fits.check_text.Tie as tie
 
 -- the null
 null-here : (c : tie.Then1) → There (c .before .before .before .args .s .now) (c .before .before .before .args .k)

@@ -1,8 +1,8 @@
 -- `values::fits::close_at` meets its contract: after the last place only the close fits (document 01, "Writing").
 use native.Mathlib.Omega.{arith}
-use Rattle.values.proofs.FitRunLaws.{asked, end-closes, end-full, end-missing, few}
-use Rattle.values.proofs.fits.close_at.Statement.{statement}
-use Rattle.values.proofs.fits.close_at.Tie as tie
+use Rattle.values.proofs.writing.fits.FitRunLaws.{asked, end-closes, end-full, end-missing, few}
+use Rattle.values.proofs.writing.fits.close_at.Statement.{statement}
+use Rattle.values.proofs.writing.fits.close_at.Tie as tie
 
 refused-requires : tie.Need-refused-requires
 refused-requires c κs =

@@ -1,8 +1,8 @@
 -- `values::above_misfit` meets its contract: at most the greatest, or above it.
 use borrow.Author.Tests.{le-leb, lt-leb}
-use Rattle.values.specs.Limits.{aboveMisfit}
-use Rattle.values.proofs.limits.above_misfit.Statement.{statement}
-use Rattle.values.proofs.limits.above_misfit.Tie as tie
+use Rattle.values.specs.inside.writing.Limits.{aboveMisfit}
+use Rattle.values.proofs.writing.limits.above_misfit.Statement.{statement}
+use Rattle.values.proofs.writing.limits.above_misfit.Tie as tie
 
 returns : tie.Need-returns
 unfolding aboveMisfit

@@ -1,9 +1,9 @@
 -- `values::limits_of` meets its contract: an arm for each atomic.
 use borrow.Author.Needs.{needs}
 use mathlib.Core.Path.{sym, ap, _∙_}
-use Rattle.values.specs.Limits.{limitsOf}
-use Rattle.values.proofs.limits.limits_of.Statement.{statement}
-use Rattle.values.proofs.limits.limits_of.Tie as tie
+use Rattle.values.specs.inside.writing.Limits.{limitsOf}
+use Rattle.values.proofs.writing.limits.limits_of.Statement.{statement}
+use Rattle.values.proofs.writing.limits.limits_of.Tie as tie
 
 pub limits-of-spec : {M : Type 1} → statement M
 limits-of-spec =

@@ -1,9 +1,9 @@
 -- `values::misfit` meets its contract: null, a whole number, or the one kind.
 use borrow.Author.Needs.{needs}
 use borrow.Author.Tests.{eq-eqb, ne-eqb}
-use Rattle.values.specs.Limits.{misfit}
-use Rattle.values.proofs.limits.misfit.Statement.{statement}
-use Rattle.values.proofs.limits.misfit.Tie as tie
+use Rattle.values.specs.inside.writing.Limits.{misfit}
+use Rattle.values.proofs.writing.limits.misfit.Statement.{statement}
+use Rattle.values.proofs.writing.limits.misfit.Tie as tie
 
 returns : tie.Need-returns
 unfolding misfit

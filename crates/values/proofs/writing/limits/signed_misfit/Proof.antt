@@ -1,9 +1,9 @@
 -- `values::signed_misfit` meets its contract: below zero it is above what is too low, else it is not too high.
 use borrow.Author.Needs.{needs}
 use borrow.Author.Tests.{le-leb, lt-leb, lt-ltb, le-ltb}
-use Rattle.values.specs.Limits.{signedMisfit}
-use Rattle.values.proofs.limits.signed_misfit.Statement.{statement}
-use Rattle.values.proofs.limits.signed_misfit.Tie as tie
+use Rattle.values.specs.inside.writing.Limits.{signedMisfit}
+use Rattle.values.proofs.writing.limits.signed_misfit.Statement.{statement}
+use Rattle.values.proofs.writing.limits.signed_misfit.Tie as tie
 
 returns : tie.Need-returns
 unfolding signedMisfit

@@ -1,9 +1,9 @@
 -- `values::whole_misfit` meets its contract: a signed number, an unsigned one, or another kind.
 use borrow.Author.Needs.{needs}
 use borrow.Author.Tests.{eq-eqb, ne-eqb}
-use Rattle.values.specs.Limits.{wholeMisfit}
-use Rattle.values.proofs.limits.whole_misfit.Statement.{statement}
-use Rattle.values.proofs.limits.whole_misfit.Tie as tie
+use Rattle.values.specs.inside.writing.Limits.{wholeMisfit}
+use Rattle.values.proofs.writing.limits.whole_misfit.Statement.{statement}
+use Rattle.values.proofs.writing.limits.whole_misfit.Tie as tie
 
 signed-misfit-requires : tie.Need-signed-misfit-requires
 signed-misfit-requires c κs = search needs

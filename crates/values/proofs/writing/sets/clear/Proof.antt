@@ -1,9 +1,9 @@
 -- `values::clear` meets its contract. The invariant: storing all is storing what is left in what stands now.
 use Prim.Native.Nat.{_-_}
 use native.Mathlib.Omega.{arith}
-use Rattle.values.proofs.SetLaws.{Clearing, clear-start, clear-on, clear-done}
-use Rattle.values.proofs.sets.clear.Statement.{statement}
-use Rattle.values.proofs.sets.clear.Tie as tie
+use Rattle.values.proofs.writing.sets.SetLaws.{Clearing, clear-start, clear-on, clear-done}
+use Rattle.values.proofs.writing.sets.clear.Statement.{statement}
+use Rattle.values.proofs.writing.sets.clear.Tie as tie
 
 abbrev Inv-loop : tie.InvT-loop
 Inv-loop image₀ at n i₀ image i = Clearing image₀ at n image i

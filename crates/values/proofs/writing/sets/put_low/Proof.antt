@@ -2,9 +2,9 @@
 use borrow.Author.Needs.{needs}
 use native.Mathlib.Omega.{arith}
 use mathlib.Core.Path.{_≡_}
-use Rattle.values.proofs.SetLaws.{all-stored, eight-left, low-stored}
-use Rattle.values.proofs.sets.put_low.Statement.{statement}
-use Rattle.values.proofs.sets.put_low.Tie as tie
+use Rattle.values.proofs.writing.sets.SetLaws.{all-stored, eight-left, low-stored}
+use Rattle.values.proofs.writing.sets.put_low.Statement.{statement}
+use Rattle.values.proofs.writing.sets.put_low.Tie as tie
 
 -- no other width is left
 eight : (c : tie.Else3) → c .before .before .before .before .args .size ≡ 8

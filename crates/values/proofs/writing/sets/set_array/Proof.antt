@@ -4,15 +4,16 @@ use native.Mathlib.Omega.{arith}
 use mathlib.Core.Path.{_≡_, sym, _∙_}
 use borrow.Author.Needs.{needs}
 use Rattle.words.specs.Bits.{flat}
-use Rattle.values.specs.Passes.{leftAt}
-use Rattle.values.specs.Rows.{runIn}
-use Rattle.values.specs.Trees.{atomicsTree}
-use Rattle.values.specs.Writing.{opened, write}
-use Rattle.values.proofs.ApplyLaws.{Setting, accepted-as, applied-as, opened-kept, opened-set, opened-there}
-use Rattle.values.proofs.LeftLaws.{There, few-entries}
-use Rattle.values.proofs.RunInLaws.{array-is}
-use Rattle.values.proofs.sets.set_array.Statement.{statement}
-use Rattle.values.proofs.sets.set_array.Tie as tie
+use Rattle.values.specs.inside.writing.Passes.{leftAt}
+use Rattle.values.specs.inside.writing.Rows.{runIn}
+use Rattle.values.specs.reading.Trees.{atomicsTree}
+use Rattle.values.specs.writing.Writing.{opened, write}
+use Rattle.values.proofs.stream.LeftLaws.{There, few-entries}
+use Rattle.values.proofs.writing.ApplyLaws.{Setting, accepted-as, applied-as, opened-kept, opened-set}
+use Rattle.values.proofs.writing.ApplyLaws.{opened-there}
+use Rattle.values.proofs.writing.RunInLaws.{array-is}
+use Rattle.values.proofs.writing.sets.set_array.Statement.{statement}
+use Rattle.values.proofs.writing.sets.set_array.Tie as tie
 
 is : (c : tie.Start)
     → let a = c .args in

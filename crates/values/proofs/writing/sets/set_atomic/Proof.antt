@@ -6,13 +6,14 @@ use mathlib.Core.Path.{sym, ap₂, _∙_}
 use lib.Seq.{sets}
 use Rattle.words.specs.Bits.{flat}
 use Rattle.words.specs.Words.{bytesOf}
-use Rattle.types.specs.Atomic.{sizeOf}
-use Rattle.values.specs.Effects.{atomicTakes, orNull}
-use Rattle.values.proofs.ApplyLaws.{one-there}
-use Rattle.values.proofs.LeftLaws.{There, few-entries}
-use Rattle.values.proofs.SetLaws.{atomic-set, one-kept, width-of}
-use Rattle.values.proofs.sets.set_atomic.Statement.{statement}
-use Rattle.values.proofs.sets.set_atomic.Tie as tie
+use Rattle.types.specs.atomics.Atomic.{sizeOf}
+use Rattle.values.specs.inside.writing.Effects.{atomicTakes}
+use Rattle.values.specs.writing.Effects.{orNull}
+use Rattle.values.proofs.stream.LeftLaws.{There, few-entries}
+use Rattle.values.proofs.writing.ApplyLaws.{one-there}
+use Rattle.values.proofs.writing.sets.SetLaws.{atomic-set, one-kept, width-of}
+use Rattle.values.proofs.writing.sets.set_atomic.Statement.{statement}
+use Rattle.values.proofs.writing.sets.set_atomic.Tie as tie
 
 -- the entry is there
 there : (c : tie.Start) → There (c .args .s .now) (c .args .k)

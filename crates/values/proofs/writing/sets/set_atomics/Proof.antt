@@ -4,14 +4,14 @@ use native.Mathlib.Omega.{arith}
 use mathlib.Core.Path.{_≡_, sym, ap, _∙_}
 use borrow.Author.Needs.{needs}
 use Rattle.words.specs.Bits.{flat}
-use Rattle.values.specs.Passes.{leftAt}
-use Rattle.values.specs.Trees.{atomicsTree}
-use Rattle.values.specs.Writing.{write}
-use Rattle.values.proofs.ApplyLaws.{accepted-as, applied-as}
-use Rattle.values.proofs.RunInLaws.{one-is-leaf}
-use Rattle.values.proofs.SetRunLaws.{oneOf, room-one, room-some}
-use Rattle.values.proofs.sets.set_atomics.Statement.{statement}
-use Rattle.values.proofs.sets.set_atomics.Tie as tie
+use Rattle.values.specs.inside.writing.Passes.{leftAt}
+use Rattle.values.specs.reading.Trees.{atomicsTree}
+use Rattle.values.specs.writing.Writing.{write}
+use Rattle.values.proofs.writing.ApplyLaws.{accepted-as, applied-as}
+use Rattle.values.proofs.writing.RunInLaws.{one-is-leaf}
+use Rattle.values.proofs.writing.sets.SetRunLaws.{oneOf, room-one, room-some}
+use Rattle.values.proofs.writing.sets.set_atomics.Statement.{statement}
+use Rattle.values.proofs.writing.sets.set_atomics.Tie as tie
 
 -- the count is 0
 one : (c : tie.Then1)

@@ -4,18 +4,18 @@ use native.Mathlib.Omega.{arith}
 use mathlib.Core.Path.{_≡_, sym, _∙_, subst}
 use borrow.Author.Needs.{needs}
 use Rattle.words.specs.Bits.{flat}
-use Rattle.types.specs.Atomic.{sizeOf}
-use Rattle.values.specs.Passes.{leftAt}
-use Rattle.values.specs.Rows.{Width}
-use Rattle.values.specs.Trees.{atomicsTree}
-use Rattle.values.specs.Writing.{boolsIn, write}
-use Rattle.values.proofs.ApplyLaws.{Setting, accepted-as, applied-as}
-use Rattle.values.proofs.LeftLaws.{There, few-entries}
-use Rattle.values.proofs.RunInLaws.{bits-number}
-use Rattle.values.proofs.SetLaws.{width-of}
-use Rattle.values.proofs.SetRunLaws.{bits-cleared, bits-there, bools-asked, oneOf}
-use Rattle.values.proofs.sets.set_bits.Statement.{statement}
-use Rattle.values.proofs.sets.set_bits.Tie as tie
+use Rattle.types.specs.atomics.Atomic.{sizeOf}
+use Rattle.values.specs.inside.writing.Passes.{leftAt}
+use Rattle.values.specs.inside.writing.Rows.{Width}
+use Rattle.values.specs.reading.Trees.{atomicsTree}
+use Rattle.values.specs.writing.Writing.{boolsIn, write}
+use Rattle.values.proofs.stream.LeftLaws.{There, few-entries}
+use Rattle.values.proofs.writing.ApplyLaws.{Setting, accepted-as, applied-as}
+use Rattle.values.proofs.writing.RunInLaws.{bits-number}
+use Rattle.values.proofs.writing.sets.SetLaws.{width-of}
+use Rattle.values.proofs.writing.sets.SetRunLaws.{bits-cleared, bits-there, bools-asked, oneOf}
+use Rattle.values.proofs.writing.sets.set_bits.Statement.{statement}
+use Rattle.values.proofs.writing.sets.set_bits.Tie as tie
 
 here : (c : tie.Start) → There (c .args .s .now) (c .args .k)
 here c = bits-there (c .pre .0 .0) (c .args .a) (c .args .base) (c .pre .1 .0) _ (c .pre .1 .1)

@@ -4,13 +4,13 @@ use Prim.Native.Nat.{_+_, _*_}
 use native.Mathlib.Omega.{arith}
 use mathlib.Core.Path.{sym, _∙_}
 use Rattle.words.specs.Bits.{flat}
-use Rattle.values.specs.Effects.{orNull, taken}
-use Rattle.values.specs.Leaf.{flag}
-use Rattle.values.proofs.ApplyLaws.{one-there}
-use Rattle.values.proofs.LeftLaws.{There, few-entries}
-use Rattle.values.proofs.SetLaws.{flag-set, one-kept}
-use Rattle.values.proofs.sets.set_flag.Statement.{statement}
-use Rattle.values.proofs.sets.set_flag.Tie as tie
+use Rattle.values.specs.reading.Leaf.{flag}
+use Rattle.values.specs.writing.Effects.{orNull, taken}
+use Rattle.values.proofs.stream.LeftLaws.{There, few-entries}
+use Rattle.values.proofs.writing.ApplyLaws.{one-there}
+use Rattle.values.proofs.writing.sets.SetLaws.{flag-set, one-kept}
+use Rattle.values.proofs.writing.sets.set_flag.Statement.{statement}
+use Rattle.values.proofs.writing.sets.set_flag.Tie as tie
 
 -- the entry is there
 there : (c : tie.Start) → There (c .args .s .now) (c .args .k)

@@ -2,11 +2,12 @@
 use native.Mathlib.Omega.{arith}
 use borrow.Author.Needs.{needs}
 use denote.Ref.{now}
-use Rattle.values.proofs.ApplyLaws.{accepted-as, applied-as}
-use Rattle.values.proofs.SetLeafLaws.{LeafHere, atomics-inside, atomics-is, flag-inside, flag-is, leaf-start}
-use Rattle.values.proofs.SetLeafLaws.{nested-never}
-use Rattle.values.proofs.sets.set_leaf.Statement.{statement}
-use Rattle.values.proofs.sets.set_leaf.Tie as tie
+use Rattle.values.proofs.writing.ApplyLaws.{accepted-as, applied-as}
+use Rattle.values.proofs.writing.sets.SetLeafLaws.{LeafHere, atomics-inside, atomics-is, flag-inside, flag-is}
+use Rattle.values.proofs.writing.sets.SetLeafLaws.{leaf-start}
+use Rattle.values.proofs.writing.sets.SetLeafLaws.{nested-never}
+use Rattle.values.proofs.writing.sets.set_leaf.Statement.{statement}
+use Rattle.values.proofs.writing.sets.set_leaf.Tie as tie
 
 -- the member was read
 here : (c : tie.After-wide2)

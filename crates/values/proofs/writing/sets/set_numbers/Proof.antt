@@ -4,14 +4,15 @@ use native.Mathlib.Omega.{arith}
 use mathlib.Core.Path.{_≡_, sym, _∙_, subst}
 use lib.ListN.{length}
 use borrow.Author.Needs.{needs}
-use Rattle.values.specs.Form.{countIn}
-use Rattle.values.specs.Rows.{Width}
-use Rattle.values.proofs.LeftLaws.{few-entries}
-use Rattle.values.proofs.SetRunLaws.{Asked, Numbers, numbers-closed, numbers-end, numbers-long, numbers-null}
-use Rattle.values.proofs.SetLaws.{width-of}
-use Rattle.values.proofs.SetRunLaws.{numbers-put, numbers-room, numbers-start, numbers-there}
-use Rattle.values.proofs.sets.set_numbers.Statement.{statement}
-use Rattle.values.proofs.sets.set_numbers.Tie as tie
+use Rattle.values.specs.inside.writing.Rows.{Width}
+use Rattle.values.specs.stream.Form.{countIn}
+use Rattle.values.proofs.stream.LeftLaws.{few-entries}
+use Rattle.values.proofs.writing.sets.SetLaws.{width-of}
+use Rattle.values.proofs.writing.sets.SetRunLaws.{Asked, Numbers, numbers-closed, numbers-end, numbers-long}
+use Rattle.values.proofs.writing.sets.SetRunLaws.{numbers-null}
+use Rattle.values.proofs.writing.sets.SetRunLaws.{numbers-put, numbers-room, numbers-start, numbers-there}
+use Rattle.values.proofs.writing.sets.set_numbers.Statement.{statement}
+use Rattle.values.proofs.writing.sets.set_numbers.Tie as tie
 
 abbrev Inv-loop : tie.InvT-loop
 Inv-loop count s k image₀ base size p₀ image p = Numbers count s k image₀ base size image p

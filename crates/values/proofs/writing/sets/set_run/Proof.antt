@@ -4,15 +4,15 @@ use mathlib.Core.Path.{_≡_, sym, _∙_}
 use mathlib.Core.Bool.{true}
 use borrow.Author.Needs.{needs}
 use Rattle.words.specs.Bits.{flat}
-use Rattle.types.specs.Atomic.{bitString, sizeOf}
-use Rattle.values.specs.Passes.{leftAt}
-use Rattle.values.specs.Rows.{runIn}
-use Rattle.values.specs.Writing.{boolsIn}
-use Rattle.values.proofs.ApplyLaws.{accepted-as, applied-as}
-use Rattle.values.proofs.RunInLaws.{run-bools, run-numbers, run-wholes}
-use Rattle.values.proofs.SetRunLaws.{bools-asked, numbersIn, run-there}
-use Rattle.values.proofs.sets.set_run.Statement.{statement}
-use Rattle.values.proofs.sets.set_run.Tie as tie
+use Rattle.types.specs.atomics.Atomic.{bitString, sizeOf}
+use Rattle.values.specs.inside.writing.Passes.{leftAt}
+use Rattle.values.specs.inside.writing.Rows.{runIn}
+use Rattle.values.specs.writing.Writing.{boolsIn}
+use Rattle.values.proofs.writing.ApplyLaws.{accepted-as, applied-as}
+use Rattle.values.proofs.writing.RunInLaws.{run-bools, run-numbers, run-wholes}
+use Rattle.values.proofs.writing.sets.SetRunLaws.{bools-asked, numbersIn, run-there}
+use Rattle.values.proofs.writing.sets.set_run.Statement.{statement}
+use Rattle.values.proofs.writing.sets.set_run.Tie as tie
 
 bits : (c : tie.Then1) → bitString (c .before .before .before .before .args .a) ≡ true
 bits c = sym (c .before .is-bits .ensures) ∙ c .if1 .taken

@@ -5,13 +5,13 @@ use native.Mathlib.Omega.{arith}
 use mathlib.Core.Path.{_≡_, sym, ap, ap₂, _∙_}
 use lib.ListN.{length}
 use Rattle.words.specs.Bits.{flat}
-use Rattle.values.specs.Effects.{asText, orNull}
-use Rattle.values.specs.Form.{baseIn}
-use Rattle.values.proofs.ApplyLaws.{one-there}
-use Rattle.values.proofs.LeftLaws.{There, entries-inside, few-entries, payloadAt}
-use Rattle.values.proofs.SetLaws.{TextFits, body-part, one-kept, text-fits, text-set}
-use Rattle.values.proofs.sets.set_text.Statement.{statement}
-use Rattle.values.proofs.sets.set_text.Tie as tie
+use Rattle.values.specs.stream.Form.{baseIn}
+use Rattle.values.specs.writing.Effects.{asText, orNull}
+use Rattle.values.proofs.stream.LeftLaws.{There, entries-inside, few-entries, payloadAt}
+use Rattle.values.proofs.writing.ApplyLaws.{one-there}
+use Rattle.values.proofs.writing.sets.SetLaws.{TextFits, body-part, one-kept, text-fits, text-set}
+use Rattle.values.proofs.writing.sets.set_text.Statement.{statement}
+use Rattle.values.proofs.writing.sets.set_text.Tie as tie
 
 -- the entry is there
 there : (c : tie.Start) → There (c .args .s .now) (c .args .k)

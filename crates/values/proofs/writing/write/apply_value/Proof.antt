@@ -3,12 +3,12 @@
 use native.Mathlib.Omega.{arith}
 use borrow.Author.Needs.{needs}
 use Rattle.words.specs.Bits.{flat}
-use Rattle.values.specs.Passes.{leftAt}
-use Rattle.values.proofs.ApplyLaws.{accepted-as, applied-as}
-use Rattle.values.proofs.SettingLaws.{atomics-fit, atomics-write, value-here, value-write}
-use Rattle.values.proofs.SettingLaws.{values-here, values-write}
-use Rattle.values.proofs.writing.apply_value.Statement.{statement}
-use Rattle.values.proofs.writing.apply_value.Tie as tie
+use Rattle.values.specs.inside.writing.Passes.{leftAt}
+use Rattle.values.proofs.writing.ApplyLaws.{accepted-as, applied-as}
+use Rattle.values.proofs.writing.SettingLaws.{atomics-fit, atomics-write, value-here, value-write}
+use Rattle.values.proofs.writing.SettingLaws.{values-here, values-write}
+use Rattle.values.proofs.writing.write.apply_value.Statement.{statement}
+use Rattle.values.proofs.writing.write.apply_value.Tie as tie
 
 enum-known-ty : tie.Need-enum-known-ty
 enum-known-ty c = search needs

@@ -1,11 +1,11 @@
 -- `values::check_value` meets its contract (document 01, "Writing"): atomics, a structure, or an array of structures.
 use native.Mathlib.Omega.{arith}
 use borrow.Author.Needs.{needs}
-use Rattle.values.specs.Passes.{leftAt}
-use Rattle.values.proofs.SettingLaws.{atomics-few, atomics-write, value-write, values-write}
-use Rattle.values.proofs.StepLaws.{checked-as}
-use Rattle.values.proofs.writing.check_value.Statement.{statement}
-use Rattle.values.proofs.writing.check_value.Tie as tie
+use Rattle.values.specs.inside.writing.Passes.{leftAt}
+use Rattle.values.proofs.writing.SettingLaws.{atomics-few, atomics-write, value-write, values-write}
+use Rattle.values.proofs.writing.StepLaws.{checked-as}
+use Rattle.values.proofs.writing.write.check_value.Statement.{statement}
+use Rattle.values.proofs.writing.write.check_value.Tie as tie
 
 enum-known-ty : tie.Need-enum-known-ty
 enum-known-ty c = search needs

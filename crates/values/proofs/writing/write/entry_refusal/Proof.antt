@@ -1,8 +1,8 @@
 -- `values::entry_refusal` meets its contract (document 01, "Refusal numbers"): 19, 20 and 21, and 18 for any other.
 use native.Mathlib.Omega.{arith}
 use mathlib.Core.Path.{refl, sym}
-use Rattle.values.proofs.writing.entry_refusal.Statement.{statement}
-use Rattle.values.proofs.writing.entry_refusal.Tie as tie
+use Rattle.values.proofs.writing.write.entry_refusal.Statement.{statement}
+use Rattle.values.proofs.writing.write.entry_refusal.Tie as tie
 
 returns : tie.Need-returns
 returns c = (sym (c .match .keys1), refl)

@@ -5,16 +5,16 @@ use mathlib.Core.Bool.{true}
 use borrow.Author.Tests.{eqb-true, not-true, not-false}
 use lib.Dec.{eqb}
 use lib.ListN.{length}
-use Rattle.types.specs.Layout.{times}
-use Rattle.types.specs.Shape.{isThere}
-use Rattle.types.specs.Waste.{sizeIn, sizesIn}
-use Rattle.types.proofs.ShapeLaws.{there-fits}
-use Rattle.values.specs.Reading.{imageFits}
-use Rattle.values.proofs.KeptWalkable.{kept-walkable}
-use Rattle.values.proofs.WrittenLaws.{entered-done, no-image, no-stream, no-type}
+use Rattle.types.specs.layout.Placing.{times}
+use Rattle.types.specs.tables.Sizes.{sizeIn, sizesIn}
+use Rattle.types.specs.tables.There.{isThere}
+use Rattle.types.proofs.Face.{there-fits}
+use Rattle.values.specs.reading.Read.{imageFits}
+use Rattle.values.proofs.reading.KeptWalkable.{kept-walkable}
+use Rattle.values.proofs.writing.WrittenLaws.{entered-done, no-image, no-stream, no-type}
 use borrow.Author.Needs.{needs}
-use Rattle.values.proofs.writing.write.Statement.{statement}
-use Rattle.values.proofs.writing.write.Tie as tie
+use Rattle.values.proofs.writing.write.write.Statement.{statement}
+use Rattle.values.proofs.writing.write.write.Tie as tie
 
 -- the type is there
 there : (c : tie.Else1) → isThere (c .before .before .before .before .args .types .now)

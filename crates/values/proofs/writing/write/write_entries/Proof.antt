@@ -2,11 +2,12 @@
 use native.Mathlib.Omega.{arith}
 use mathlib.Core.Path.{_≡_, _∙_}
 use borrow.Author.Needs.{needs}
-use Rattle.values.specs.Form.{countIn}
-use Rattle.values.proofs.LeftLaws.{entries-inside}
-use Rattle.values.proofs.WrittenLaws.{all-accepted, entered-whole, left-over, refused-entered, refused-number}
-use Rattle.values.proofs.writing.write_entries.Statement.{statement}
-use Rattle.values.proofs.writing.write_entries.Tie as tie
+use Rattle.values.specs.stream.Form.{countIn}
+use Rattle.values.proofs.stream.LeftLaws.{entries-inside}
+use Rattle.values.proofs.writing.WrittenLaws.{all-accepted, entered-whole, left-over, refused-entered}
+use Rattle.values.proofs.writing.WrittenLaws.{refused-number}
+use Rattle.values.proofs.writing.write.write_entries.Statement.{statement}
+use Rattle.values.proofs.writing.write.write_entries.Tie as tie
 
 -- the number of entries
 counted : (c : tie.After-wide) → c .wide .result ≡ countIn (c .before .before .before .before .args .s .now)

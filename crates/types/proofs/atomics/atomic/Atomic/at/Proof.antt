@@ -1,9 +1,9 @@
 -- `types::Atomic::at` meets its contract.
 use mathlib.Core.Path.{sym, ap, _∙_}
-use Rattle.types.specs.Atomic.{codeAt, codeOf}
-use Rattle.types.proofs.AtomicLaws.{at-other, at-said}
-use Rattle.types.proofs.atomic.Atomic.at.Statement.{statement}
-use Rattle.types.proofs.atomic.Atomic.at.Tie as tie
+use Rattle.types.specs.atomics.Atomic.{codeAt, codeOf}
+use Rattle.types.proofs.atomics.AtomicLaws.{at-other, at-said}
+use Rattle.types.proofs.atomics.atomic.Atomic.at.Statement.{statement}
+use Rattle.types.proofs.atomics.atomic.Atomic.at.Tie as tie
 
 returns : tie.Need-returns
 unfolding codeAt codeOf

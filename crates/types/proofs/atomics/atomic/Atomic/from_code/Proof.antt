@@ -8,16 +8,17 @@ use mathlib.Core.Bool.{true, false}
 use borrow.Author.Tests.{eq-eqb, ne-eqb}
 use lib.Dec.{eqb}
 use lib.ListN.{drop}
-use Rattle.types.specs.declared.atomic.AtomicRow.{AtomicRow}
-use Rattle.types.specs.declared.atomic.FoundAtomic.the-variants.{Is}
-use Rattle.types.specs.Atomic.{atomics, rowOf, rowsOf, firstOf, codeOf, codeGiven, saidBy}
-use Rattle.types.proofs.AtomicLaws.{at-is, table-row, first-hit, first-miss, first-none, first-said}
-use Rattle.types.proofs.atomic.Atomic.from_code.Statement.{statement}
-use Rattle.types.proofs.atomic.Atomic.from_code.Tie as tie
+use Rattle.types.specs.atomics.Atomic.{atomics, rowOf, firstOf, codeOf, codeGiven, saidBy}
+use Rattle.types.specs.inside.atomics.Atomic.{tableRows}
+use Rattle.types.specs.declared.atomics.atomic.AtomicRow.{AtomicRow}
+use Rattle.types.specs.declared.atomics.atomic.FoundAtomic.the-variants.{Is}
+use Rattle.types.proofs.atomics.AtomicLaws.{at-is, table-row, first-hit, first-miss, first-none, first-said}
+use Rattle.types.proofs.atomics.atomic.Atomic.from_code.Statement.{statement}
+use Rattle.types.proofs.atomics.atomic.Atomic.from_code.Tie as tie
 
 abbrev Inv-loop : tie.InvT-loop
 Inv-loop code rows i₀ i =
-    (i ≤ 15) × ((rows ≡ rowsOf atomics)
+    (i ≤ 15) × ((rows ≡ tableRows atomics)
     × (codeGiven code ≡ saidBy (firstOf (λ a. eqb (codeOf a) code) (drop i atomics))))
 
 abbrev μ-loop : tie.MeasureT-loop

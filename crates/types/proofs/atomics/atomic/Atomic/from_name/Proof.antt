@@ -7,17 +7,18 @@ use mathlib.Core.Path.{_≡_, refl, sym, ap, _∙_}
 use mathlib.Core.List.{List}
 use lib.ListN.{drop}
 use lib.Seq.{length-take-le}
-use Rattle.types.specs.Atomic.{atomics, atomicAt, rowsOf, firstOf, nameOf, atomicNamed, saidBy}
-use Rattle.types.specs.Names.{sameName}
-use Rattle.types.specs.declared.atomic.FoundAtomic.the-variants.{Is}
-use Rattle.types.proofs.AtomicLaws.{at-is, table-row, row-name, row-long}
-use Rattle.types.proofs.AtomicLaws.{first-hit, first-miss, first-none, named-said}
-use Rattle.types.proofs.atomic.Atomic.from_name.Statement.{statement}
-use Rattle.types.proofs.atomic.Atomic.from_name.Tie as tie
+use Rattle.types.specs.atomics.Atomic.{atomics, atomicAt, firstOf, nameOf, atomicNamed, saidBy}
+use Rattle.types.specs.book.Names.{sameName}
+use Rattle.types.specs.inside.atomics.Atomic.{tableRows}
+use Rattle.types.specs.declared.atomics.atomic.FoundAtomic.the-variants.{Is}
+use Rattle.types.proofs.atomics.AtomicLaws.{at-is, table-row, row-name, row-long}
+use Rattle.types.proofs.atomics.AtomicLaws.{first-hit, first-miss, first-none, named-said}
+use Rattle.types.proofs.atomics.atomic.Atomic.from_name.Statement.{statement}
+use Rattle.types.proofs.atomics.atomic.Atomic.from_name.Tie as tie
 
 abbrev Inv-loop : tie.InvT-loop
 Inv-loop name rows i₀ i =
-    (i ≤ 15) × ((rows ≡ rowsOf atomics) × (atomicNamed name ≡ firstOf (λ a. sameName (nameOf a) name) (drop i atomics)))
+    (i ≤ 15) × ((rows ≡ tableRows atomics) × (atomicNamed name ≡ firstOf (λ a. sameName (nameOf a) name) (drop i atomics)))
 
 abbrev μ-loop : tie.MeasureT-loop
 μ-loop name rows i₀ i = 15 - i

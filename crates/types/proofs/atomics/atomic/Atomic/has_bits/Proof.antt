@@ -1,9 +1,9 @@
 -- `types::Atomic::has_bits` meets its contract.
 use borrow.Author.Needs.{needs}
 use borrow.Author.Tests.{eq-eqb, ne-eqb}
-use Rattle.types.specs.Atomic.{hasBits}
-use Rattle.types.proofs.atomic.Atomic.has_bits.Statement.{statement}
-use Rattle.types.proofs.atomic.Atomic.has_bits.Tie as tie
+use Rattle.types.specs.atomics.Atomic.{hasBits}
+use Rattle.types.proofs.atomics.atomic.Atomic.has_bits.Statement.{statement}
+use Rattle.types.proofs.atomics.atomic.Atomic.has_bits.Tie as tie
 
 num-requires : tie.Need-num-requires
 num-requires c κs = search needs

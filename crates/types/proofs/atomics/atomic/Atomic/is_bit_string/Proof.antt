@@ -2,9 +2,9 @@
 use borrow.Author.Needs.{needs}
 use mathlib.Core.Path.{ap}
 use lib.Dec.{leb}
-use Rattle.types.specs.Atomic.{bitString}
-use Rattle.types.proofs.atomic.Atomic.is_bit_string.Statement.{statement}
-use Rattle.types.proofs.atomic.Atomic.is_bit_string.Tie as tie
+use Rattle.types.specs.atomics.Atomic.{bitString}
+use Rattle.types.proofs.atomics.atomic.Atomic.is_bit_string.Statement.{statement}
+use Rattle.types.proofs.atomics.atomic.Atomic.is_bit_string.Tie as tie
 
 num-requires : tie.Need-num-requires
 num-requires c κs = search needs

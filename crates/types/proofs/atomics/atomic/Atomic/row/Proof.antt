@@ -2,10 +2,10 @@
 use borrow.Author.Needs.{needs}
 use Prim.Native.Nat.{ℕ}
 use mathlib.Core.Path.{ap, _∙_}
-use Rattle.types.specs.Atomic.{atomicAt, rowOf}
-use Rattle.types.proofs.AtomicLaws.{table-row, at-num}
-use Rattle.types.proofs.atomic.Atomic.row.Statement.{statement}
-use Rattle.types.proofs.atomic.Atomic.row.Tie as tie
+use Rattle.types.specs.atomics.Atomic.{atomicAt, rowOf}
+use Rattle.types.proofs.atomics.AtomicLaws.{table-row, at-num}
+use Rattle.types.proofs.atomics.atomic.Atomic.row.Statement.{statement}
+use Rattle.types.proofs.atomics.atomic.Atomic.row.Tie as tie
 
 table-requires : tie.Need-table-requires
 table-requires c κs = search needs

@@ -1,10 +1,10 @@
 -- `types::Atomic::size` meets its contract.
 use borrow.Author.Needs.{needs}
 use mathlib.Core.Path.{ap}
-use Rattle.types.specs.declared.atomic.AtomicRow.{AtomicRow}
-use Rattle.types.specs.Atomic.{rowOf}
-use Rattle.types.proofs.atomic.Atomic.size.Statement.{statement}
-use Rattle.types.proofs.atomic.Atomic.size.Tie as tie
+use Rattle.types.specs.atomics.Atomic.{rowOf}
+use Rattle.types.specs.declared.atomics.atomic.AtomicRow.{AtomicRow}
+use Rattle.types.proofs.atomics.atomic.Atomic.size.Statement.{statement}
+use Rattle.types.proofs.atomics.atomic.Atomic.size.Tie as tie
 
 row-requires : tie.Need-row-requires
 row-requires c κs = search needs

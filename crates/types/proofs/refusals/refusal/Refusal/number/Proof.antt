@@ -1,9 +1,9 @@
 -- `types::Refusal::number` meets its contract: each arm is the definition's clause.
 use borrow.Author.Needs.{needs}
 use mathlib.Core.Path.{sym, ap}
-use Rattle.types.specs.Refusal.{numberOf}
-use Rattle.types.proofs.refusal.Refusal.number.Statement.{statement}
-use Rattle.types.proofs.refusal.Refusal.number.Tie as tie
+use Rattle.types.specs.refusals.Refusal.{numberOf}
+use Rattle.types.proofs.refusals.refusal.Refusal.number.Statement.{statement}
+use Rattle.types.proofs.refusals.refusal.Refusal.number.Tie as tie
 
 enum-told : tie.Need-enum-told
 enum-told c = search needs

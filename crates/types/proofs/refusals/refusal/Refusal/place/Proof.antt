@@ -1,9 +1,9 @@
 -- `types::Refusal::place` meets its contract: each arm is the definition's clause.
 use borrow.Author.Needs.{needs}
 use mathlib.Core.Path.{sym, ap}
-use Rattle.types.specs.Refusal.{placeOf}
-use Rattle.types.proofs.refusal.Refusal.place.Statement.{statement}
-use Rattle.types.proofs.refusal.Refusal.place.Tie as tie
+use Rattle.types.specs.refusals.Refusal.{placeOf}
+use Rattle.types.proofs.refusals.refusal.Refusal.place.Statement.{statement}
+use Rattle.types.proofs.refusals.refusal.Refusal.place.Tie as tie
 
 enum-told : tie.Need-enum-told
 enum-told c = search needs

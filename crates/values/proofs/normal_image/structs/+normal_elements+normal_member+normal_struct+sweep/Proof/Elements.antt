@@ -3,14 +3,15 @@
 use Prim.Native.Nat.{ℕ, _-_}
 use native.Mathlib.Omega.{arith}
 use borrow.Fn.Kinds.{In, Out}
-use Rattle.values.proofs.ElementsMade.{Elements, element-here, element-inside, element-made, elements-none}
-use Rattle.values.proofs.ElementsMade.{elements-done, elements-start}
-use Rattle.values.proofs.rows.struct_size.Reads as struct-size-reads
-use Rattle.values.proofs.tidy.normal_struct.Reads as struct-reads
-use Rattle.values.proofs.tidy.normal_elements.Reads as reads
-use Rattle.values.proofs.tidy.normal_elements.Kinds as kinds
-use Rattle.values.proofs.tidy.+normal_elements+normal_member+normal_struct+sweep.Lts-normal_elements as lts
-use Rattle.values.proofs.tidy.+normal_elements+normal_member+normal_struct+sweep.Proof.Measures as measures
+use Rattle.values.proofs.normal_image.structs.ElementsMade.{Elements, element-here, element-inside, element-made}
+use Rattle.values.proofs.normal_image.structs.ElementsMade.{elements-none}
+use Rattle.values.proofs.normal_image.structs.ElementsMade.{elements-done, elements-start}
+use Rattle.values.proofs.reading.rows.struct_size.Reads as struct-size-reads
+use Rattle.values.proofs.normal_image.structs.normal_struct.Reads as struct-reads
+use Rattle.values.proofs.normal_image.structs.normal_elements.Reads as reads
+use Rattle.values.proofs.normal_image.structs.+normal_elements+normal_member+normal_struct+sweep.Lts-normal_elements as lts
+use Rattle.values.proofs.normal_image.structs.normal_elements.Kinds as kinds
+use Rattle.values.proofs.normal_image.structs.+normal_elements+normal_member+normal_struct+sweep.Proof.Measures as measures
 
 abbrev claims : ℕ → lts.Claims
 claims t = (

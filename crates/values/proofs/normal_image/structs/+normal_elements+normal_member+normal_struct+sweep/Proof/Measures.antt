@@ -4,14 +4,14 @@
 use Prim.Native.Nat.{ℕ, _+_, _*_, _<_}
 use borrow.Fn.Kinds.{In}
 use borrow.Fn.PlainCycle.{Measures, is, falls, and}
-use Rattle.values.proofs.tidy.normal_elements.Reads as elements-reads
-use Rattle.values.proofs.tidy.normal_elements.Kinds as elements-kinds
-use Rattle.values.proofs.tidy.normal_member.Reads as member-reads
-use Rattle.values.proofs.tidy.normal_member.Kinds as member-kinds
-use Rattle.values.proofs.tidy.normal_struct.Reads as struct-reads
-use Rattle.values.proofs.tidy.normal_struct.Kinds as struct-kinds
-use Rattle.values.proofs.tidy.sweep.Reads as sweep-reads
-use Rattle.values.proofs.tidy.sweep.Kinds as sweep-kinds
+use Rattle.values.proofs.normal_image.structs.normal_elements.Reads as elements-reads
+use Rattle.values.proofs.normal_image.structs.normal_elements.Kinds as elements-kinds
+use Rattle.values.proofs.normal_image.structs.normal_member.Reads as member-reads
+use Rattle.values.proofs.normal_image.structs.normal_member.Kinds as member-kinds
+use Rattle.values.proofs.normal_image.structs.normal_struct.Reads as struct-reads
+use Rattle.values.proofs.normal_image.structs.normal_struct.Kinds as struct-kinds
+use Rattle.values.proofs.normal_image.structs.sweep.Reads as sweep-reads
+use Rattle.values.proofs.normal_image.structs.sweep.Kinds as sweep-kinds
 
 abbrev pub μ-elements : Measures 3 elements-kinds.ps ℕ
 μ-elements κs a = 4 * a .1 .1 .0 + 4

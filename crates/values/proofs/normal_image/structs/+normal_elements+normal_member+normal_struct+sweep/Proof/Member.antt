@@ -6,22 +6,24 @@ use borrow.Author.Needs.{needs}
 use borrow.Fn.Kinds.{In, Out}
 use denote.Ref.{now}
 use lib.ListN.{length}
-use Rattle.values.proofs.MemberMade.{PlainHere, plain-after, plain-start, plain-gap}
-use Rattle.values.proofs.MemberMade.{atomics-here, atomics-end, atomics-onward, struct-below, struct-low}
-use Rattle.values.proofs.MemberMade.{one-here, one-end, one-onward, all-here, all-end, all-onward}
+use Rattle.values.proofs.normal_image.structs.MemberMade.{PlainHere, plain-after, plain-start, plain-gap}
+use Rattle.values.proofs.normal_image.structs.MemberMade.{atomics-here, atomics-end, atomics-onward}
+use Rattle.values.proofs.normal_image.structs.MemberMade.{struct-below, struct-low}
+use Rattle.values.proofs.normal_image.structs.MemberMade.{one-here, one-end, one-onward, all-here, all-end}
+use Rattle.values.proofs.normal_image.structs.MemberMade.{all-onward}
 use Rattle.types.proofs.member_row.Reads as member-row-reads
 use Rattle.words.proofs.wide.Reads as wide-reads
-use Rattle.values.proofs.sets.clear.Reads as clear-reads
-use Rattle.values.proofs.norms.normal_atomics.Reads as normal-atomics-reads
+use Rattle.values.proofs.writing.sets.clear.Reads as clear-reads
+use Rattle.values.proofs.normal_image.leaves.normal_atomics.Reads as normal-atomics-reads
 use Rattle.types.proofs.size_of.Reads as size-of-reads
-use Rattle.values.proofs.rows.times_of.Reads as times-of-reads
-use Rattle.values.proofs.rows.struct_size.Reads as struct-size-reads
-use Rattle.values.proofs.tidy.normal_struct.Reads as struct-reads
-use Rattle.values.proofs.tidy.normal_elements.Reads as elements-reads
-use Rattle.values.proofs.tidy.normal_member.Reads as reads
-use Rattle.values.proofs.tidy.normal_member.Kinds as kinds
-use Rattle.values.proofs.tidy.+normal_elements+normal_member+normal_struct+sweep.Lts-normal_member as lts
-use Rattle.values.proofs.tidy.+normal_elements+normal_member+normal_struct+sweep.Proof.Measures as measures
+use Rattle.values.proofs.reading.rows.times_of.Reads as times-of-reads
+use Rattle.values.proofs.reading.rows.struct_size.Reads as struct-size-reads
+use Rattle.values.proofs.normal_image.structs.normal_struct.Reads as struct-reads
+use Rattle.values.proofs.normal_image.structs.normal_elements.Reads as elements-reads
+use Rattle.values.proofs.normal_image.structs.normal_member.Reads as reads
+use Rattle.values.proofs.normal_image.structs.+normal_elements+normal_member+normal_struct+sweep.Lts-normal_member as lts
+use Rattle.values.proofs.normal_image.structs.normal_member.Kinds as kinds
+use Rattle.values.proofs.normal_image.structs.+normal_elements+normal_member+normal_struct+sweep.Proof.Measures as measures
 
 abbrev claims : ℕ → lts.Claims
 claims t = (

@@ -4,21 +4,22 @@ use Prim.Native.Nat.{ℕ}
 use native.Mathlib.Omega.{arith}
 use borrow.Author.Needs.{needs}
 use borrow.Fn.Kinds.{In, Out}
-use Rattle.values.proofs.SettingLaws.{text-rows}
-use Rattle.values.proofs.SweepableLaws.{sweepable-walkable}
-use Rattle.values.proofs.StructSteps.{here-after, members-made, rows-few, rows-here, string-fits, string-made}
+use Rattle.values.proofs.normal_image.SweepableLaws.{sweepable-walkable}
+use Rattle.values.proofs.normal_image.structs.StructSteps.{here-after, members-made, rows-few, rows-here}
+use Rattle.values.proofs.normal_image.structs.StructSteps.{string-fits, string-made}
+use Rattle.values.proofs.writing.SettingLaws.{text-rows}
 use Rattle.types.proofs.type_row.Reads as type-row-reads
 use Rattle.words.proofs.wide.Reads as wide-reads
-use Rattle.values.proofs.rows.is_string.Reads as is-string-reads
-use Rattle.values.proofs.rows.capacity_at.Reads as capacity-at-reads
-use Rattle.values.proofs.norms.normal_text.Reads as normal-text-reads
-use Rattle.values.proofs.flags.keep_flags.Reads as keep-flags-reads
-use Rattle.values.proofs.flags.put_flags.Reads as put-flags-reads
-use Rattle.values.proofs.tidy.sweep.Reads as sweep-reads
-use Rattle.values.proofs.tidy.normal_struct.Reads as reads
-use Rattle.values.proofs.tidy.normal_struct.Kinds as kinds
-use Rattle.values.proofs.tidy.+normal_elements+normal_member+normal_struct+sweep.Lts-normal_struct as lts
-use Rattle.values.proofs.tidy.+normal_elements+normal_member+normal_struct+sweep.Proof.Measures as measures
+use Rattle.values.proofs.reading.rows.is_string.Reads as is-string-reads
+use Rattle.values.proofs.reading.rows.capacity_at.Reads as capacity-at-reads
+use Rattle.values.proofs.normal_image.leaves.normal_text.Reads as normal-text-reads
+use Rattle.values.proofs.normal_image.flags.keep_flags.Reads as keep-flags-reads
+use Rattle.values.proofs.normal_image.flags.put_flags.Reads as put-flags-reads
+use Rattle.values.proofs.normal_image.structs.sweep.Reads as sweep-reads
+use Rattle.values.proofs.normal_image.structs.normal_struct.Reads as reads
+use Rattle.values.proofs.normal_image.structs.+normal_elements+normal_member+normal_struct+sweep.Lts-normal_struct as lts
+use Rattle.values.proofs.normal_image.structs.normal_struct.Kinds as kinds
+use Rattle.values.proofs.normal_image.structs.+normal_elements+normal_member+normal_struct+sweep.Proof.Measures as measures
 
 abbrev claims : ℕ → lts.Claims
 claims t = (

@@ -7,18 +7,19 @@ use borrow.Fn.Kinds.{In, Out}
 use denote.Ref.{now}
 use mathlib.Core.Path.{_≡_, sym, _∙_}
 use mathlib.Core.Logic.{⊎-elim}
-use Rattle.types.specs.Waste.{sizesIn}
-use Rattle.values.proofs.SweepRows.{Sweeping, sweep-start, sweep-here, sweep-row, sweep-past, sweep-plain}
-use Rattle.values.proofs.SweepRows.{size-of-type, sweep-on, sweep-low, sweep-done}
+use Rattle.types.specs.tables.Sizes.{sizesIn}
+use Rattle.values.proofs.normal_image.structs.SweepRows.{Sweeping, sweep-start, sweep-here, sweep-row}
+use Rattle.values.proofs.normal_image.structs.SweepRows.{sweep-past, sweep-plain}
+use Rattle.values.proofs.normal_image.structs.SweepRows.{size-of-type, sweep-on, sweep-low, sweep-done}
 use Rattle.types.proofs.type_row.Reads as type-row-reads
 use Rattle.words.proofs.wide.Reads as wide-reads
-use Rattle.values.proofs.rows.is_plain.Reads as is-plain-reads
-use Rattle.values.proofs.sets.clear.Reads as clear-reads
-use Rattle.values.proofs.tidy.normal_member.Reads as member-reads
-use Rattle.values.proofs.tidy.sweep.Reads as reads
-use Rattle.values.proofs.tidy.sweep.Kinds as kinds
-use Rattle.values.proofs.tidy.+normal_elements+normal_member+normal_struct+sweep.Lts-sweep as lts
-use Rattle.values.proofs.tidy.+normal_elements+normal_member+normal_struct+sweep.Proof.Measures as measures
+use Rattle.values.proofs.reading.rows.is_plain.Reads as is-plain-reads
+use Rattle.values.proofs.writing.sets.clear.Reads as clear-reads
+use Rattle.values.proofs.normal_image.structs.normal_member.Reads as member-reads
+use Rattle.values.proofs.normal_image.structs.sweep.Reads as reads
+use Rattle.values.proofs.normal_image.structs.+normal_elements+normal_member+normal_struct+sweep.Lts-sweep as lts
+use Rattle.values.proofs.normal_image.structs.sweep.Kinds as kinds
+use Rattle.values.proofs.normal_image.structs.+normal_elements+normal_member+normal_struct+sweep.Proof.Measures as measures
 
 abbrev claims : ℕ → lts.Claims
 claims t = (

@@ -4,14 +4,14 @@
 use borrow.Fn.Kinds.{In}
 use borrow.Fn.PlainCycle.{Measures, is, falls, and}
 use Prim.Native.Nat.{ℕ, _+_, _*_, _<_}
-use Rattle.values.proofs.walk.read_elements.Reads as elements
-use Rattle.values.proofs.walk.read_elements.Kinds as elements-kinds
-use Rattle.values.proofs.walk.read_members.Reads as members
-use Rattle.values.proofs.walk.read_members.Kinds as members-kinds
-use Rattle.values.proofs.walk.read_nested.Reads as nested
-use Rattle.values.proofs.walk.read_nested.Kinds as nested-kinds
-use Rattle.values.proofs.walk.read_struct.Reads as struct
-use Rattle.values.proofs.walk.read_struct.Kinds as struct-kinds
+use Rattle.values.proofs.reading.walk.read_elements.Reads as elements
+use Rattle.values.proofs.reading.walk.read_elements.Kinds as elements-kinds
+use Rattle.values.proofs.reading.walk.read_members.Reads as members
+use Rattle.values.proofs.reading.walk.read_members.Kinds as members-kinds
+use Rattle.values.proofs.reading.walk.read_nested.Reads as nested
+use Rattle.values.proofs.reading.walk.read_nested.Kinds as nested-kinds
+use Rattle.values.proofs.reading.walk.read_struct.Reads as struct
+use Rattle.values.proofs.reading.walk.read_struct.Kinds as struct-kinds
 
 abbrev pub μ-elements : Measures 4 elements-kinds.ps ℕ
 μ-elements κs a = 4 * (a .1 .1 .0) + 4

@@ -4,14 +4,14 @@
 use Prim.Native.Nat.{ℕ, _+_, _*_, _<_}
 use borrow.Fn.Kinds.{In}
 use borrow.Fn.PlainCycle.{Measures, is, falls, and}
-use Rattle.values.proofs.count.count_members.Reads as members-reads
-use Rattle.values.proofs.count.count_members.Kinds as members-kinds
-use Rattle.values.proofs.count.count_nested.Reads as nested-reads
-use Rattle.values.proofs.count.count_nested.Kinds as nested-kinds
-use Rattle.values.proofs.count.count_struct.Reads as struct-reads
-use Rattle.values.proofs.count.count_struct.Kinds as struct-kinds
-use Rattle.values.proofs.count.count_structs.Reads as structs-reads
-use Rattle.values.proofs.count.count_structs.Kinds as structs-kinds
+use Rattle.values.proofs.stream.count.count_members.Reads as members-reads
+use Rattle.values.proofs.stream.count.count_members.Kinds as members-kinds
+use Rattle.values.proofs.stream.count.count_nested.Reads as nested-reads
+use Rattle.values.proofs.stream.count.count_nested.Kinds as nested-kinds
+use Rattle.values.proofs.stream.count.count_struct.Reads as struct-reads
+use Rattle.values.proofs.stream.count.count_struct.Kinds as struct-kinds
+use Rattle.values.proofs.stream.count.count_structs.Reads as structs-reads
+use Rattle.values.proofs.stream.count.count_structs.Kinds as structs-kinds
 
 abbrev pub μ-members : Measures 3 members-kinds.ps ℕ
 μ-members κs a = 4 * a .1 .1 .0 + 2

@@ -6,19 +6,20 @@ use borrow.Author.Needs.{needs}
 use borrow.Fn.Kinds.{In, Out}
 use denote.Ref.{now}
 use mathlib.Core.Path.{sym, ap, _∙_}
-use Rattle.types.specs.declared.member.StructDef.{StructDef}
-use Rattle.values.specs.Walkable.{NestedRow}
-use Rattle.values.proofs.CountRows.{Rows, rows-none, next-row, rows-leaf, rows-nested, rows-over, rows-all}
-use Rattle.values.proofs.MemberLaws.{nested-row}
+use Rattle.types.specs.declared.tables.member.StructDef.{StructDef}
+use Rattle.values.specs.inside.reading.Walkable.{NestedRow}
+use Rattle.values.proofs.reading.MemberLaws.{nested-row}
+use Rattle.values.proofs.stream.count.CountRows.{Rows, rows-none, next-row, rows-leaf, rows-nested, rows-over}
+use Rattle.values.proofs.stream.count.CountRows.{rows-all}
 use Rattle.types.proofs.type_row.Reads as type-row-reads
 use Rattle.words.proofs.wide.Reads as wide-reads
-use Rattle.values.proofs.count.leaf_entries.Reads as leaf-entries-reads
-use Rattle.values.proofs.rows.is_nested.Reads as is-nested-reads
-use Rattle.values.proofs.count.count_members.Reads as reads
-use Rattle.values.proofs.count.count_members.Kinds as kinds
-use Rattle.values.proofs.count.+count_members+count_nested+count_struct+count_structs.Lts-count_members as lts
-use Rattle.values.proofs.count.count_nested.Reads as nested-reads
-use Rattle.values.proofs.count.+count_members+count_nested+count_struct+count_structs.Proof.Measures as measures
+use Rattle.values.proofs.stream.count.leaf_entries.Reads as leaf-entries-reads
+use Rattle.values.proofs.reading.rows.is_nested.Reads as is-nested-reads
+use Rattle.values.proofs.stream.count.count_members.Reads as reads
+use Rattle.values.proofs.stream.count.+count_members+count_nested+count_struct+count_structs.Lts-count_members as lts
+use Rattle.values.proofs.stream.count.count_members.Kinds as kinds
+use Rattle.values.proofs.stream.count.count_nested.Reads as nested-reads
+use Rattle.values.proofs.stream.count.+count_members+count_nested+count_struct+count_structs.Proof.Measures as measures
 
 abbrev claims : ℕ → lts.Claims
 claims t = (

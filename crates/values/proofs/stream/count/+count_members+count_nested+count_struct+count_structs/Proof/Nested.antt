@@ -6,18 +6,18 @@ use borrow.Author.Needs.{needs}
 use borrow.Fn.Kinds.{In, Out}
 use denote.Ref.{now}
 use mathlib.Core.Path.{_≡_, sym, ap, _∙_}
-use Rattle.types.specs.Tables.{memberAt}
-use Rattle.types.specs.declared.member.Member.{Member}
-use Rattle.types.specs.declared.member.Ty.the-variants as ty
-use Rattle.values.proofs.CountRows.{nested-counted}
-use Rattle.values.proofs.MemberLaws.{never-atomic, nested-earlier}
+use Rattle.types.specs.tables.Lent.{memberAt}
+use Rattle.types.specs.declared.tables.member.Member.{Member}
+use Rattle.types.specs.declared.tables.member.Ty.the-variants as ty
+use Rattle.values.proofs.reading.MemberLaws.{never-atomic, nested-earlier}
+use Rattle.values.proofs.stream.count.CountRows.{nested-counted}
 use Rattle.types.proofs.member_row.Reads as member-row-reads
 use Rattle.words.proofs.wide.Reads as wide-reads
-use Rattle.values.proofs.count.count_nested.Reads as reads
-use Rattle.values.proofs.count.count_nested.Kinds as kinds
-use Rattle.values.proofs.count.+count_members+count_nested+count_struct+count_structs.Lts-count_nested as lts
-use Rattle.values.proofs.count.count_structs.Reads as structs-reads
-use Rattle.values.proofs.count.+count_members+count_nested+count_struct+count_structs.Proof.Measures as measures
+use Rattle.values.proofs.stream.count.count_nested.Reads as reads
+use Rattle.values.proofs.stream.count.+count_members+count_nested+count_struct+count_structs.Lts-count_nested as lts
+use Rattle.values.proofs.stream.count.count_nested.Kinds as kinds
+use Rattle.values.proofs.stream.count.count_structs.Reads as structs-reads
+use Rattle.values.proofs.stream.count.+count_members+count_nested+count_struct+count_structs.Proof.Measures as measures
 
 abbrev claims : ℕ → lts.Claims
 claims t = (

@@ -6,17 +6,17 @@ use borrow.Author.Needs.{needs}
 use borrow.Fn.Kinds.{In, Out}
 use denote.Ref.{now}
 use mathlib.Core.Path.{_≡_, sym, ap, _∙_}
-use Rattle.types.specs.Tables.{typeAt}
-use Rattle.types.specs.declared.member.StructDef.{StructDef}
-use Rattle.values.specs.Trees.{isString}
-use Rattle.values.proofs.CountLaws.{text-counted, members-counted}
+use Rattle.types.specs.tables.Lent.{typeAt}
+use Rattle.types.specs.declared.tables.member.StructDef.{StructDef}
+use Rattle.values.specs.reading.Trees.{isString}
+use Rattle.values.proofs.stream.CountLaws.{text-counted, members-counted}
 use Rattle.types.proofs.type_row.Reads as type-row-reads
-use Rattle.values.proofs.rows.is_string.Reads as is-string-reads
-use Rattle.values.proofs.count.count_struct.Reads as reads
-use Rattle.values.proofs.count.count_struct.Kinds as kinds
-use Rattle.values.proofs.count.+count_members+count_nested+count_struct+count_structs.Lts-count_struct as lts
-use Rattle.values.proofs.count.count_members.Reads as members-reads
-use Rattle.values.proofs.count.+count_members+count_nested+count_struct+count_structs.Proof.Measures as measures
+use Rattle.values.proofs.reading.rows.is_string.Reads as is-string-reads
+use Rattle.values.proofs.stream.count.count_struct.Reads as reads
+use Rattle.values.proofs.stream.count.+count_members+count_nested+count_struct+count_structs.Lts-count_struct as lts
+use Rattle.values.proofs.stream.count.count_struct.Kinds as kinds
+use Rattle.values.proofs.stream.count.count_members.Reads as members-reads
+use Rattle.values.proofs.stream.count.+count_members+count_nested+count_struct+count_structs.Proof.Measures as measures
 
 abbrev claims : ℕ → lts.Claims
 claims t = (

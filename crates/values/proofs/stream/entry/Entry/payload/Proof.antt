@@ -2,9 +2,9 @@
 use borrow.Author.Needs.{needs}
 use Prim.Native.Nat.{ℕ, _+_, _*_, _^_}
 use mathlib.Core.Path.{sym, ap, ap₂, _∙_}
-use Rattle.values.specs.Entry.{entryPayload}
-use Rattle.values.proofs.entries.Entry.payload.Statement.{statement}
-use Rattle.values.proofs.entries.Entry.payload.Tie as tie
+use Rattle.values.specs.stream.Entry.{entryPayload}
+use Rattle.values.proofs.stream.entry.Entry.payload.Statement.{statement}
+use Rattle.values.proofs.stream.entry.Entry.payload.Tie as tie
 
 pub payload-spec : {M : Type 1} → statement M
 payload-spec =

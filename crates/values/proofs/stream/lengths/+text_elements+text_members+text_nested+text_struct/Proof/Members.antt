@@ -5,19 +5,19 @@ use native.Mathlib.Omega.{arith}
 use borrow.Author.Needs.{needs}
 use borrow.Fn.Kinds.{In, Out}
 use mathlib.Core.Path.{_≡_, sym, ap, _∙_}
-use Rattle.types.specs.Tables.{typeAt}
-use Rattle.types.specs.declared.member.StructDef.{StructDef}
-use Rattle.values.specs.Walkable.{RowOf}
-use Rattle.values.proofs.MemberLaws.{row-of, nested-row}
-use Rattle.values.proofs.TextCountLaws.{Rows, rows-start, rows-past, rows-done, rows-on, rows-plain}
-use Rattle.values.proofs.lengths.text_members.Reads as reads
-use Rattle.values.proofs.lengths.text_members.Kinds as kinds
-use Rattle.values.proofs.lengths.+text_elements+text_members+text_nested+text_struct.Lts-text_members as lts
-use Rattle.values.proofs.rows.is_nested.Reads as is-nested-reads
+use Rattle.types.specs.tables.Lent.{typeAt}
+use Rattle.types.specs.declared.tables.member.StructDef.{StructDef}
+use Rattle.values.specs.inside.reading.Walkable.{RowOf}
+use Rattle.values.proofs.reading.MemberLaws.{row-of, nested-row}
+use Rattle.values.proofs.stream.TextCountLaws.{Rows, rows-start, rows-past, rows-done, rows-on, rows-plain}
+use Rattle.values.proofs.stream.lengths.text_members.Reads as reads
+use Rattle.values.proofs.stream.lengths.+text_elements+text_members+text_nested+text_struct.Lts-text_members as lts
+use Rattle.values.proofs.stream.lengths.text_members.Kinds as kinds
+use Rattle.values.proofs.reading.rows.is_nested.Reads as is-nested-reads
 use Rattle.types.proofs.type_row.Reads as type-row-reads
 use Rattle.words.proofs.wide.Reads as wide-reads
-use Rattle.values.proofs.lengths.text_nested.Reads as nested-reads
-use Rattle.values.proofs.lengths.+text_elements+text_members+text_nested+text_struct.Proof.Measures as measures
+use Rattle.values.proofs.stream.lengths.text_nested.Reads as nested-reads
+use Rattle.values.proofs.stream.lengths.+text_elements+text_members+text_nested+text_struct.Proof.Measures as measures
 
 abbrev claims : ℕ → lts.Claims
 claims t = (

@@ -7,24 +7,24 @@ use borrow.Fn.Kinds.{In, Out}
 use denote.Ref.{now}
 use mathlib.Core.Path.{_≡_}
 use Rattle.words.specs.Bits.{Bits, flat}
-use Rattle.types.specs.Waste.{sizesIn}
-use Rattle.values.specs.Effects.{asText, orNull}
-use Rattle.values.specs.Passes.{leftAt}
-use Rattle.values.specs.Rows.{branchesIn, treeIn}
-use Rattle.values.specs.Tree.{struct}
-use Rattle.values.specs.Writing.{write, writeOne}
-use Rattle.values.proofs.ApplyLaws.{accepted-as, applied-as}
-use Rattle.values.proofs.SettingLaws.{rows-write, text-rows, text-fits, text-write}
+use Rattle.types.specs.tables.Sizes.{sizesIn}
+use Rattle.values.specs.inside.writing.Passes.{leftAt}
+use Rattle.values.specs.inside.writing.Rows.{branchesIn, treeIn}
+use Rattle.values.specs.reading.Tree.{struct}
+use Rattle.values.specs.writing.Effects.{asText, orNull}
+use Rattle.values.specs.writing.Writing.{write, writeOne}
+use Rattle.values.proofs.writing.ApplyLaws.{accepted-as, applied-as}
+use Rattle.values.proofs.writing.SettingLaws.{rows-write, text-rows, text-fits, text-write}
 use Rattle.types.proofs.type_row.Reads as type-row-reads
 use Rattle.words.proofs.wide.Reads as wide-reads
-use Rattle.values.proofs.rows.capacity_at.Reads as capacity-at-reads
-use Rattle.values.proofs.rows.is_string.Reads as is-string-reads
-use Rattle.values.proofs.sets.set_text.Reads as set-text-reads
-use Rattle.values.proofs.apply.apply_struct.Reads as reads
-use Rattle.values.proofs.apply.apply_struct.Kinds as kinds
-use Rattle.values.proofs.apply.+apply_elements+apply_members+apply_nested+apply_struct.Lts-apply_struct as lts
-use Rattle.values.proofs.apply.apply_members.Reads as members-reads
-use Rattle.values.proofs.apply.+apply_elements+apply_members+apply_nested+apply_struct.Proof.Measures as measures
+use Rattle.values.proofs.reading.rows.capacity_at.Reads as capacity-at-reads
+use Rattle.values.proofs.reading.rows.is_string.Reads as is-string-reads
+use Rattle.values.proofs.writing.sets.set_text.Reads as set-text-reads
+use Rattle.values.proofs.writing.apply.apply_struct.Reads as reads
+use Rattle.values.proofs.writing.apply.+apply_elements+apply_members+apply_nested+apply_struct.Lts-apply_struct as lts
+use Rattle.values.proofs.writing.apply.apply_struct.Kinds as kinds
+use Rattle.values.proofs.writing.apply.apply_members.Reads as members-reads
+use Rattle.values.proofs.writing.apply.+apply_elements+apply_members+apply_nested+apply_struct.Proof.Measures as measures
 
 abbrev claims : ℕ → lts.Claims
 claims t = (

@@ -4,17 +4,18 @@ use Prim.Native.Nat.{ℕ, _+_, _-_}
 use native.Mathlib.Omega.{arith}
 use borrow.Fn.Kinds.{In, Out}
 use denote.Ref.{now}
-use Rattle.values.proofs.CheckLaws.{entry-small, array-null, array-other, Elements, elements-start}
-use Rattle.values.proofs.CheckLaws.{elements-inside, elements-short, elements-done, elements-past}
-use Rattle.values.proofs.CheckLaws.{elements-refused, elements-on}
-use Rattle.values.proofs.tokens.kind_at.Reads as kind-at-reads
-use Rattle.values.proofs.tokens.refused.Reads as refused-reads
-use Rattle.values.proofs.tokens.kind_of.Reads as kind-of-reads
-use Rattle.values.proofs.checks.check_elements.Reads as reads
-use Rattle.values.proofs.checks.check_elements.Kinds as kinds
-use Rattle.values.proofs.checks.+check_elements+check_members+check_nested+check_struct.Lts-check_elements as lts
-use Rattle.values.proofs.checks.check_struct.Reads as struct-reads
-use Rattle.values.proofs.checks.+check_elements+check_members+check_nested+check_struct.Proof.Measures as measure
+use Rattle.values.proofs.writing.checks.CheckLaws.{entry-small, array-null, array-other, Elements}
+use Rattle.values.proofs.writing.checks.CheckLaws.{elements-start}
+use Rattle.values.proofs.writing.checks.CheckLaws.{elements-inside, elements-short, elements-done, elements-past}
+use Rattle.values.proofs.writing.checks.CheckLaws.{elements-refused, elements-on}
+use Rattle.values.proofs.stream.tokens.kind_at.Reads as kind-at-reads
+use Rattle.values.proofs.stream.tokens.refused.Reads as refused-reads
+use Rattle.values.proofs.stream.tokens.kind_of.Reads as kind-of-reads
+use Rattle.values.proofs.writing.checks.check_elements.Reads as reads
+use Rattle.values.proofs.writing.checks.+check_elements+check_members+check_nested+check_struct.Lts-check_elements as lts
+use Rattle.values.proofs.writing.checks.check_elements.Kinds as kinds
+use Rattle.values.proofs.writing.checks.check_struct.Reads as struct-reads
+use Rattle.values.proofs.writing.checks.+check_elements+check_members+check_nested+check_struct.Proof.Measures as measure
 
 abbrev claims : ℕ → lts.Claims
 claims t = (

@@ -4,14 +4,14 @@
 use Prim.Native.Nat.{ℕ, _+_, _*_, _<_}
 use borrow.Fn.Kinds.{In}
 use borrow.Fn.PlainCycle.{Measures, is, falls, and}
-use Rattle.values.proofs.checks.check_elements.Reads as elements-reads
-use Rattle.values.proofs.checks.check_elements.Kinds as elements-kinds
-use Rattle.values.proofs.checks.check_members.Reads as members-reads
-use Rattle.values.proofs.checks.check_members.Kinds as members-kinds
-use Rattle.values.proofs.checks.check_nested.Reads as nested-reads
-use Rattle.values.proofs.checks.check_nested.Kinds as nested-kinds
-use Rattle.values.proofs.checks.check_struct.Reads as struct-reads
-use Rattle.values.proofs.checks.check_struct.Kinds as struct-kinds
+use Rattle.values.proofs.writing.checks.check_elements.Reads as elements-reads
+use Rattle.values.proofs.writing.checks.check_elements.Kinds as elements-kinds
+use Rattle.values.proofs.writing.checks.check_members.Reads as members-reads
+use Rattle.values.proofs.writing.checks.check_members.Kinds as members-kinds
+use Rattle.values.proofs.writing.checks.check_nested.Reads as nested-reads
+use Rattle.values.proofs.writing.checks.check_nested.Kinds as nested-kinds
+use Rattle.values.proofs.writing.checks.check_struct.Reads as struct-reads
+use Rattle.values.proofs.writing.checks.check_struct.Kinds as struct-kinds
 
 abbrev pub μ-elements : Measures 3 elements-kinds.ps ℕ
 μ-elements κs a = 4 * a .1 .1 .0 + 4

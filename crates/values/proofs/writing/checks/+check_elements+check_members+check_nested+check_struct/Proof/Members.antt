@@ -6,26 +6,28 @@ use borrow.Author.Needs.{needs}
 use borrow.Fn.Kinds.{In, Out}
 use denote.Ref.{now}
 use mathlib.Core.Path.{sym, _∙_}
-use Rattle.values.proofs.CheckLaws.{entry-small, struct-null, struct-other}
-use Rattle.values.proofs.CheckRows.{Members, Named, members-start, members-inside, rows-inside, members-short}
-use Rattle.values.proofs.CheckRows.{members-done, members-bad, members-unseen, row-named, members-refused}
-use Rattle.values.proofs.CheckRows.{members-further, members-on, leaf-row}
-use Rattle.values.proofs.MemberLaws.{nested-row}
-use Rattle.values.proofs.tokens.kind_at.Reads as kind-at-reads
-use Rattle.values.proofs.tokens.refused.Reads as refused-reads
+use Rattle.values.proofs.reading.MemberLaws.{nested-row}
+use Rattle.values.proofs.writing.checks.CheckLaws.{entry-small, struct-null, struct-other}
+use Rattle.values.proofs.writing.checks.CheckRows.{Members, Named, members-start, members-inside, rows-inside}
+use Rattle.values.proofs.writing.checks.CheckRows.{members-short}
+use Rattle.values.proofs.writing.checks.CheckRows.{members-done, members-bad, members-unseen, row-named}
+use Rattle.values.proofs.writing.checks.CheckRows.{members-refused}
+use Rattle.values.proofs.writing.checks.CheckRows.{members-further, members-on, leaf-row}
+use Rattle.values.proofs.stream.tokens.kind_at.Reads as kind-at-reads
+use Rattle.values.proofs.stream.tokens.refused.Reads as refused-reads
 use Rattle.types.proofs.type_row.Reads as type-row-reads
 use Rattle.words.proofs.wide.Reads as wide-reads
-use Rattle.values.proofs.tokens.kind_of.Reads as kind-of-reads
-use Rattle.values.proofs.tokens.payload_of.Reads as payload-of-reads
-use Rattle.values.proofs.tokens.as_size.Reads as as-size-reads
-use Rattle.values.proofs.checks.visible_row.Reads as visible-row-reads
-use Rattle.values.proofs.rows.is_nested.Reads as is-nested-reads
-use Rattle.values.proofs.fits.check_leaf.Reads as check-leaf-reads
-use Rattle.values.proofs.checks.check_members.Reads as reads
-use Rattle.values.proofs.checks.check_members.Kinds as kinds
-use Rattle.values.proofs.checks.+check_elements+check_members+check_nested+check_struct.Lts-check_members as lts
-use Rattle.values.proofs.checks.check_nested.Reads as nested-reads
-use Rattle.values.proofs.checks.+check_elements+check_members+check_nested+check_struct.Proof.Measures as measure
+use Rattle.values.proofs.stream.tokens.kind_of.Reads as kind-of-reads
+use Rattle.values.proofs.stream.tokens.payload_of.Reads as payload-of-reads
+use Rattle.values.proofs.stream.tokens.as_size.Reads as as-size-reads
+use Rattle.values.proofs.writing.checks.visible_row.Reads as visible-row-reads
+use Rattle.values.proofs.reading.rows.is_nested.Reads as is-nested-reads
+use Rattle.values.proofs.writing.fits.check_leaf.Reads as check-leaf-reads
+use Rattle.values.proofs.writing.checks.check_members.Reads as reads
+use Rattle.values.proofs.writing.checks.+check_elements+check_members+check_nested+check_struct.Lts-check_members as lts
+use Rattle.values.proofs.writing.checks.check_members.Kinds as kinds
+use Rattle.values.proofs.writing.checks.check_nested.Reads as nested-reads
+use Rattle.values.proofs.writing.checks.+check_elements+check_members+check_nested+check_struct.Proof.Measures as measure
 
 abbrev claims : ℕ → lts.Claims
 claims t = (

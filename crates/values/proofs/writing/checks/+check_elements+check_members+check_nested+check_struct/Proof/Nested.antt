@@ -6,20 +6,20 @@ use borrow.Author.Needs.{needs}
 use borrow.Fn.Kinds.{In, Out}
 use denote.Ref.{now}
 use mathlib.Core.Path.{_≡_, sym, ap, _∙_}
-use Rattle.types.specs.Tables.{memberAt}
-use Rattle.types.specs.declared.member.Member.{Member}
-use Rattle.types.specs.declared.member.Ty.the-variants as ty
-use Rattle.values.proofs.CheckLaws.{entry-small, one-checked, some-checked}
-use Rattle.values.proofs.MemberLaws.{never-atomic, nested-earlier}
+use Rattle.types.specs.tables.Lent.{memberAt}
+use Rattle.types.specs.declared.tables.member.Member.{Member}
+use Rattle.types.specs.declared.tables.member.Ty.the-variants as ty
+use Rattle.values.proofs.reading.MemberLaws.{never-atomic, nested-earlier}
+use Rattle.values.proofs.writing.checks.CheckLaws.{entry-small, one-checked, some-checked}
 use Rattle.types.proofs.member_row.Reads as member-row-reads
 use Rattle.words.proofs.wide.Reads as wide-reads
-use Rattle.values.proofs.tokens.refused.Reads as refused-reads
-use Rattle.values.proofs.checks.check_nested.Reads as reads
-use Rattle.values.proofs.checks.check_nested.Kinds as kinds
-use Rattle.values.proofs.checks.+check_elements+check_members+check_nested+check_struct.Lts-check_nested as lts
-use Rattle.values.proofs.checks.check_struct.Reads as struct-reads
-use Rattle.values.proofs.checks.check_elements.Reads as elements-reads
-use Rattle.values.proofs.checks.+check_elements+check_members+check_nested+check_struct.Proof.Measures as measure
+use Rattle.values.proofs.stream.tokens.refused.Reads as refused-reads
+use Rattle.values.proofs.writing.checks.check_nested.Reads as reads
+use Rattle.values.proofs.writing.checks.+check_elements+check_members+check_nested+check_struct.Lts-check_nested as lts
+use Rattle.values.proofs.writing.checks.check_nested.Kinds as kinds
+use Rattle.values.proofs.writing.checks.check_struct.Reads as struct-reads
+use Rattle.values.proofs.writing.checks.check_elements.Reads as elements-reads
+use Rattle.values.proofs.writing.checks.+check_elements+check_members+check_nested+check_struct.Proof.Measures as measure
 
 abbrev claims : ℕ → lts.Claims
 claims t = (

@@ -4,17 +4,17 @@ use Prim.Native.Nat.{ℕ}
 use native.Mathlib.Omega.{arith}
 use borrow.Author.Needs.{needs}
 use borrow.Fn.Kinds.{In, Out}
-use Rattle.values.proofs.CheckLaws.{struct-checked, string-inside, text-checked}
+use Rattle.values.proofs.writing.checks.CheckLaws.{struct-checked, string-inside, text-checked}
 use Rattle.types.proofs.type_row.Reads as type-row-reads
-use Rattle.values.proofs.rows.is_string.Reads as is-string-reads
+use Rattle.values.proofs.reading.rows.is_string.Reads as is-string-reads
 use Rattle.words.proofs.wide.Reads as wide-reads
-use Rattle.values.proofs.rows.capacity_at.Reads as capacity-at-reads
-use Rattle.values.proofs.fits.check_text.Reads as check-text-reads
-use Rattle.values.proofs.checks.check_struct.Reads as reads
-use Rattle.values.proofs.checks.check_struct.Kinds as kinds
-use Rattle.values.proofs.checks.+check_elements+check_members+check_nested+check_struct.Lts-check_struct as lts
-use Rattle.values.proofs.checks.check_members.Reads as members-reads
-use Rattle.values.proofs.checks.+check_elements+check_members+check_nested+check_struct.Proof.Measures as measure
+use Rattle.values.proofs.reading.rows.capacity_at.Reads as capacity-at-reads
+use Rattle.values.proofs.writing.fits.check_text.Reads as check-text-reads
+use Rattle.values.proofs.writing.checks.check_struct.Reads as reads
+use Rattle.values.proofs.writing.checks.+check_elements+check_members+check_nested+check_struct.Lts-check_struct as lts
+use Rattle.values.proofs.writing.checks.check_struct.Kinds as kinds
+use Rattle.values.proofs.writing.checks.check_members.Reads as members-reads
+use Rattle.values.proofs.writing.checks.+check_elements+check_members+check_nested+check_struct.Proof.Measures as measure
 
 abbrev claims : ℕ → lts.Claims
 claims t = (

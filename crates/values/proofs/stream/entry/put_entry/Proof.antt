@@ -1,8 +1,8 @@
 -- `values::put_entry` meets its contract: the word of the kind, and the word of the payload after it, are the entry.
 use borrow.Author.Needs.{needs}
-use Rattle.values.proofs.EntryLaws.{entry-stored}
-use Rattle.values.proofs.entry.put_entry.Statement.{statement}
-use Rattle.values.proofs.entry.put_entry.Tie as tie
+use Rattle.values.proofs.stream.EntryLaws.{entry-stored}
+use Rattle.values.proofs.stream.entry.put_entry.Statement.{statement}
+use Rattle.values.proofs.stream.entry.put_entry.Tie as tie
 
 wide8-requires : tie.Need-wide8-requires
 wide8-requires c κs = search needs

@@ -1,0 +1,2 @@
+-- The laws that the checks of members use.
+pub mod CheckLaws

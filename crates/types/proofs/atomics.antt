@@ -1,0 +1,2 @@
+-- Laws for document 01, "What is ported", "Atomic types": atomics, a type's header, types by their names.
+pub mod AtomicLaws

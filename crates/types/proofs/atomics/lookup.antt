@@ -1,0 +1,2 @@
+-- The laws that looking a type up uses.
+pub mod LookupLaws

@@ -1,0 +1,3 @@
+-- The laws that AOIs use.
+pub mod AoiLaws
+pub mod AoiStoreLaws

@@ -1,0 +1,2 @@
+-- The laws that the second pass of a layout uses.
+pub mod Storing

@@ -1,0 +1,2 @@
+-- The laws that the lines of a listing use.
+pub mod ListingLaws

@@ -1,0 +1,3 @@
+-- The laws that a build uses.
+pub mod BuildLaws
+pub mod ScratchLaws

@@ -1,0 +1,2 @@
+-- The laws that a turn uses.
+pub mod TurnLaws

@@ -1,0 +1,3 @@
+-- The laws that the row readers for any number use.
+pub mod PastLaws
+pub mod RowWords

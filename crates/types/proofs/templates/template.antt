@@ -1,0 +1,2 @@
+-- The laws that the walk over a template uses.
+pub mod WalkLaws

@@ -1,0 +1,2 @@
+-- The laws that waste uses.
+pub mod WasteLaws

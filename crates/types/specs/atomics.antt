@@ -1,0 +1,5 @@
+-- Definitions for document 01, "What is ported", "Atomic types": atomics, a type's header, types by their names.
+pub mod Atomic
+pub mod Bits
+pub mod Header
+pub mod Lookup

@@ -1,0 +1,6 @@
+-- Inner definitions for document 01, "Layout": where members go; UDTs, AOIs, strings, the predefined types.
+pub mod HostNames
+pub mod Passes
+pub mod Placing
+pub mod Predefined
+pub mod Structs

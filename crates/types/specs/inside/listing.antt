@@ -1,0 +1,2 @@
+-- Inner definitions. The end of "Reference cases": the lines that the program `layout` prints.
+pub mod Lines

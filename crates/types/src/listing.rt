@@ -1,0 +1,2 @@
+// The end of "Reference cases": the lines that the program `layout` prints.
+pub(crate) mod lines;

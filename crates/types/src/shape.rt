@@ -1,0 +1,2 @@
+// Document 01, "Tag shape": a tag's type, lengths, elements and bytes, and its symbol type.
+pub(crate) mod tags;

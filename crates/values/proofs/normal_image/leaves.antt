@@ -1,0 +1,2 @@
+-- The laws that atomics and strings made normal use.
+pub mod LeafMade

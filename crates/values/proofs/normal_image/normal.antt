@@ -1,0 +1,3 @@
+-- The laws that the call `normal` uses.
+pub mod KeptSweepable
+pub mod NormalisedLaws

@@ -1,0 +1,3 @@
+-- The laws that atomics and arrays of them use.
+pub mod AtomicRunLaws
+pub mod BitRunLaws

@@ -1,0 +1,2 @@
+-- The laws that rows use.
+pub mod NestedLaws

@@ -1,0 +1,2 @@
+-- The laws that runs of numbers use.
+pub mod RunLaws

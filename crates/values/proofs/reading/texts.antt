@@ -1,0 +1,2 @@
+-- The laws that strings use.
+pub mod TextLaws

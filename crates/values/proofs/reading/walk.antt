@@ -1,0 +1,2 @@
+-- The laws that the walk of a reading uses.
+pub mod ReadLaws

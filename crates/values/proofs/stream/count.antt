@@ -1,0 +1,2 @@
+-- The laws that the count of a reading uses.
+pub mod CountRows

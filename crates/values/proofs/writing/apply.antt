@@ -1,0 +1,3 @@
+-- The laws that setting structures uses.
+pub mod SettingElements
+pub mod SettingMembers

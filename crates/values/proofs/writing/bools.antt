@@ -1,0 +1,3 @@
+-- The laws that runs of bools use.
+pub mod BoolLaws
+pub mod BoolRuns

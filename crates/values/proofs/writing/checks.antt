@@ -1,0 +1,3 @@
+-- The laws that the check of structures uses.
+pub mod CheckLaws
+pub mod CheckRows

@@ -1,0 +1,4 @@
+-- Inner definitions for document 01, "Value stream": entries and their bytes, the form of a stream, how long it is.
+pub mod Counting
+pub mod Laying
+pub mod Steps

@@ -1,0 +1,3 @@
+-- Definitions for document 01, "Normal image": an image that holds the same values and nothing else.
+pub mod Normal
+pub mod Normalised
