@@ -73,8 +73,7 @@ fn serve(
 {
     let mut turns = u64::MAX;
     while turns > 0 {
-        let more = serve_one(question, out, types, members, names);
-        if !more {
+        if !serve_one(question, out, types, members, names) {
             return;
         }
         turns -= 1;

@@ -51,18 +51,20 @@ pub rest-lent : (s : List ℕ) (k : ℕ) → take (length s - k) (drop k s) ≡ 
 rest-lent s k = take-all (length s - k) (drop k s) (omega (arith, length-drop k s))
 
 -- a comparison with the rest of a list
-pub told-rest : (s : List ℕ) (k : ℕ) (ys : List ℕ) (r : Bool)
+pub told-rest : (s : List ℕ) (k : ℕ) {ys : List ℕ} {r : Bool}
     → (r ≡ true → take (length s - k) (drop k s) ≡ ys) × (take (length s - k) (drop k s) ≡ ys → r ≡ true)
     → r ≡ sameBytes (drop k s) ys
-told-rest s k ys r h = told (take (length s - k) (drop k s)) ys r h ∙ rw rest-lent
+told-rest s k {ys} {r} h = told (take (length s - k) (drop k s)) ys r h ∙ rw rest-lent
 
 -- ---- no refusal
 
 module _ (bytes answer : List ℕ) {none : Bool} (n : none ≡ sameBytes (take 5 answer) zeros) where
+  -- after five zeros an answer is as form 0 asks just where the bytes that follow are
   pub accepts-rest : none ≡ true → {r : Bool} → r ≡ sameBytes (drop 5 answer) bytes → r ≡ accepts bytes answer
   unfolding accepts
   accepts-rest t e = rw (sym n, t) e
 
+  -- an answer that does not begin with five zeros is not as form 0 asks
   pub accepts-not : none ≡ false → false ≡ accepts bytes answer
   unfolding accepts
   accepts-not t = rw (sym n, t)
@@ -70,20 +72,24 @@ module _ (bytes answer : List ℕ) {none : Bool} (n : none ≡ sameBytes (take 5
 -- ---- any refusal
 
 module _ (kind : ℕ) (image answer : List ℕ) where
+  -- form 1 asks for a refusal, and an answer with number 0 is none
   pub refuses-none : getD answer 0 0 < 1 → false ≡ refuses kind image answer
   unfolding refuses
   refuses-none h = simp (lt-leb _ _ h)
 
   module _ (h : 1 ≤ getD answer 0 0) where
+    -- form 1 asks for a refusal, and an answer with a number above 254 is none
     pub refuses-not : 254 < getD answer 0 0 → false ≡ refuses kind image answer
     unfolding refuses
     refuses-not l = simp (le-leb _ _ h, lt-leb _ _ l)
 
     module _ (l : getD answer 0 0 ≤ 254) where
+      -- a refusal of a write is as form 1 asks just where the image stands as it was
       pub refuses-write : kind ≡ 6 → {r : Bool} → r ≡ sameBytes (drop 5 answer) image → r ≡ refuses kind image answer
       unfolding refuses
       refuses-write k e = simp (le-leb _ _ h, le-leb _ _ l, eq-eqb _ _ k) e
 
+      -- a refusal of anything but a write is as form 1 asks
       pub refuses-other : (kind ≡ 6 → ⊥) → true ≡ refuses kind image answer
       unfolding refuses
       refuses-other k = simp (le-leb _ _ h, le-leb _ _ l, ne-eqb _ _ k)
@@ -91,31 +97,37 @@ module _ (kind : ℕ) (image answer : List ℕ) where
 -- ---- any expectation
 
 module _ (kind : ℕ) (expected answer : List ℕ) where
+  -- no answer agrees with an empty expectation
   pub agrees-empty : length expected < 1 → false ≡ agreesOf kind expected answer
   unfolding agreesOf
   agrees-empty h = simp (lt-leb _ _ h)
 
   module _ (h : 1 ≤ length expected) where
+    -- an answer shorter than five bytes agrees with no expectation
     pub agrees-short : length answer < 5 → false ≡ agreesOf kind expected answer
     unfolding agreesOf
     agrees-short l = simp (le-leb _ _ h, lt-leb _ _ l)
 
     module _ (l : 5 ≤ length answer) where
+      -- in form 0 an answer agrees just where it has no refusal and exactly the expected bytes
       pub agrees-bytes : getD expected 0 0 ≡ 0 → {r : Bool} → r ≡ accepts (drop 1 expected) answer
           → r ≡ agreesOf kind expected answer
       unfolding agreesOf
       agrees-bytes f e = simp (le-leb _ _ h, le-leb _ _ l, f) e
 
+      -- in form 1 an answer agrees just where it is any refusal, after that of a write with the image as it was
       pub agrees-refused : getD expected 0 0 ≡ 1 → {r : Bool} → r ≡ refuses kind (drop 1 expected) answer
           → r ≡ agreesOf kind expected answer
       unfolding agreesOf
       agrees-refused f e = simp (le-leb _ _ h, le-leb _ _ l, f) e
 
+      -- in form 2 an answer agrees just where it is exactly the expected bytes
       pub agrees-exactly : getD expected 0 0 ≡ 2 → {r : Bool} → r ≡ sameBytes answer (drop 1 expected)
           → r ≡ agreesOf kind expected answer
       unfolding agreesOf
       agrees-exactly f e = simp (le-leb _ _ h, le-leb _ _ l, f) e
 
+      -- in any other form no answer agrees
       pub agrees-unknown : (getD expected 0 0 ≡ 0 → ⊥) → (getD expected 0 0 ≡ 1 → ⊥) → (getD expected 0 0 ≡ 2 → ⊥)
           → false ≡ agreesOf kind expected answer
       unfolding agreesOf

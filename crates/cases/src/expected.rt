@@ -17,8 +17,7 @@ fn accepted(bytes: &[u8], answer: &[u8]) -> bool
     requires { ⌜ 5 ≤ length (now answer) ⌝ }
     ensures { λ r. ⌜ r ≡ accepts (now (bytes .entry)) (now (answer .entry)) ⌝ }
 {
-    let none = same(&answer[..HEAD], b"\0\0\0\0\0");
-    if none {
+    if same(&answer[..HEAD], b"\0\0\0\0\0") {
         return same(&answer[HEAD..], bytes);
     }
     false

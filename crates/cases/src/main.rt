@@ -36,15 +36,13 @@ fn replay_all(
     let mut different: u64 = 0;
     while cases < u64::MAX {
         let turn = next_case(question, expected, out, types, members, names);
-        let over = ended(turn);
-        if over {
+        if ended(turn) {
             say_sum(cases, different);
             return;
         }
         different += count_other(turn, cases);
         cases += 1;
-        let cut = was_cut(turn);
-        if cut {
+        if was_cut(turn) {
             say_sum(cases, different);
             return;
         }

@@ -83,8 +83,7 @@ fn replay(
     if out.len() < long {
         return Turn::Other;
     }
-    let same = agrees(kind_of(question), expected, &out[0..long]);
-    if same {
+    if agrees(kind_of(question), expected, &out[0..long]) {
         return Turn::Same;
     }
     Turn::Other

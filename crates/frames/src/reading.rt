@@ -28,8 +28,7 @@ pub fn read_frame(room: &mut [u8]) -> Frame {
     if room.len() < n {
         return Frame::Broken;
     }
-    let whole = fill(room, n as isize);
-    if whole {
+    if fill(room, n as isize) {
         return Frame::Bytes(n);
     }
     Frame::Broken

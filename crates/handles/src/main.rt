@@ -33,8 +33,7 @@ fn serve_one(template: &mut [u8]) -> bool {
 fn serve(template: &mut [u8]) {
     let mut turns = u64::MAX;
     while turns > 0 {
-        let more = serve_one(template);
-        if !more {
+        if !serve_one(template) {
             return;
         }
         turns -= 1;

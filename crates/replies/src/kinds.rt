@@ -97,8 +97,7 @@ fn put_template(
 ) -> usize
     requires { ⌜ Kept (now types) (now members) (now names) ⌝ }
 {
-    let fits = has_room(out.len(), room);
-    if !fits {
+    if !has_room(out.len(), room) {
         return malformed(out);
     }
     let end = BODY + room;

@@ -31,8 +31,7 @@ fn put_normal(
     requires { ⌜ Kept (now types) (now members) (now names) ⌝ }
 {
     let long = image.len();
-    let fits = has_room(out.len(), long);
-    if !fits {
+    if !has_room(out.len(), long) {
         return malformed(out);
     }
     let end = BODY + long;

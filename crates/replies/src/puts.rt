@@ -1,8 +1,8 @@
 // An answer's parts, put into the output buffer one after the other. Each answers the place after what it put; what has
 // no room is left out, and none of a question's answers comes near the buffer's end.
 ghost use mathlib.Core.Path.{_≡_};
-ghost use mathlib.Core.Bool.{true};
 ghost use Prim.Native.Nat.{_+_, _≤_};
+ghost use mathlib.Core.Bool.{true};
 use types::Refusal;
 use types::Span;
 use words::copy;

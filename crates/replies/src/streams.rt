@@ -37,8 +37,7 @@ fn put_stream(
 ) -> usize
     requires { ⌜ Kept (now types) (now members) (now names) ⌝ }
 {
-    let fits = has_room(out.len(), room);
-    if !fits {
+    if !has_room(out.len(), room) {
         return malformed(out);
     }
     let end = BODY + room;

@@ -11,6 +11,7 @@ pub mod MeasureLaws
 pub mod Measuring
 pub mod PartLaws
 pub mod PlaceLaws
+pub mod PredefinedIds
 pub mod PredefinedLaws
 pub mod PredefinedWell
 pub mod StoreLaws

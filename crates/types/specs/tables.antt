@@ -2,6 +2,7 @@
 pub mod Defs
 pub mod Kept
 pub mod Lent
+pub mod Limits
 pub mod Registry
 pub mod Sizes
 pub mod There

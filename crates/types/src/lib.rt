@@ -66,6 +66,7 @@ pub use templates::waste::waste;
 // an atomic's size without its table.
 pub use atomics::atomic::is_bits;
 pub use atomics::atomic::size_of;
+pub use tables::lent::MEMBERS;
 pub use tables::lent::member_row;
 pub use tables::lent::name_row;
 pub use tables::lent::type_row;

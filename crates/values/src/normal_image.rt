@@ -2,4 +2,4 @@
 pub(crate) mod flags;
 pub(crate) mod leaves;
 pub(crate) mod normal;
-pub(crate) mod structs;
+pub(crate) mod walk;

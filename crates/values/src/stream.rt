@@ -2,6 +2,7 @@
 pub(crate) mod count;
 pub(crate) mod entry;
 pub(crate) mod form;
+pub(crate) mod kinds;
 pub(crate) mod lengths;
 pub(crate) mod place;
 pub(crate) mod tokens;

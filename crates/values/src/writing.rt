@@ -1,7 +1,7 @@
 // Document 01, "Writing": a stream's values are set in a tag's bytes.
 pub(crate) mod apply;
 pub(crate) mod bools;
-pub(crate) mod checks;
+pub(crate) mod check;
 pub(crate) mod fits;
 pub(crate) mod limits;
 pub(crate) mod sets;

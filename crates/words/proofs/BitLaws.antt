@@ -29,6 +29,7 @@ bit-next : (x k : ℕ) → bitOf x (suc k) ≡ bitOf (x / 2) k
 unfolding bitOf
 bit-next x k = rw (pow-succ' 2 k, ← div-div-eq-div-mul x 2 (2 ^ k))
 
+-- no bit of 0 is set
 pub bit-none : (k : ℕ) → bitOf 0 k ≡ false
 bit-none zero = bit-first 0
 bit-none (suc k) = bit-next 0 k ∙ bit-none k
@@ -39,11 +40,13 @@ digit-lt : (b : Bool) → digit b < 2
 digit-lt true = omega arith
 digit-lt false = omega arith
 
+-- the number of n bits is below 2^n
 pub val-below : (n : ℕ) (b : Bits) → val n b < 2 ^ n
 unfolding val
 val-below zero b = omega arith
 val-below (suc n) b = rw pow-suc (omega (arith, val-below n (λ k. b (suc k)), digit-lt (b 0)))
 
+-- n bits that are the same make the same number
 pub val-ext : (n : ℕ) (b c : Bits) → ((k : ℕ) → k < n → b k ≡ c k) → val n b ≡ val n c
 unfolding val
 val-ext zero b c h = refl
@@ -209,10 +212,12 @@ bit-with x b k false h l =
 mask : (k : ℕ) → k < 8 → 1 * 2 ^ k % 256 ≡ 2 ^ k
 mask k h = ap (_% 256) (one-mul (2 ^ k)) ∙ mod-eq-of-lt (pow-lt h)
 
+-- an or with the shifted mask sets the bit
 pub mask-set : (x k : ℕ) (v : Bool) → k < 8 → v ≡ true → bitOr x (1 * 2 ^ k % 256) ≡ withBit x k v
 unfolding withBit
 mask-set x k v h e = rw (e, mask k h)
 
+-- an and with all but the shifted mask clears the bit
 pub mask-clear : (x k : ℕ) (v : Bool) → k < 8 → v ≡ false → bitAnd x (255 - 1 * 2 ^ k % 256) ≡ withBit x k v
 unfolding withBit
 mask-clear x k v h e = rw (e, mask k h)
@@ -224,6 +229,7 @@ pub data Lies (p n k : ℕ) : Type 0 where
   among : p ≤ k → k < p + n → inside p n k ≡ true → Lies p n k
   beside : (p ≤ k → k < p + n → ⊥) → inside p n k ≡ false → Lies p n k
 
+-- every bit lies among the n bits from p on, or beside them
 pub lies : (p n k : ℕ) → Lies p n k
 unfolding inside
 lies p n k = go (decLt k p) (decLt k (p + n))

@@ -14,9 +14,11 @@ pub record Copying (first : List ℕ) (at : ℕ) (s out : List ℕ) (i : ℕ) : 
   pub long : length out ≡ length first
   pub left : sets first at s ≡ sets out (at + i) (drop i s)
 
+-- before the first byte is stored all of them are left
 pub copy-start : (out : List ℕ) (at : ℕ) (s : List ℕ) → Copying out at s out 0
 copy-start out at s = record { inside = omega arith; long = refl; left = rw add-zero }
 
+-- the next byte is stored at its place, and those after it are left
 pub copy-on : {first out s : List ℕ} {at i : ℕ} → Copying first at s out i → i < length s
     → Copying first at s (set out (at + i) (getD s i 0)) (i + 1)
 copy-on {first} {out} {s} {at} {i} w h =
@@ -27,5 +29,6 @@ copy-on {first} {out} {s} {at} {i} w h =
       left = w .left ∙ rw (e, add-one i, drop-cons s i 0 h);
     }
 
+-- where no byte is left, all of them are stored
 pub copy-done : {first out s : List ℕ} {at i : ℕ} → Copying first at s out i → length s ≤ i → out ≡ sets first at s
 copy-done {first} {out} {s} {at} {i} w h = sym (w .left ∙ rw (drop-of-length-le s h))

@@ -58,6 +58,7 @@ module _ {A : Type 0} where
       → take i l ++ (vs ++ drop (length vs) (drop i l)) ≡ sets l i vs
   lent l i vs h = rw (sets-eq vs l i h, append-assoc, drop-drop (length vs) i l)
 
+  -- a part of n elements that lies inside a list has n elements
   pub length-part : (s : List A) (at n : ℕ) → at + n ≤ length s → length (part s at n) ≡ n
   unfolding part
   length-part s at n h = simp (length-take, length-drop) (omega arith)
@@ -71,6 +72,7 @@ module _ {A : Type 0} where
       ∙ take-set-le n (drop at l) (i - at) a (omega arith)
   part-set l i a at n (inr h) = ap (λ (m : List A). take n m) (drop-set-lt at l i a h)
 
+  -- a part that lies beside a run of stores stays as it was
   pub part-beside : (l : List A) (i : ℕ) (vs : List A) (at n : ℕ) → (at + n ≤ i) ⊎ (i + length vs ≤ at)
       → part (sets l i vs) at n ≡ part l at n
   part-beside l i [] at n h = refl

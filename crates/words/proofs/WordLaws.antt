@@ -25,6 +25,7 @@ word-split (suc m) n s at =
     rw pow-succ' (mul-assoc 256 (256 ^ m) (wordAt n s (at + suc m))) in
     rw suc-add (omega (arith, rw e at (word-split m n s (at + 1)), f))
 
+-- the n lowest bytes of a number are n
 pub length-bytes : (n x : ℕ) → length (bytesOf n x) ≡ n
 unfolding bytesOf
 length-bytes zero x = refl
@@ -115,8 +116,8 @@ bytes-back (suc n) s at b h =
     (ap (λ (l : List ℕ). getD s at 0 ∷ l) (bytes-back n s (at + 1) b (omega arith)))
 
 -- the two bytes of a word of 16 bits
-pub two-bytes : (x : ℕ) → x < 65536 → x % 256 ∷ x / 256 ∷ [] ≡ bytesOf 2 x
+pub two-bytes : {x : ℕ} → x < 65536 → x % 256 ∷ x / 256 ∷ [] ≡ bytesOf 2 x
 unfolding bytesOf
-two-bytes x h =
+two-bytes {x} h =
     let e : x / 256 % 256 ≡ x / 256 = omega arith in
     rw e

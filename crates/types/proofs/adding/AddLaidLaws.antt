@@ -17,7 +17,7 @@ use Rattle.types.specs.layout.Structs.{namesOf, namedIn, roundedSize, ud
 use Rattle.types.specs.tables.Defs.{Part}
 use Rattle.types.specs.tables.Registry.{View}
 use Rattle.types.specs.declared.adding.new_types.NewType.{NewType}
-use Rattle.types.specs.declared.layout.measure.Measured.the-variants.{Laid, AccessWrong, TooFar}
+use Rattle.types.specs.declared.layout.measure.Measured.the-variants.{Came, AccessWrong, TooFar}
 use Rattle.types.specs.declared.layout.placing.Cursor.{Cursor}
 use Rattle.types.specs.declared.layout.placing.Decl.{Decl}
 use Rattle.types.proofs.adding.AddLaws.{type-fits, string-fits}
@@ -41,15 +41,18 @@ module _ (v : View) (book name : List ℕ) (new : NewType) (ds : List Decl) wher
   abbrev verdict : Verdict
   verdict = addLaid v book (new .number) (new .aoi) name (new .id) ds
 
+  -- where a member's access is wrong, the verdict is refusal 11 with the type's number
   pub laid-access : AccessWrong ≡ measuredOf (new .aoi) name ds → verdict ≡ no (11, new .number)
   unfolding addLaid
   laid-access q = rw (laid-passes (new .aoi) (namedIn book) name ds, ← q)
 
+  -- where a member ends too far, the verdict is refusal 12 with the type's number
   pub laid-far : TooFar ≡ measuredOf (new .aoi) name ds → verdict ≡ no (12, new .number)
   unfolding addLaid
   laid-far q = rw (laid-passes (new .aoi) (namedIn book) name ds, ← q)
 
-  pub laid-fitted : {c : Cursor} {long : ℕ} → Laid c long ≡ measuredOf (new .aoi) name ds
+  -- where all members are measured, the verdict is the new type of the rounded size, or 13
+  pub laid-fitted : {c : Cursor} {long : ℕ} → Came c long ≡ measuredOf (new .aoi) name ds
       → verdict
       ≡ fitted v (new .number)
       (newDef v name (new .id) (roundedSize c) (laidKind (new .aoi)) (partsOf (new .aoi) (namedIn book) name ds))
@@ -58,7 +61,7 @@ module _ (v : View) (book name : List ℕ) (new : NewType) (ds : List Decl) wher
 
 module _ {types names book tys : List ℕ} (new : NewType) (ready : Usable types names (new .used))
     (d : Declared book tys (new .used .types) (new .at) (new .count)) (name : List ℕ) {c : Cursor} {long : ℕ}
-    (q : Laid c long ≡ measuredOf (new .aoi) name (declsFrom types book tys (new .at) 0 (new .count))) where
+    (q : Came c long ≡ measuredOf (new .aoi) name (declsFrom types book tys (new .at) 0 (new .count))) where
   abbrev ds : List Decl
   ds = declsFrom types book tys (new .at) 0 (new .count)
 
@@ -68,6 +71,7 @@ module _ {types names book tys : List ℕ} (new : NewType) (ready : Usable types
   names-long : length (namesOf parts) ≡ long
   names-long = type-names (new .aoi) (namedIn book) name ds c long (sym q) (decls-named d types)
 
+  -- a measured type has as many parts and bytes of names as were measured, and rows can hold its parts
   pub laid-counted : Bytes book → Counted name parts (new .used .types) (c .members) (length name + long)
   laid-counted b =
       record {
@@ -77,10 +81,12 @@ module _ {types names book tys : List ℕ} (new : NewType) (ready : Usable types
       }
 
   module _ (room : Roomy (new .used) (c .members) (length name + long)) where
+    -- a measured layout for which there is room ends at or below 2^27
     pub laid-near : c .offset ≤ 2 ^ 27
     unfolding alignUp
     laid-near = omega (arith, type-most (new .aoi) name ds c long (sym q) (omega (arith, room .members)))
 
+    -- the declared members of a measured type for which there is room can be stored
     pub laid-storable : StorableType types book tys name new
     laid-storable =
         record {
@@ -93,6 +99,7 @@ module _ {types names book tys : List ℕ} (new : NewType) (ready : Usable types
 
 -- what can be stored, by its kind
 module _ {types book tys type : List ℕ} {new : NewType} (s : StorableType types book tys type new) where
+  -- an AOI that can be stored can be so with its hosts, after what is used and its own name
   pub storable-aoi : new .aoi ≡ true → {h : ℕ} → h ≡ aoiHosts (declsFrom types book tys (new .at) 0 (new .count))
       → StorableAoi types book tys type (new .at) (new .count) h (new .used .members) (new .used .bytes + length type)
   storable-aoi a e =
@@ -105,6 +112,7 @@ module _ {types book tys type : List ℕ} {new : NewType} (s : StorableType type
         names = rw a at (s .names);
       }
 
+  -- a UDT that can be stored can be so from the start of a layout, after what is used and its own name
   pub storable-udt : new .aoi ≡ false
       → Storable types book tys type (new .at) (new .count) udtStart (new .used .members)
       (new .used .bytes + length type)

@@ -16,10 +16,10 @@ use Rattle.types.specs.inside.tables.Registry.{viewIn, withHandle}
 use Rattle.types.specs.layout.HostNames.{hostName}
 use Rattle.types.specs.layout.Laid.{Earlier, Every}
 use Rattle.types.specs.layout.Placing.{opened, nextBit}
-use Rattle.types.specs.layout.Structs.{namesOf, rowsOf, hostParts, aoiHosts, aoiStart}
-use Rattle.types.specs.layout.Structs.{udtStart, stringParts}
+use Rattle.types.specs.layout.Structs.{namesOf, rowsOf, hostParts, aoiHosts, aoiStart, udtStart, stringParts}
 use Rattle.types.specs.tables.Defs.{Part, Def}
 use Rattle.types.specs.tables.Lent.{typeAt}
+use Rattle.types.specs.tables.Limits.{mostMembers, mostNames, memberWords}
 use Rattle.types.specs.tables.Registry.{View, idAt, headOf}
 use Rattle.types.specs.tables.TypeWord.{idsIn}
 use Rattle.types.specs.templates.Handle.{handleOf}
@@ -39,11 +39,13 @@ pub record Able (n : ℕ) (d : Decl) : Type 0 where
   pub access : d .access < 256
   pub earlier : Earlier n (d .ty)
 
+-- what holds of each element of two lists holds of each of the two joined
 pub every-append : {A : Type 0} (P : A → Type 0) (xs ys : List A) → Every P xs → Every P ys → Every P (xs ++ ys)
 unfolding Every
 every-append P [] ys p q = q
 every-append P (x ∷ xs) ys (p, ps) q = (p, every-append P xs ys ps q)
 
+-- what holds of each element of a list holds of the k-th
 pub every-nth : {A : Type 0} (P : A → Type 0) (z : A) (xs : List A) (k : ℕ) → Every P xs → k < length xs
     → P (getD xs k z)
 unfolding Every
@@ -91,11 +93,13 @@ module _ (n : ℕ) (name : Decl → List ℕ) (type : List ℕ) (ds : List Decl)
         ),
       )
 
+-- rows can hold the parts of a UDT or AOI whose members have an access of one byte and earlier types
 pub type-fits : (aoi : Bool) (n : ℕ) (name : Decl → List ℕ) (type : List ℕ) (ds : List Decl) → Every (Able n) ds
     → Every (PartFits n) (partsOf aoi name type ds)
 type-fits true n name type ds a = aoi-fits n name type ds a
 type-fits false n name type ds a = udt-fits n name type ds a
 
+-- rows can hold the two parts of any string
 pub string-fits : (n c : ℕ) → Every (PartFits n) (stringParts c)
 unfolding stringParts Every
 string-fits n c = (
@@ -125,8 +129,8 @@ module _ (types members names : List ℕ) (u : Used) (name : List ℕ) (id size 
   bytes = sets names (u .bytes) (name ++ namesOf parts)
 
   module _ (ready : Usable types names u) (fit : Every (PartFits (u .types)) parts)
-      (m : length members ≡ 16000) (k : length names ≡ 32768) (a : u .members + length parts ≤ 2000)
-      (b : u .bytes + length (name ++ namesOf parts) ≤ 32768) where
+      (m : length members ≡ memberWords) (k : length names ≡ mostNames) (a : u .members + length parts ≤ mostMembers)
+      (b : u .bytes + length (name ++ namesOf parts) ≤ mostNames) where
     -- the ids that a template names are those of the view
     ids-same : (j : ℕ) → j < u .types → idsIn types j ≡ idAt view j
     unfolding viewIn typeAt
@@ -143,6 +147,7 @@ module _ (types members names : List ℕ) (u : Used) (name : List ℕ) (id size 
         (omega (arith, m)) (omega (arith, k)) fit)
         ∙ template-same (idsIn types) (idAt view) (u .types) ids-same bare fit)
 
+    -- the row with the handle that the stored parts give is the definition's row
     pub row-same : withHandle (headOf (u .bytes) (u .members) bare)
         (handleOf (templateIn types rows bytes (headOf (u .bytes) (u .members) bare)))
         ≡ headOf (u .bytes) (u .members) new
@@ -157,10 +162,12 @@ module _ (types members names : List ℕ) (u : Used) (name : List ℕ) (id size 
       (length-list (rowName types names) 0 (u .types))
 
   module _ (i : ℕ) (r : Bool) (e : r ≡ hasRoom u (length parts) (length (name ++ namesOf parts))) where
+    -- without room the verdict on the new type is refusal 13
     pub fitted-no : r ≡ false → fitted view i new ≡ no (13, i)
     unfolding fitted newDef
     fitted-no q = rw (view-used, sym e ∙ q)
 
+    -- with room the verdict is the new type
     pub fitted-yes : r ≡ true → fitted view i new ≡ yes new
     unfolding fitted newDef
     fitted-yes q = rw (view-used, sym e ∙ q)

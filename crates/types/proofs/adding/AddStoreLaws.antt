@@ -24,6 +24,7 @@ use Rattle.types.specs.layout.Structs.{namesOf, rowsOf, namedIn}
 use Rattle.types.specs.refusals.Said.{whyOf}
 use Rattle.types.specs.tables.Defs.{Part, Def}
 use Rattle.types.specs.tables.Lent.{tyOf, typeRow}
+use Rattle.types.specs.tables.Limits.{mostTypes, mostMembers, mostNames, memberWords}
 use Rattle.types.specs.tables.Registry.{headOf}
 use Rattle.types.specs.templates.Handle.{handleOf}
 use Rattle.types.specs.templates.Template.{templateIn}
@@ -42,7 +43,8 @@ use Rattle.types.proofs.tables.DefLaws.{PartFits, earlier-fits, head-re
 -- ---- the declared members
 
 module _ {book tys : List ℕ} {known at n : ℕ} (d : Declared book tys known at n) where
-  pub declared-found : known ≤ 200 → Found book tys at n
+  -- of at most 200 known types: the declared members lie in the book, and their types were found
+  pub declared-found : known ≤ mostTypes → Found book tys at n
   declared-found l =
       record {
         inside = d .inside .inside;
@@ -64,6 +66,7 @@ module _ {book tys : List ℕ} {known at n : ℕ} (d : Declared book tys known a
     all-able b k zero l = tt
     all-able b k (suc m) l = (decl-able b k (omega arith), all-able b (k + 1) m (omega arith))
 
+    -- each declared member's access is a byte, and its type is an earlier one
     pub decls-able : Bytes book → Every (Able known) (declsFrom types book tys at 0 n)
     decls-able b = all-able b 0 n (omega arith)
 
@@ -73,22 +76,25 @@ module _ {book tys : List ℕ} {known at n : ℕ} (d : Declared book tys known a
     unfolding declAt resolved
     decl-inside k l = d .inside .names k l
 
+    -- the name of each declared member is as long as its entry says
     pub decls-named : Every (λ e. length (namedIn book e) ≡ e .name .long) (declsFrom types book tys at 0 n)
     decls-named = all-named types book tys at known n decl-inside
 
 -- ---- room
 
+-- one more type, m members and b bytes of names fit into the tables after what is used
 pub record Roomy (u : Used) (m b : ℕ) : Type 0 where
-  pub types : u .types < 200
-  pub members : u .members + m ≤ 2000
-  pub bytes : u .bytes + b ≤ 32768
+  pub types : u .types < mostTypes
+  pub members : u .members + m ≤ mostMembers
+  pub bytes : u .bytes + b ≤ mostNames
 
+-- where the test for room is passed, the type, its members and its names fit into the tables
 pub roomy : (u : Used) (members bytes : ℕ) → true ≡ hasRoom u members bytes → Roomy u members bytes
 unfolding hasRoom
 roomy u members bytes e =
-    let a = ltb (u .types) 200 in
-    let b = leb (u .members + members) 2000 in
-    let c = leb (u .bytes + bytes) 32768 in
+    let a = ltb (u .types) mostTypes in
+    let b = leb (u .members + members) mostMembers in
+    let c = leb (u .bytes + bytes) mostNames in
     let f = sym e in
     record {
       types = ltb-true _ _ (and-left a b (and-left (a && b) c f));
@@ -122,6 +128,7 @@ module _ (types members names : List ℕ) (u : Used) {name : List ℕ} {parts : 
   room : r ≡ hasRoom u (length parts) (length (name ++ namesOf parts))
   room = rw (p .count, p .long) e
 
+  -- without room 13 is answered, and the three tables stay as they were
   pub stored-full : (i : ℕ) → r ≡ false
       → Took (fitted (viewIn types names u) i new) u types members names types members names (Refused (TablesFull i))
   stored-full i q =
@@ -129,17 +136,18 @@ module _ (types members names : List ℕ) (u : Used) {name : List ℕ} {parts : 
       (record { is = refl; types = refl; members = refl; names = refl })
 
   module _ (q : r ≡ true) where
+    -- with room for what was counted, the verdict is the new type
     pub stored-yes : (i : ℕ) → fitted (viewIn types names u) i new ≡ yes new
     stored-yes i = fitted-yes types members names u name id size kind parts i r room q
 
     pub stored-room : Roomy u count long
     stored-room = roomy u count long (sym q ∙ e)
 
-    module _ (ready : Usable types names u) (m : length members ≡ 16000) where
-      rows-fit : u .members + length parts ≤ 2000
+    module _ (ready : Usable types names u) (m : length members ≡ memberWords) where
+      rows-fit : u .members + length parts ≤ mostMembers
       rows-fit = omega (arith, p .count, stored-room .members)
 
-      names-fit : u .bytes + length (name ++ namesOf parts) ≤ 32768
+      names-fit : u .bytes + length (name ++ namesOf parts) ≤ mostNames
       names-fit = omega (arith, p .long, stored-room .bytes)
 
       -- its row can be read
@@ -150,7 +158,7 @@ module _ (types members names : List ℕ) (u : Used) {name : List ℕ} {parts : 
           (p .fit))
 
       -- the verdict was carried out
-      pub stored-took : (i : ℕ) → length names ≡ 32768 → {t′ m′ n′ : List ℕ}
+      pub stored-took : (i : ℕ) → length names ≡ mostNames → {t′ m′ n′ : List ℕ}
           → m′ ≡ sets members (8 * u .members) (rowsOf (u .bytes + length name) parts)
           → n′ ≡ sets (sets names (u .bytes) name) (u .bytes + length name) (namesOf parts)
           → t′ ≡ sets types (8 * u .types) (typeRow (withHandle head (handleOf (templateIn types m′ n′ head))))
@@ -174,13 +182,15 @@ module _ (types members names : List ℕ) (u : Used) {name : List ℕ} {parts : 
     (ready : Ready types members names u k l) where
   ready-room : true ≡ hasRoom u k l
   ready-room =
-      sym (le-leb (u .bytes + l) 32768 (ready .bytes)) ∙ room-bytes u k l (ready .few) (ready .rows)
+      sym (le-leb (u .bytes + l) mostNames (ready .bytes)) ∙ room-bytes u k l (ready .few) (ready .rows)
 
+  -- once its parts are stored, the row of a new type can be read, before it has its handle
   pub new-readable : Readable (sets members (8 * u .members) (rowsOf (u .bytes + length name) parts))
       (bareHead u (length name) id size kind k)
   new-readable =
       stored-readable types members names u p id size kind ready-room refl (ready .usable) (ready .members)
 
+  -- once its parts, names and row are stored, the verdict that adds the type was carried out
   pub new-took : {t′ m′ n′ : List ℕ} {r : Used}
       → m′ ≡ sets members (8 * u .members) (rowsOf (u .bytes + length name) parts)
       → n′ ≡ sets (sets names (u .bytes) name) (u .bytes + length name) (namesOf parts)
@@ -194,9 +204,9 @@ module _ (types members names : List ℕ) (u : Used) {name : List ℕ} {parts : 
       rw er (rw (stored-yes types members names u p id size kind ready-room refl 0) at took)
 
 -- a refusal was answered, and nothing stored
-pub took-no : {s : Verdict} {u : Used} (r : Refusal) (types members names : List ℕ) → s ≡ no (whyOf r)
+pub took-no : {s : Verdict} {u : Used} {r : Refusal} {types members names : List ℕ} → s ≡ no (whyOf r)
     → Took s u types members names types members names (Refused r)
-took-no r types members names e = rw e (record { is = refl; types = refl; members = refl; names = refl })
+took-no {r} {types} {members} {names} e = rw e (record { is = refl; types = refl; members = refl; names = refl })
 
 -- a verdict was carried out that is the one asked for
 pub took-so : {s s′ : Verdict} {u : Used} {t₀ m₀ n₀ t m n : List ℕ} {r : Progress}

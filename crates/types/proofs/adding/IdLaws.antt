@@ -15,6 +15,7 @@ use Rattle.types.specs.inside.adding.Ids.{Held, Lowest}
 use Rattle.types.specs.declared.adding.ids.Picked.{Picked}
 use Rattle.types.specs.declared.adding.ids.Picked.the-variants.{Free, OutsideRange, InUse, NoneFree}
 
+-- where the ids from 0x100 to below r are held and a row holds r, those up to r are held
 pub held-more : (t : List ℕ) (n r i : ℕ) → ((k : ℕ) → 0x100 ≤ k → k < r → Held t n k) → i < n → idWord t i ≡ r
     → (k : ℕ) → 0x100 ≤ k → k < r + 1 → Held t n k
 held-more t n r i h l e k a b = go (decLt k r)
@@ -35,12 +36,14 @@ lowest-one t n r r′ a b = go (decLt r r′) (decLt r′ r)
 -- ---- an id among those of the rows that are left
 
 module _ (ids : ℕ → ℕ) (id n i : ℕ) where
+  -- an id that row i holds is in use among the rows from i on
   pub use-here : i < n → ids i ≡ id → inUse id (listFrom ids i (n - i)) ≡ true
   unfolding inUse listFrom
   use-here l e =
       let f : n - i ≡ suc (n - (i + 1)) = omega arith in
       rw f (simp (eq-eqb _ _ e))
 
+  -- an id that row i does not hold is in use from i on just where it is among the rows after i
   pub use-later : i < n → (ids i ≡ id → ⊥)
       → inUse id (listFrom ids i (n - i)) ≡ inUse id (listFrom ids (i + 1) (n - (i + 1)))
   unfolding inUse listFrom
@@ -48,6 +51,7 @@ module _ (ids : ℕ → ℕ) (id n i : ℕ) where
       let f : n - i ≡ suc (n - (i + 1)) = omega arith in
       rw f (simp (ne-eqb _ _ e))
 
+  -- where no row is left, no id is in use
   pub use-never : n ≤ i → inUse id (listFrom ids i (n - i)) ≡ false
   unfolding inUse listFrom
   use-never l =
@@ -117,30 +121,36 @@ module _ (t : List ℕ) (n r : ℕ) (w : Lowest t n r) where
 -- ---- the ways to pick an id
 
 module _ (ids : List ℕ) (id : ℕ) where
+  -- a given id below 0x100 is outside the range
   pub pick-low : id < 0x100 → OutsideRange ≡ idFor ids true id
   unfolding idFor
   pick-low l = simp (lt-leb _ _ l)
 
+  -- a given id above 0xEFF is outside the range
   pub pick-high : 0x100 ≤ id → 0xEFF < id → OutsideRange ≡ idFor ids true id
   unfolding idFor
   pick-high l h = simp (le-leb _ _ l, lt-leb _ _ h)
 
   module _ (l : 0x100 ≤ id) (h : id ≤ 0xEFF) (b : Bool) (e : b ≡ inUse id ids) where
+    -- a given id inside the range that a type holds is in use
     pub pick-used : b ≡ true → InUse ≡ idFor ids true id
     unfolding idFor
     pick-used q = simp (le-leb _ _ l, le-leb _ _ h, sym e ∙ q)
 
+    -- a given id inside the range that no type holds is picked
     pub pick-given : b ≡ false → Free id ≡ idFor ids true id
     unfolding idFor
     pick-given q = simp (le-leb _ _ l, le-leb _ _ h, sym e ∙ q)
 
 module _ (t : List ℕ) (n id r : ℕ) (w : Lowest t n r) where
+  -- where no id is given, the lowest id that no row holds is picked
   pub pick-lowest : r < 0xF00 → Free r ≡ idFor (listFrom (idWord t) 0 n) false id
   unfolding idFor lowestFree
   pick-lowest l =
       free-at (listFrom (idWord t) 0 n) 0x100 0xE00 r (w .low) (omega arith) (taken-below t n r w)
       (free-there t n r w l)
 
+  -- where no id is given and the rows hold every id of the range, none is free
   pub pick-none : 0xF00 ≤ r → NoneFree ≡ idFor (listFrom (idWord t) 0 n) false id
   unfolding idFor lowestFree
   pick-none l =
@@ -178,6 +188,7 @@ from-range ids k (suc m) = go (inUse k ids) (from-more k m (lowestFrom ids (k + 
     go true rest = rest
     go false rest = (omega arith, omega arith)
 
+-- an id that is picked lies in 0x100..0xEFF
 pub picked-range : (ids : List ℕ) (given : Bool) (id : ℕ) → InRange (idFor ids given id)
 unfolding idFor lowestFree
 picked-range ids true id = go (leb 0x100 id && leb id 0xEFF) refl (inUse id ids)
@@ -214,6 +225,7 @@ from-unheld ids k (suc m) = go (inUse k ids) refl (from-unheld ids (k + 1) m)
     go true e rest = rest
     go false e rest = e
 
+-- an id that is picked is held by no type
 pub picked-unheld : (ids : List ℕ) (given : Bool) (id : ℕ) → Unheld ids (idFor ids given id)
 unfolding idFor lowestFree
 picked-unheld ids true id = go (leb 0x100 id && leb id 0xEFF) (inUse id ids) refl

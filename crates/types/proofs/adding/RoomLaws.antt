@@ -5,19 +5,23 @@ use mathlib.Core.Bool.{false}
 use borrow.Author.Tests.{lt-ltb, le-ltb, le-leb, lt-leb}
 use lib.Dec.{leb}
 use Rattle.types.specs.adding.Add.{hasRoom}
+use Rattle.types.specs.tables.Limits.{mostTypes, mostMembers, mostNames}
 use Rattle.types.specs.declared.adding.used.Used.{Used}
 
 module _ (u : Used) (members bytes : ℕ) where
-  pub room-types : 200 ≤ u .types → false ≡ hasRoom u members bytes
+  -- where 200 types are used there is no room
+  pub room-types : mostTypes ≤ u .types → false ≡ hasRoom u members bytes
   unfolding hasRoom
   room-types l = simp (le-ltb _ _ l)
 
-  module _ (l : u .types < 200) where
-    pub room-members : 2000 < u .members + members → false ≡ hasRoom u members bytes
+  module _ (l : u .types < mostTypes) where
+    -- where a type has a row but its members do not, there is no room
+    pub room-members : mostMembers < u .members + members → false ≡ hasRoom u members bytes
     unfolding hasRoom
     room-members h = simp (lt-ltb _ _ l, lt-leb _ _ h)
 
-    pub room-bytes : u .members + members ≤ 2000 → leb (u .bytes + bytes) 32768 ≡ hasRoom u members bytes
+    -- where a type and its members have rows, there is room just where its names fit
+    pub room-bytes : u .members + members ≤ mostMembers → leb (u .bytes + bytes) mostNames ≡ hasRoom u members bytes
     unfolding hasRoom
     room-bytes h = simp (lt-ltb _ _ l, le-leb _ _ h)
 

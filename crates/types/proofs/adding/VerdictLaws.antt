@@ -1,31 +1,31 @@
 -- Laws of a type's verdict (document 01, "Refusal numbers" and "Order of building"): a type that is added fits into the
 -- registry, has the name of its entry and an id and a name that no earlier type has, and no way out of adding is
 -- refusal 10.
-use Prim.Native.Nat.{ℕ, zero, suc, _+_, _*_, _^_, _<_, _≤_}
+use Prim.Native.Nat.{ℕ, zero, suc, _+_, _*_, _<_, _≤_}
 use native.Mathlib.Omega.{arith}
 use mathlib.Core.Path.{_≡_, refl, sym}
 use mathlib.Core.Bool.{Bool, true, false}
 use mathlib.Core.List.{List, [], _∷_}
 use lib.ListN.{length, length-map}
 use Rattle.words.specs.Words.{Bytes}
+use Rattle.words.proofs.TestLaws.{either}
 use Rattle.words.proofs.WordLaws.{word-below}
-use Rattle.types.specs.adding.Add.{Verdict, no, yes, hasRoom, usedIn, newDef, fitted, onLaid, addLaid}
-use Rattle.types.specs.adding.Add.{onChecked, addMembers, stringOk, addString, addNamed, onId}
-use Rattle.types.specs.adding.Add.{addFresh, addEntry}
+use Rattle.types.specs.adding.Add.{Verdict, no, yes, hasRoom, usedIn, newDef, fitted, onLaid, addLaid, onChecked}
+use Rattle.types.specs.adding.Add.{addMembers, stringOk, addString, addNamed, onId, addFresh, addEntry}
 use Rattle.types.specs.adding.Checks.{checked, entriesFrom}
 use Rattle.types.specs.adding.Ids.{inUse, idFor}
 use Rattle.types.specs.atomics.Lookup.{typeAmong}
-use Rattle.types.specs.book.Contents.{isAoi, isString, hasId}
-use Rattle.types.specs.book.Contents.{listFrom, typeEntry}
+use Rattle.types.specs.book.Contents.{isAoi, isString, hasId, listFrom, typeEntry}
 use Rattle.types.specs.book.Decls.{storedTy, resolved, declared}
 use Rattle.types.specs.book.Names.{goodName}
 use Rattle.types.specs.inside.layout.Passes.{partsOf, measuredOf}
 use Rattle.types.specs.layout.Laid.{Laid as Lies, Resolved, Every}
+use Rattle.types.specs.layout.Placing.{mostSize}
 use Rattle.types.specs.layout.Structs.{namedIn, laidKind, roundedSize as sizeOf}
 use Rattle.types.specs.rounds.Resolve.{isFound}
-use Rattle.types.specs.rounds.Turns.{stuckAt}
-use Rattle.types.specs.rounds.Turns.{entriesAt, countOf, thenDecl, declsOf, verdictOn}
+use Rattle.types.specs.rounds.Turns.{stuckAt, entriesAt, countOf, thenDecl, declsOf, verdictOn}
 use Rattle.types.specs.tables.Defs.{Part, Def, nameIn}
+use Rattle.types.specs.tables.Limits.{mostMembers}
 use Rattle.types.specs.tables.Registry.{View, sizeAt, ownNames, viewOf}
 use Rattle.types.specs.declared.adding.checks.Checked.{Checked}
 use Rattle.types.specs.declared.adding.checks.Checked.the-variants.{Good, NameWrong, Twice, LocalOutside}
@@ -36,7 +36,7 @@ use Rattle.types.specs.declared.atomics.lookup.FoundTy.the-variants.{Is,
 use Rattle.types.specs.declared.book.contents.MemberEntry.{MemberEntry}
 use Rattle.types.specs.declared.book.contents.TypeEntry.{TypeEntry}
 use Rattle.types.specs.declared.layout.measure.Measured.{Measured}
-use Rattle.types.specs.declared.layout.measure.Measured.the-variants.{Laid, AccessWrong as accessWrong}
+use Rattle.types.specs.declared.layout.measure.Measured.the-variants.{Came, AccessWrong as accessWrong}
 use Rattle.types.specs.declared.layout.measure.Measured.the-variants.{TooFar as tooFar}
 use Rattle.types.specs.declared.layout.placing.Cursor.{Cursor}
 use Rattle.types.specs.declared.layout.placing.Decl.{Decl}
@@ -56,7 +56,6 @@ use Rattle.types.proofs.layout.PartLaws.{PartFormed, NamedDecls, NamedE
 use Rattle.types.proofs.layout.PartLaws.{checked-named}
 use Rattle.types.proofs.layout.StringLaws.{IsString, string-is, other-kind, no-string}
 use Rattle.types.proofs.rounds.ResolveLaws.{found-earlier}
-use Rattle.types.proofs.rounds.RoundLaws.{either}
 use Rattle.types.proofs.tables.DefLaws.{PartFits}
 use Rattle.types.proofs.tables.ProperLaws.{Proper, user-inside, not-predefined, declared-kind}
 use Rattle.types.proofs.tables.ShownLaws.{Shown, Fits}
@@ -73,7 +72,7 @@ pub record Made (v : View) (s : List ℕ) (ds : List Decl) (d : Def) : Type 0 wh
   pub room : Roomy (usedIn v) (length (d .parts)) (length (ownNames d))
   pub parts : (n : ℕ) → Every (Able n) ds → Every (PartFits n) (d .parts)
   pub laid : (n : ℕ) → Every (Resolved (sizeAt v) n) ds → Lies (sizeAt v) n (d .size) (d .parts)
-  pub most : d .size ≤ 2 ^ 26 + 224
+  pub most : d .size ≤ mostSize + 224
   pub good : goodName s ≡ true
   pub formed : Every PartFormed (d .parts)
   pub kind : d .kind ≡ Predefined → ⊥
@@ -96,14 +95,14 @@ module _ (v : View) (book : List ℕ) (i at : ℕ) (e : TypeEntry) (name : List 
     fitted-ends : (size : ℕ) (kind : StructKind) (parts : List Part)
         → ((n : ℕ) → Every (Able n) ds → Every (PartFits n) parts)
         → ((n : ℕ) → Every (Resolved (sizeAt v) n) ds → Lies (sizeAt v) n size parts)
-        → (length parts ≤ 2000 → size ≤ 2 ^ 26 + 224)
+        → (length parts ≤ mostMembers → size ≤ mostSize + 224)
         → Every PartFormed parts
         → (kind ≡ Str → IsString size parts)
         → (kind ≡ Predefined → ⊥)
         → Ends (fitted v i (newDef v name id size kind parts))
     unfolding fitted newDef
     fitted-ends size kind parts f g h k s p =
-        either Ends (hasRoom (usedIn v) (length parts) (length (ownNames (newDef v name id size kind parts)))) _ _
+        either Ends (hasRoom (usedIn v) (length parts) (length (ownNames (newDef v name id size kind parts))))
         (λ q. record {
           name = refl;
           id = range;
@@ -134,11 +133,11 @@ module _ (v : View) (book : List ℕ) (i at : ℕ) (e : TypeEntry) (name : List 
         (not-predefined (laidKind aoi) (declared-kind aoi))))
       where
         go : (m : Measured)
-            → ((c : Cursor) (n : ℕ) → m ≡ Laid c n
+            → ((c : Cursor) (n : ℕ) → m ≡ Came c n
             → Ends (fitted v i (newDef v name id (sizeOf c) (laidKind aoi) (partsOf aoi (namedIn book) name ds))))
             → Ends (onLaid (both (partsOf aoi (namedIn book) name ds) m) i
             (λ parts size. fitted v i (newDef v name id size (laidKind aoi) parts)))
-        go (Laid c n) f = f c n refl
+        go (Came c n) f = f c n refl
         go accessWrong f = λ z. omega arith
         go tooFar f = λ z. omega arith
 
@@ -160,7 +159,7 @@ module _ (v : View) (book : List ℕ) (i at : ℕ) (e : TypeEntry) (name : List 
     string-ends : Ends (addString v i e name id)
     unfolding addString
     string-ends =
-        either Ends (stringOk e) _ _
+        either Ends (stringOk e)
         (λ q. fitted-ends _ Str _ (λ n a. string-fits n (e .string)) (λ n r. string-laid (sizeAt v) n (e .string)
         (string-least e q))
         (λ l. omega (arith, string-most (e .string) (string-room e q))) (string-formed (e .string))
@@ -169,7 +168,7 @@ module _ (v : View) (book : List ℕ) (i at : ℕ) (e : TypeEntry) (name : List 
 
     named-ends : Ends (addNamed v book i at e name id ds)
     unfolding addNamed
-    named-ends = either Ends (isString e) _ _ (λ q. string-ends) (λ q. members-ends (isAoi e))
+    named-ends = either Ends (isString e) (λ q. string-ends) (λ q. members-ends (isAoi e))
 
   -- 4, 5, 6
   picked-ends : (p : Picked) (k : ℕ → Verdict) → InRange p → Unheld (v .ids) p
@@ -190,8 +189,8 @@ module _ (v : View) (book : List ℕ) (i at : ℕ) (e : TypeEntry) (name : List 
   pub entry-ends : Ends (addEntry v book i at e name ds)
   unfolding addEntry
   entry-ends =
-      either Ends (goodName name) _ _
-      (λ q. either Ends (isFound (typeAmong (v .names) name)) _ _ (λ r z. omega arith)
+      either Ends (goodName name)
+      (λ q. either Ends (isFound (typeAmong (v .names) name)) (λ r z. omega arith)
       (λ r. fresh-ends q r))
       (λ q z. omega arith)
 
@@ -308,13 +307,15 @@ decls-resolved v book (e ∷ es) =
     go Nothing q ih = tt
 
 module _ (book : List ℕ) (ds : List Def) (i : ℕ) (d : Def) (e : verdictOn book (viewOf ds) i ≡ yes d) where
+  -- the parts of a type that is added have earlier types and lie inside its size, the visible ones apart
   pub verdict-laid : Lies (sizeAt (viewOf ds)) (length ds) (d .size) (d .parts)
   unfolding viewOf
   verdict-laid =
       let n = length-map ds (λ (x : Def). x .name) in
       rw n at (verdict-made book ds i d e .laid _ (decls-resolved (viewOf ds) book (entries book ds i)))
 
-  pub verdict-most : d .size ≤ 2 ^ 26 + 224
+  -- a type that is added has at most 2^26 + 224 bytes
+  pub verdict-most : d .size ≤ mostSize + 224
   verdict-most = verdict-made book ds i d e .most
 
   -- and proper, after the predefined types
@@ -338,6 +339,7 @@ module _ (book : List ℕ) (ds : List Def) (i : ℕ) (d : Def) (e : verdictOn bo
   pub verdict-unheld : inUse (d .id) (viewOf ds .ids) ≡ false
   verdict-unheld = verdict-made book ds i d e .unheld
 
+  -- the name of a type that is added is no atomic's and that of no earlier type
   pub verdict-unknown : isFound (typeAmong (viewOf ds .names) (d .name)) ≡ false
   verdict-unknown =
       let m = verdict-made book ds i d e in

@@ -18,9 +18,8 @@ use Rattle.types.specs.inside.atomics.Atomic.{tableRows}
 use Rattle.types.specs.refusals.Said.{done}
 use Rattle.types.specs.declared.atomics.atomic.Atomic.{Atomic}
 use Rattle.types.specs.declared.atomics.atomic.Atomic.the-variants.{Bool as BOOL, SInt, Int, DInt, LInt, USInt}
-use Rattle.types.specs.declared.atomics.atomic.Atomic.the-variants.{UInt}
-use Rattle.types.specs.declared.atomics.atomic.Atomic.the-variants.{UDInt}
-use Rattle.types.specs.declared.atomics.atomic.Atomic.the-variants.{ULInt, Real, LReal, Byte, Word, DWord, LWord}
+use Rattle.types.specs.declared.atomics.atomic.Atomic.the-variants.{UInt, UDInt, ULInt, Real, LReal, Byte, Word}
+use Rattle.types.specs.declared.atomics.atomic.Atomic.the-variants.{DWord, LWord}
 use Rattle.types.specs.declared.atomics.atomic.AtomicRow.{AtomicRow}
 use Rattle.types.specs.declared.atomics.atomic.FoundAtomic.{FoundAtomic}
 use Rattle.types.specs.declared.atomics.atomic.FoundAtomic.the-variants.{Is, Nothing}
@@ -44,6 +43,7 @@ at-num Word = refl
 at-num DWord = refl
 at-num LWord = refl
 
+-- every place past the last has BOOL
 pub past-last : (i : ℕ) → 15 ≤ i → BOOL ≡ atomicAt i
 unfolding atomicAt
 past-last i h = sym (List·getD-eq-default atomics BOOL h)
@@ -60,24 +60,28 @@ unfolding atomicAt tableRows
 table-row t i d e h = rw (e, tableRows) (getD-rows atomics i d h)
 
 -- the name that stands in a row
-pub row-name : (a : Atomic) (r : AtomicRow) → r ≡ rowOf a → take (r .2) (r .3) ≡ nameOf a
+pub row-name : (a : Atomic) {r : AtomicRow} → r ≡ rowOf a → take (r .2) (r .3) ≡ nameOf a
 unfolding rowOf
-row-name a r e = rw e (take-append-seam (nameOf a) _)
+row-name a {r} e = rw e (take-append-seam (nameOf a) _)
 
-pub row-long : (a : Atomic) (r : AtomicRow) → r ≡ rowOf a → r .2 ≤ length (r .3)
+-- the length of a row's name is at most the bytes that the row has for it
+pub row-long : (a : Atomic) {r : AtomicRow} → r ≡ rowOf a → r .2 ≤ length (r .3)
 unfolding rowOf
-row-long a r e = rw e (simp length-append (omega arith))
+row-long a {r} e = rw e (simp length-append (omega arith))
 
 -- one atomic of those that are left in a search
 module _ (p : Atomic → Bool) (i : ℕ) (l : i < 15) (b : Bool) (e : b ≡ p (atomicAt i)) where
+  -- where the i-th passes the test, it is the first of those left that does
   pub first-hit : b ≡ true → Is (atomicAt i) ≡ firstOf p (drop i atomics)
   unfolding firstOf atomicAt
   first-hit q = rw (drop-cons atomics i BOOL l, ← e, q)
 
+  -- where it fails the test, the search has the same answer over the atomics after it
   pub first-miss : b ≡ false → firstOf p (drop i atomics) ≡ firstOf p (drop (i + 1) atomics)
   unfolding firstOf atomicAt
   first-miss q = rw (add-one, drop-cons atomics i BOOL l, ← e, q)
 
+-- where none is left, no atomic is found
 pub first-none : (p : Atomic → Bool) (i : ℕ) → 15 ≤ i → i ≤ 15 → Nothing ≡ firstOf p (drop i atomics)
 unfolding firstOf
 first-none p i h k =
@@ -95,6 +99,7 @@ first-said p (a ∷ l) = go (p a) (first-said p l)
     go true e = refl
     go false e = e
 
+-- what the atomic of a name says is the code of that name
 pub named-said : (s : List ℕ) → saidBy (atomicNamed s) ≡ codeNamed s
 unfolding atomicNamed codeNamed
 named-said s = first-said (λ a. sameName (nameOf a) s) atomics
@@ -161,6 +166,7 @@ pub at-other : (i : ℕ) → NoneOf i 14 → BOOL ≡ atomicAt i
 at-other zero h = sym (at-num BOOL)
 at-other (suc i) h = past-last (suc i) (past (suc i) 14 h (omega arith))
 
+-- an atomic's place is below 15
 pub num-below : (a : Atomic) → numOf a < 15
 num-below BOOL = lit< tt
 num-below SInt = lit< tt

@@ -11,27 +11,27 @@ use Rattle.words.specs.Words.{Bytes, wordAt}
 use Rattle.words.proofs.WordLaws.{word-below}
 use Rattle.types.specs.atomics.Atomic.{sizeOf}
 use Rattle.types.specs.book.Decls.{boolArray, storedTy, storedCount, alignIn, plain, resolved}
-use Rattle.types.specs.inside.book.Decls.{declAt, declsFrom}
-use Rattle.types.specs.inside.book.Decls.{Found}
+use Rattle.types.specs.inside.book.Decls.{declAt, declsFrom, Found}
 use Rattle.types.specs.inside.layout.Passes.{Fair}
 use Rattle.types.specs.inside.tables.Lent.{TyFits}
 use Rattle.types.specs.layout.Placing.{isBool}
 use Rattle.types.specs.tables.Lent.{tyOf}
 use Rattle.types.specs.declared.atomics.atomic.Atomic.{Atomic as Kind}
 use Rattle.types.specs.declared.atomics.atomic.Atomic.the-variants.{Bool as BOOL, SInt, Int, DInt, LInt, USInt}
-use Rattle.types.specs.declared.atomics.atomic.Atomic.the-variants.{UInt}
-use Rattle.types.specs.declared.atomics.atomic.Atomic.the-variants.{UDInt}
-use Rattle.types.specs.declared.atomics.atomic.Atomic.the-variants.{ULInt, Real, LReal, Byte, Word, DWord, LWord}
+use Rattle.types.specs.declared.atomics.atomic.Atomic.the-variants.{UInt, UDInt, ULInt, Real, LReal, Byte, Word}
+use Rattle.types.specs.declared.atomics.atomic.Atomic.the-variants.{DWord, LWord}
 use Rattle.types.specs.declared.tables.member.Span.{Span}
 use Rattle.types.specs.declared.tables.member.Ty.{Ty}
 use Rattle.types.specs.declared.tables.member.Ty.the-variants.{Atomic, Struct}
 
 module _ (sizes : ℕ → ℕ) (ty : Ty) (dim : ℕ) (name : Span) (local : Bool) (access : ℕ) where
+  -- a BOOL with dim 0 is stored as it is
   pub one-bool : isBool ty ≡ true → dim ≡ 0
       → plain sizes ty dim name local access ≡ resolved sizes ty dim name local access
   unfolding resolved storedTy storedCount boolArray
   one-bool b e = simp (b, eq-eqb dim 0 e)
 
+  -- a BOOL with dim above 0 is stored as DWORDs, one for every 32 that were begun
   pub bool-array : isBool ty ≡ true → (dim ≡ 0 → ⊥)
       → plain sizes (Atomic DWord) ((dim - 1) / 32 + 1) name local access ≡ resolved sizes ty dim name local access
   unfolding resolved storedTy storedCount boolArray
@@ -39,6 +39,7 @@ module _ (sizes : ℕ → ℕ) (ty : Ty) (dim : ℕ) (name : Span) (local : Bool
       let e : (dim + 31) / 32 ≡ (dim - 1) / 32 + 1 = omega (arith, n) in
       simp (b, ne-eqb dim 0 n, e)
 
+  -- a member of any other type is stored as it is
   pub no-bool : isBool ty ≡ false → plain sizes ty dim name local access ≡ resolved sizes ty dim name local access
   unfolding resolved storedTy storedCount boolArray
   no-bool b = simp b
@@ -52,6 +53,7 @@ decls-cons types book tys at n j l =
     let e : n - j ≡ suc (n - (j + 1)) = omega arith in
     rw e
 
+-- past the last declared member none is left
 pub decls-none : (types book tys : List ℕ) (at n j : ℕ) → n ≤ j → declsFrom types book tys at j (n - j) ≡ []
 unfolding declsFrom
 decls-none types book tys at n j l =
@@ -87,10 +89,12 @@ size-least Word = lit≤ tt
 size-least DWord = lit≤ tt
 size-least LWord = lit≤ tt
 
+-- a type's alignment is from 1 to 4
 pub align-fair : (t : Ty) → (0 < alignIn t) × (alignIn t ≤ 4)
 align-fair (Atomic a) = (omega (arith, size-least a), omega arith)
 align-fair (Struct n) = (omega arith, omega arith)
 
+-- a declared member of a book has an alignment from 1 to 4 and a name of fewer than 256 bytes
 pub decl-fair : (types book tys : List ℕ) (at j : ℕ) → Bytes book → Fair (declAt types book tys at j)
 unfolding declAt resolved
 decl-fair types book tys at j b =
@@ -106,6 +110,7 @@ stored-fits t dim f = go (boolArray t dim)
     go true = tt
     go false = f
 
+-- the type of a declared member whose type was found is an atomic or a structure below 200
 pub decl-ty : (types book tys : List ℕ) (at n j : ℕ) → j < n → Found book tys at n
     → TyFits (declAt types book tys at j .ty)
 unfolding declAt resolved

@@ -12,8 +12,7 @@ use lib.Dec.{eqb, leb}
 use lib.ListN.{length}
 use Rattle.types.specs.adding.Checks.{entryOf}
 use Rattle.types.specs.book.Contents.{typesIn, membersIn, typeEntry, memberEntry, bodiesAt, inBodies, typeOk}
-use Rattle.types.specs.book.Contents.{memberOk}
-use Rattle.types.specs.book.Contents.{listFrom, every, sumCounts, typeEntries, memberEntries, bookOk}
+use Rattle.types.specs.book.Contents.{memberOk, listFrom, every, sumCounts, typeEntries, memberEntries, bookOk}
 use Rattle.types.specs.inside.adding.Checks.{EntriesInside}
 use Rattle.types.specs.rounds.Turns.{firstMember, entriesAt, countOf}
 use Rattle.types.specs.declared.book.contents.MemberEntry.{MemberEntry}
@@ -60,6 +59,7 @@ member-names start end e q =
 
 -- ---- the whole
 
+-- entries and their names lie in the book, and the types' counts sum to the number of its members
 pub record Sound (book : List ℕ) : Type 0 where
   pub room : bodiesAt book ≤ length book
   pub types : (i : ℕ) → i < typesIn book → typeEntry book i .name .at + typeEntry book i .name .long ≤ length book
@@ -69,6 +69,7 @@ pub record Sound (book : List ℕ) : Type 0 where
       → memberEntry book (typesIn book) k .ty .at + memberEntry book (typesIn book) k .ty .long ≤ length book
   pub sums : sumCounts (typeEntries book) ≡ membersIn book
 
+-- a book that is well formed is sound
 pub sound : (book : List ℕ) → bookOk book ≡ true → Sound book
 unfolding bookOk
 sound book q =
@@ -110,10 +111,12 @@ first-next : (book : List ℕ) (i : ℕ) → firstMember book (i + 1) ≡ firstM
 unfolding firstMember sumCounts listFrom
 first-next book i = sum-add book 0 i 1 ∙ rw (zero-add, add-zero)
 
+-- the members of the first type begin right after the type entries
 pub entries-first : (book : List ℕ) → 4 + 16 * typesIn book ≡ entriesAt book 0
 unfolding entriesAt firstMember sumCounts listFrom
 entries-first book = omega arith
 
+-- the members of the next type begin where those of the i-th end
 pub entries-next : (book : List ℕ) (i : ℕ) → entriesAt book i + 16 * countOf book i ≡ entriesAt book (i + 1)
 unfolding entriesAt
 entries-next book i = omega (arith, first-next book i)
@@ -127,6 +130,7 @@ module _ {book : List ℕ} (s : Sound book) {i : ℕ} (l : i < typesIn book) whe
       let e : i + 1 + (t - (i + 1)) ≡ t = omega arith in
       omega (arith, first-next book i, s .sums, rw e at (sum-add book 0 (i + 1) (t - (i + 1))))
 
+  -- the entry of the i-th type lies in the book
   pub type-inside : 20 + 16 * i ≤ length book
   type-inside = omega (arith, s .room)
 
@@ -134,6 +138,7 @@ module _ {book : List ℕ} (s : Sound book) {i : ℕ} (l : i < typesIn book) whe
   unfolding entriesAt
   entry-same k = omega arith
 
+  -- the entries of its members, and their names, lie in the book
   pub entries-inside : EntriesInside book (entriesAt book i) (countOf book i)
   entries-inside =
       record {
@@ -141,6 +146,7 @@ module _ {book : List ℕ} (s : Sound book) {i : ℕ} (l : i < typesIn book) whe
         names = λ k h. rw (entry-same k) (s .names (firstMember book i + k) (omega (arith, among-all)));
       }
 
+  -- the names of its members' types lie in the book
   pub entries-uses : (k : ℕ) → k < countOf book i
       → entryOf book (entriesAt book i) k .ty .at + entryOf book (entriesAt book i) k .ty .long ≤ length book
   entries-uses k h = rw (entry-same k) (s .uses (firstMember book i + k) (omega (arith, among-all)))

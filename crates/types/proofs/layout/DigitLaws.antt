@@ -13,13 +13,16 @@ use Rattle.types.specs.inside.layout.HostNames.{Spelled, TwoDigits}
 use Rattle.types.specs.layout.HostNames.{digitsIn, digits, tenZ, hostName, bitHost, bitHostName}
 use Rattle.types.specs.declared.layout.host_names.Digits.{Digits}
 
+-- the byte of a number's last digit
 abbrev pub digitOf : ℕ → ℕ
 digitOf x = 48 + x % 10
 
+-- the digits of a number from 10 on are those of its tenth, then its last
 pub more : (n x : ℕ) → 10 ≤ x → digitsIn (suc n) x ≡ digitsIn n (x / 10) ++ (digitOf x ∷ [])
 unfolding digitsIn
 more n x h = simp (le-ltb x 10 h)
 
+-- a number below 10 has one digit, however many are allowed
 pub one : (n x : ℕ) → x < 10 → digitsIn (suc n) x ≡ digitOf x ∷ []
 unfolding digitsIn
 one n x h =
@@ -63,28 +66,34 @@ six n x h k =
     more (suc (suc (suc (suc (suc n))))) x (omega arith) ∙ rw (five n (x / 10) (omega arith) (omega arith), e, f, g, i)
 
 module _ (x : ℕ) where
+  -- the one digit of a number below 10
   pub digits-1 : x < 10 → digitOf x ∷ [] ≡ digits x
   unfolding digits
   digits-1 h = sym (one 19 x h)
 
+  -- the two digits of a number from 10 to 99
   pub digits-2 : 10 ≤ x → x < 100 → digitOf (x / 10) ∷ digitOf x ∷ [] ≡ digits x
   unfolding digits
   digits-2 h k = sym (two 18 x h k)
 
+  -- the three digits of a number from 100 to 999
   pub digits-3 : 100 ≤ x → x < 1000 → digitOf (x / 100) ∷ digitOf (x / 10) ∷ digitOf x ∷ [] ≡ digits x
   unfolding digits
   digits-3 h k = sym (three 17 x h k)
 
+  -- the four digits of a number from 1,000 to 9,999
   pub digits-4 : 1000 ≤ x → x < 10000
       → digitOf (x / 1000) ∷ digitOf (x / 100) ∷ digitOf (x / 10) ∷ digitOf x ∷ [] ≡ digits x
   unfolding digits
   digits-4 h k = sym (four 16 x h k)
 
+  -- the five digits of a number from 10,000 to 99,999
   pub digits-5 : 10000 ≤ x → x < 100000
       → digitOf (x / 10000) ∷ digitOf (x / 1000) ∷ digitOf (x / 100) ∷ digitOf (x / 10) ∷ digitOf x ∷ [] ≡ digits x
   unfolding digits
   digits-5 h k = sym (five 15 x h k)
 
+  -- the six digits of a number from 100,000 to 999,999
   pub digits-6 : 100000 ≤ x → x < 1000000
       → digitOf (x / 100000) ∷ digitOf (x / 10000) ∷ digitOf (x / 1000) ∷ digitOf (x / 100) ∷ digitOf (x / 10) ∷
       digitOf x ∷ []
@@ -98,6 +107,7 @@ module _ (name : List ℕ) (k n : ℕ) (d : Digits) (s : Spelled k d) (e : n ≡
   spelled-long : length (digits k) ≡ d .long
   spelled-long = ap length (sym (s .is)) ∙ length-take-le (d .long) (d .bytes) (s .room)
 
+  -- a host's name has ten bytes, those of the type name that are taken, and its digits
   pub host-long : 10 + n + d .long ≡ length (hostName name k)
   unfolding hostName
   host-long = simp (length-append, length-take, spelled-long) (omega arith)
@@ -114,6 +124,7 @@ module _ (name : List ℕ) (k n : ℕ) (d : Digits) (s : Spelled k d) (e : n ≡
       (sym (sets-append t at tenZ (take 10 name ++ digits k)
       ∙ sets-append (sets t at tenZ) (at + 10) (take 10 name) (digits k) ∙ rw g))
 
+-- there are at most as many digits as are allowed
 pub digits-most : (n x : ℕ) → length (digitsIn n x) ≤ n
 unfolding digitsIn
 digits-most zero x = omega arith
@@ -133,12 +144,14 @@ host-most name k = simp (length-append, length-take) (omega (arith, digits-most 
 -- ---- an AOI's hosts
 
 module _ (x : ℕ) where
+  -- below 10 the name of an AOI's host ends in 0 and the digit
   pub host-short : x < 10 → bitHost ++ (48 ∷ digitOf x ∷ []) ≡ bitHostName x
   unfolding bitHostName
   host-short h =
       let e : x % 10 ≡ x = omega arith in
       simp (lt-ltb x 10 h, e)
 
+  -- from 10 on the name of an AOI's host ends in the number's digits
   pub host-digits : 10 ≤ x → bitHost ++ digits x ≡ bitHostName x
   unfolding bitHostName
   host-digits h = simp (le-ltb x 10 h)
@@ -147,6 +160,7 @@ module _ (i : ℕ) (d : Digits) (s : TwoDigits i d) where
   tail-long : length (take (d .long) (d .bytes)) ≡ d .long
   tail-long = length-take-le (d .long) (d .bytes) (s .room)
 
+  -- the name of an AOI's host has nine bytes and its digits
   pub bit-host-long : 9 + d .long ≡ length (bitHostName i)
   bit-host-long = rw (← s .is) (simp length-append (omega (arith, tail-long)))
 

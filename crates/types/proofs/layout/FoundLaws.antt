@@ -20,6 +20,7 @@ use Rattle.types.specs.declared.tables.member.Ty.{Ty}
 use Rattle.types.specs.declared.tables.member.Ty.the-variants.{Atomic}
 use Rattle.types.proofs.book.DeclLaws.{align-fair}
 
+-- what is stored for an earlier type is of an earlier type
 pub stored-earlier : (i : ℕ) (t : Ty) (dim : ℕ) → Earlier i t → Earlier i (storedTy t dim)
 unfolding storedTy
 stored-earlier i t dim e = go (boolArray t dim)
@@ -29,6 +30,7 @@ stored-earlier i t dim e = go (boolArray t dim)
     go false = e
 
 module _ (types book tys : List ℕ) (at i : ℕ) where
+  -- a declared member of an earlier type is stored as an earlier type, with its size and an alignment above 0
   pub decl-resolved : (j : ℕ) → Earlier i (tyOf (getD tys j 0)) → Resolved (sizesIn types) i
       (declAt types book tys at j)
   unfolding declAt resolved

@@ -70,6 +70,7 @@ module _ (sizes : ℕ → ℕ) (limit i : ℕ) (c : Cursor) (ds : List Decl) whe
     pub earlier : Earlier i (h .ty)
     pub inside : pastBit sizes h ≤ 8 * c′ .offset
 
+  -- what a step places is placed so, its host too; nothing is asked of a refused step
   abbrev pub Stepped : Placed → Type 0
   Stepped (Hosted h m c′) = HostStep h c′ × Step m c′
   Stepped (One m c′) = Step m c′

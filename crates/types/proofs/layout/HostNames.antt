@@ -8,12 +8,11 @@ use mathlib.Core.List.{List, [], _∷_, _++_}
 use borrow.Author.Tests.{ne-eqb, ltb-true}
 use lib.Dec.{ltb}
 use lib.ListN.{take, length-append}
-use Rattle.words.proofs.TestLaws.{and-left, and-right}
+use Rattle.words.proofs.TestLaws.{and-left, and-right, either}
 use Rattle.types.specs.book.Names.{nameByte, nameBytes, goodName}
 use Rattle.types.specs.layout.HostNames.{digitsIn, digits, tenZ, hostName, bitHost, bitHostName}
 use Rattle.types.proofs.book.NameLaws.{byte-within, name-rule, rule-good}
 use Rattle.types.proofs.layout.DigitLaws.{digits-most, host-most}
-use Rattle.types.proofs.rounds.RoundLaws.{either}
 
 bytes-append : (s t : List ℕ) → nameBytes s ≡ true → nameBytes t ≡ true → nameBytes (s ++ t) ≡ true
 unfolding nameBytes
@@ -41,7 +40,7 @@ digits-bytes : (n x : ℕ) → nameBytes (digitsIn n x) ≡ true
 unfolding digitsIn nameBytes
 digits-bytes zero x = refl
 digits-bytes (suc n) x =
-    either (λ s. nameBytes s ≡ true) (ltb x 10) _ _
+    either (λ s. nameBytes s ≡ true) (ltb x 10)
     (λ q. one-byte (48 + x) (digit-byte x (ltb-true _ _ q)))
     (λ q. bytes-append (digitsIn n (x / 10)) _ (digits-bytes n (x / 10))
     (one-byte (48 + x % 10) (digit-byte (x % 10) (omega arith))))
@@ -65,7 +64,7 @@ host-good name k g =
 pub bit-host-good : (i : ℕ) → goodName (bitHostName i) ≡ true
 unfolding bitHostName digits nameByte nameBytes
 bit-host-good i =
-    either (λ s. goodName (bitHost ++ s) ≡ true) (ltb i 10) _ _
+    either (λ s. goodName (bitHost ++ s) ≡ true) (ltb i 10)
     (λ q. rule-good (bitHost ++ 48 ∷ (48 + i) ∷ [])
     (record {
       least = omega arith;

@@ -10,17 +10,15 @@ use mathlib.Core.Logic.{inl, inr}
 use lib.ListN.{length, getD, drop}
 use Rattle.types.specs.atomics.Atomic.{sizeOf}
 use Rattle.types.specs.inside.layout.Passes.{thenParts, partsFrom, measured, udtParts, aoiParts, partsOf}
-use Rattle.types.specs.inside.layout.Passes.{measuredAoi}
-use Rattle.types.specs.inside.layout.Passes.{measuredOf}
+use Rattle.types.specs.inside.layout.Passes.{measuredAoi, measuredOf}
 use Rattle.types.specs.layout.HostNames.{hostName}
 use Rattle.types.specs.layout.Laid.{firstBit, pastBit, Apart, Clear, Plain, Rising, Lies, Laid, Resolved, Every}
 use Rattle.types.specs.layout.Placing.{times, alignUp, placed}
-use Rattle.types.specs.layout.Structs.{named, roundedSize, udtStart}
-use Rattle.types.specs.layout.Structs.{bools, aoiHosts, bitHostAt, hostParts, enableAt, enableOut, aoiStart}
-use Rattle.types.specs.layout.Structs.{stringParts, stringSize, dataOf, dintAt, statusAt, statusParts, ctlAt}
-use Rattle.types.specs.layout.Structs.{controlParts}
+use Rattle.types.specs.layout.Structs.{named, roundedSize, udtStart, bools, aoiHosts, bitHostAt, hostParts}
+use Rattle.types.specs.layout.Structs.{enableAt, enableOut, aoiStart, stringParts, stringSize, dataOf, dintAt}
+use Rattle.types.specs.layout.Structs.{statusAt, statusParts, ctlAt, controlParts}
 use Rattle.types.specs.tables.Defs.{Part}
-use Rattle.types.specs.declared.layout.measure.Measured.the-variants.{Laid as Ended}
+use Rattle.types.specs.declared.layout.measure.Measured.the-variants.{Came}
 use Rattle.types.specs.declared.layout.placing.Cursor.{Cursor}
 use Rattle.types.specs.declared.layout.placing.Decl.{Decl}
 use Rattle.types.specs.declared.layout.placing.Placed.{Placed}
@@ -104,7 +102,7 @@ module _ (sizes : ℕ → ℕ) (limit i size : ℕ) (name : Decl → List ℕ) (
   -- where the layout of these members ends at e, it is as said
   abbrev Goes : List Decl → Type 0
   Goes ds =
-      (c : Cursor) (n₀ : ℕ) → Ready limit c ds → measured host c n₀ ds ≡ Ended e n
+      (c : Cursor) (n₀ : ℕ) → Ready limit c ds → measured host c n₀ ds ≡ Came e n
       → Rest sizes limit i size c (partsFrom name host c ds)
 
   rest-then : (c : Cursor) (d : Decl) (n₀ : ℕ) (ds : List Decl) → Goes ds → (p : Placed) → Stepped sizes limit i c ds p
@@ -133,11 +131,12 @@ module _ (sizes : ℕ → ℕ) (i : ℕ) where
   -- ---- UDT
 
   udt-laid : (name : Decl → List ℕ) (type : List ℕ) (ds : List Decl) (n₀ : ℕ) (c : Cursor) (n : ℕ)
-      → Every (Resolved sizes i) ds → measured (hostName type) udtStart n₀ ds ≡ Ended c n
+      → Every (Resolved sizes i) ds → measured (hostName type) udtStart n₀ ds ≡ Came c n
       → Laid sizes i (roundedSize c) (udtParts name type ds)
   unfolding udtParts
   udt-laid name type ds n₀ c n rs q =
-      rest sizes (bools ds) i (roundedSize c) name (hostName type) c n ds rs (size-room c) udtStart n₀ (omega arith) q .laid
+      rest sizes (bools ds) i (roundedSize c) name (hostName type) c n ds rs (size-room c) udtStart n₀
+      (omega arith) q .laid
 
   -- ---- AOI
 
@@ -159,13 +158,14 @@ module _ (sizes : ℕ → ℕ) (i : ℕ) where
 
   -- EnableIn and EnableOut have bits 0 and 1, and all BOOLs to come fit into the hosts
   aoi-laid : (name : Decl → List ℕ) (type : List ℕ) (ds : List Decl) (n₀ : ℕ) (c : Cursor) (n : ℕ)
-      → Every (Resolved sizes i) ds → measured (hostName type) (aoiStart (aoiHosts ds)) n₀ ds ≡ Ended c n
+      → Every (Resolved sizes i) ds → measured (hostName type) (aoiStart (aoiHosts ds)) n₀ ds ≡ Came c n
       → Laid sizes i (roundedSize c) (aoiParts name type ds)
   unfolding aoiParts aoiHosts Laid Clear
   aoi-laid name type ds n₀ c n rs q =
       let h = aoiHosts ds in
       let start = aoiStart h in
-      let r = rest sizes (32 * h) i (roundedSize c) name (hostName type) c n ds rs (size-room c) start n₀ (omega arith) q in
+      let r = rest sizes (32 * h) i (roundedSize c) name (hostName type) c n ds rs (size-room c) start n₀
+      (omega arith) q in
       let room : 4 * h ≤ roundedSize c = r .room in
       let others = partsFrom name (hostName type) start ds in
       let clear : (bit : ℕ) → bit < 2 → Clear sizes (enableAt bit) others =
@@ -181,8 +181,9 @@ module _ (sizes : ℕ → ℕ) (i : ℕ) where
       hosts-laid (roundedSize c) 0 h _ (omega arith)
       (record { earlier = tt; inside = omega arith; clear = apart; rising = unordered 0 _ }, out)
 
+  -- the parts of a UDT or an AOI that was measured to its end are laid out well
   pub type-laid : (aoi : Bool) (name : Decl → List ℕ) (type : List ℕ) (ds : List Decl) (c : Cursor) (n : ℕ)
-      → Every (Resolved sizes i) ds → measuredOf aoi type ds ≡ Ended c n
+      → Every (Resolved sizes i) ds → measuredOf aoi type ds ≡ Came c n
       → Laid sizes i (roundedSize c) (partsOf aoi name type ds)
   unfolding measuredAoi
   type-laid true name type ds c n rs q = aoi-laid name type ds _ c n rs q
@@ -190,6 +191,7 @@ module _ (sizes : ℕ → ℕ) (i : ℕ) where
 
   -- ---- strings
 
+  -- the parts of a string with a capacity above 0 are laid out well
   pub string-laid : (c : ℕ) → 0 < c → Laid sizes i (stringSize c) (stringParts c)
   unfolding stringParts stringSize alignUp Laid Clear Rising sizeOf
   string-laid c l =
@@ -267,6 +269,7 @@ module _ (sizes : ℕ → ℕ) (i : ℕ) where
 -- ---- parts by their numbers
 
 module _ (sizes : ℕ → ℕ) (i size : ℕ) (x : Part) where
+  -- the k-th of parts that are laid out well lies as it should before those after it
   pub part-lies : (ps : List Part) (k : ℕ) → Laid sizes i size ps → k < length ps
       → Lies sizes i size (getD ps k x .member) (drop (suc k) ps)
   unfolding Laid

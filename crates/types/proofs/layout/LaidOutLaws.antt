@@ -6,16 +6,15 @@ use mathlib.Core.Bool.{Bool, true, false}
 use mathlib.Core.List.{List, [], _∷_, _++_}
 use lib.ListN.{length}
 use Rattle.types.specs.inside.layout.Passes.{thenParts, partsFrom, thenMeasure, measured, udtParts, aoiParts}
-use Rattle.types.specs.inside.layout.Passes.{partsOf}
-use Rattle.types.specs.inside.layout.Passes.{measuredAoi, measuredOf}
+use Rattle.types.specs.inside.layout.Passes.{partsOf, measuredAoi, measuredOf}
 use Rattle.types.specs.layout.HostNames.{hostName}
 use Rattle.types.specs.layout.Placing.{placed}
 use Rattle.types.specs.layout.Structs.{namesOf, named, LaidOut, laid, stopped, after, thenLaid, layoutFrom}
-use Rattle.types.specs.layout.Structs.{udtStart, udtLayout}
-use Rattle.types.specs.layout.Structs.{aoiHosts, hostParts, aoiStart, enableParts, aoiLayout, layoutOf}
+use Rattle.types.specs.layout.Structs.{udtStart, udtLayout, aoiHosts, hostParts, aoiStart, enableParts, aoiLayout}
+use Rattle.types.specs.layout.Structs.{layoutOf}
 use Rattle.types.specs.tables.Defs.{Part}
 use Rattle.types.specs.declared.layout.measure.Measured.{Measured}
-use Rattle.types.specs.declared.layout.measure.Measured.the-variants.{Laid, AccessWrong as accessWrong}
+use Rattle.types.specs.declared.layout.measure.Measured.the-variants.{Came, AccessWrong as accessWrong}
 use Rattle.types.specs.declared.layout.measure.Measured.the-variants.{TooFar as tooFar}
 use Rattle.types.specs.declared.layout.placing.Cursor.{Cursor}
 use Rattle.types.specs.declared.layout.placing.Decl.{Decl}
@@ -24,12 +23,12 @@ use Rattle.types.specs.declared.layout.placing.Placed.the-variants.{Host
 
 -- parts, and how far they come, as one
 abbrev pub both : List Part → Measured → LaidOut
-both parts (Laid c n) = laid parts c
+both parts (Came c n) = laid parts c
 both parts accessWrong = stopped 11
 both parts tooFar = stopped 12
 
 after-both : (ps qs : List Part) (m : Measured) → after ps (both qs m) ≡ both (ps ++ qs) m
-after-both ps qs (Laid c n) = refl
+after-both ps qs (Came c n) = refl
 after-both ps qs accessWrong = refl
 after-both ps qs tooFar = refl
 
@@ -58,6 +57,7 @@ module _ (name : Decl → List ℕ) (host : ℕ → List ℕ) where
       go AccessWrong rest = refl
       go TooFar rest = refl
 
+-- the layout of a UDT or an AOI is its parts, and how far they come, as one
 pub laid-passes : (aoi : Bool) (name : Decl → List ℕ) (type : List ℕ) (ds : List Decl)
     → layoutOf aoi name type ds ≡ both (partsOf aoi name type ds) (measuredOf aoi type ds)
 unfolding aoiLayout aoiParts measuredAoi udtLayout udtParts

@@ -10,13 +10,14 @@ use Rattle.types.specs.inside.layout.Passes.{measureOne, measured, Far, 
 use Rattle.types.specs.layout.HostNames.{hostName}
 use Rattle.types.specs.layout.Structs.{udtStart, aoiStart}
 use Rattle.types.specs.declared.layout.measure.Measured.{Measured}
-use Rattle.types.specs.declared.layout.measure.Measured.the-variants.{Laid, AccessWrong, TooFar}
+use Rattle.types.specs.declared.layout.measure.Measured.the-variants.{Came, AccessWrong, TooFar}
 use Rattle.types.specs.declared.layout.placing.Cursor.{Cursor}
 use Rattle.types.proofs.book.DeclLaws.{decls-cons, decls-none, found-first, decl-fair}
 use Rattle.types.proofs.layout.DigitLaws.{host-most}
 use Rattle.types.proofs.layout.MeasureLaws.{measured-on, measured-access, measured-far, measured-done, far-on}
 use Rattle.types.proofs.layout.MeasureLaws.{near}
 
+-- the whole measures as the members from the j-th on do from this cursor, which is not too far
 pub record Measuring (types book tys name : List ℕ) (at n : ℕ) (c₀ : Cursor) (n₀ : ℕ) (c : Cursor) (names j : ℕ) :
     Type 0 where
   pub passed : ℕ
@@ -27,6 +28,7 @@ pub record Measuring (types book tys name : List ℕ) (at n : ℕ) (c₀ : Curso
   pub same : measured (hostName name) c₀ n₀ (declsFrom types book tys at 0 n)
       ≡ measured (hostName name) c names (declsFrom types book tys at j (n - j))
 
+-- it is so before the first member, where all can be measured
 pub starts : (types book tys name : List ℕ) (at n : ℕ) (c : Cursor) (names : ℕ) → Measurable book tys at n c names
     → Measuring types book tys name at n c names c names 0
 starts types book tys name at n c names m =
@@ -41,13 +43,16 @@ starts types book tys name at n c names m =
 
 module _ {types book tys name : List ℕ} {at n n₀ names j : ℕ} {c₀ c : Cursor}
     (m : Measuring types book tys name at n c₀ n₀ c names j) where
-  pub all-done : n ≤ j → Laid c names ≡ measured (hostName name) c₀ n₀ (declsFrom types book tys at 0 n)
+  -- after the last member the cursor and the bytes of names are what the whole measures
+  pub all-done : n ≤ j → Came c names ≡ measured (hostName name) c₀ n₀ (declsFrom types book tys at 0 n)
   all-done l = sym (rw (decls-none types book tys at n j l) at (m .same) ∙ sym (measured-done (hostName name) c names))
 
   module _ (l : j < n) (b : Bytes book) where
+    -- a step at the j-th member keeps inside 32 bits
     pub one-near : Near c names (declAt types book tys at j)
     one-near = near (m .passed + j) c names _ (omega (arith, m .few)) (m .far) (decl-fair types book tys at j b)
 
+    -- the first j + 1 members were found
     pub one-found : Found book tys at (j + 1)
     one-found = found-first (j + 1) (omega arith) (m .found)
 
@@ -58,14 +63,17 @@ module _ {types book tys name : List ℕ} {at n n₀ names j : ℕ} {c₀ c : Cu
     split = m .same ∙ ap (measured (hostName name) c names) (decls-cons types book tys at n j l)
 
     module _ (one : Measured) (e : one ≡ measureOne (hostName name) c names (declAt types book tys at j)) where
+      -- where the access of the j-th member is wrong, the whole is refused so
       pub refused-access : one ≡ AccessWrong
           → AccessWrong ≡ measured (hostName name) c₀ n₀ (declsFrom types book tys at 0 n)
       refused-access q = sym (split ∙ measured-access (hostName name) c names _ _ (sym e ∙ q))
 
+      -- where the j-th member ends too far, the whole is refused so
       pub refused-far : one ≡ TooFar → TooFar ≡ measured (hostName name) c₀ n₀ (declsFrom types book tys at 0 n)
       refused-far q = sym (split ∙ measured-far (hostName name) c names _ _ (sym e ∙ q))
 
-      pub goes-on : {c′ : Cursor} {n′ : ℕ} → one ≡ Laid c′ n′
+      -- where the j-th member is measured, it is so at the next
+      pub goes-on : {c′ : Cursor} {n′ : ℕ} → one ≡ Came c′ n′
           → Measuring types book tys name at n c₀ n₀ c′ n′ (j + 1)
       goes-on {c′} {n′} q =
           let f : m .passed + j + 1 ≡ m .passed + (j + 1) = omega arith in
@@ -89,6 +97,7 @@ from-start f l =
       far = record { offset = omega arith; members = omega arith; bits = omega arith; names = omega arith };
     }
 
+-- up to 65,536 members can be measured after the hosts, EnableIn and EnableOut of an AOI
 pub from-hosts : {book tys : List ℕ} {at n h long : ℕ} → Found book tys at n → n ≤ 65536 → h ≤ 2050 → long ≤ 15 * h
     → Measurable book tys at n (aoiStart h) (long + 17)
 from-hosts f l k m =

@@ -15,9 +15,8 @@ use Rattle.types.specs.inside.layout.Passes.{thenParts, partsFrom, udtPa
 use Rattle.types.specs.layout.HostNames.{hostName}
 use Rattle.types.specs.layout.Laid.{Every}
 use Rattle.types.specs.layout.Placing.{isBool, opened, nextBit}
-use Rattle.types.specs.layout.Structs.{namedIn, hostParts, aoiHosts, aoiStart, udtStart}
-use Rattle.types.specs.layout.Structs.{stringParts, statusParts, controlParts}
-use Rattle.types.specs.layout.Structs.{bitHostAt, enableAt, dintAt, dataOf, statusAt, ctlAt}
+use Rattle.types.specs.layout.Structs.{namedIn, hostParts, aoiHosts, aoiStart, udtStart, stringParts, statusParts}
+use Rattle.types.specs.layout.Structs.{controlParts, bitHostAt, enableAt, dintAt, dataOf, statusAt, ctlAt}
 use Rattle.types.specs.tables.Defs.{Part, nameIn}
 use Rattle.types.specs.declared.adding.checks.Checked.{Checked}
 use Rattle.types.specs.declared.adding.checks.Checked.the-variants.{Good, NameWrong, Twice, LocalOutside}
@@ -39,6 +38,7 @@ pub record BoolBit (m : Member) : Type 0 where
   pub bit : m .bit ≡ At at
   pub count : m .count ≡ 0
 
+-- a BOOL has a bit and count 0, any other member no bit; a hidden one has access 0 and is not local
 pub record Formed (m : Member) : Type 0 where
   pub bool : isBool (m .ty) ≡ true → BoolBit m
   pub other : isBool (m .ty) ≡ false → m .bit ≡ None
@@ -73,6 +73,7 @@ host-formed m e b a l = record { bool = λ q. clash q e; other = λ q. b; hidden
 abbrev pub NamedDecls : List ℕ → List Decl → Type 0
 NamedDecls book ds = Every (λ (d : Decl). goodName (namedIn book d) ≡ true) ds
 
+-- entries of a book whose names follow the rule
 abbrev pub NamedEntries : List ℕ → List MemberEntry → Type 0
 NamedEntries book es = Every (λ (e : MemberEntry). goodName (nameIn book (e .name)) ≡ true) es
 

@@ -9,11 +9,11 @@ use lib.Dec.{leb, ltb}
 use lib.ListN.{length}
 use Rattle.types.specs.inside.layout.Passes.{thenMeasure, measured}
 use Rattle.types.specs.inside.layout.Placing.{InUdt, Shut}
-use Rattle.types.specs.layout.Placing.{most, accessOk, isBool, otherAt, opened, nextBit, placeBool, closed}
+use Rattle.types.specs.layout.Placing.{mostSize, accessOk, isBool, otherAt, opened, nextBit, placeBool, closed}
 use Rattle.types.specs.layout.Placing.{times, memberEnd, startOf, onEnd, placeOther, placed}
 use Rattle.types.specs.layout.Structs.{udtStart}
 use Rattle.types.specs.refusals.Said.{done, refused}
-use Rattle.types.specs.declared.layout.measure.Measured.the-variants.{Laid, AccessWrong as accessWrong}
+use Rattle.types.specs.declared.layout.measure.Measured.the-variants.{Came, AccessWrong as accessWrong}
 use Rattle.types.specs.declared.layout.measure.Measured.the-variants.{TooFar as tooFar}
 use Rattle.types.specs.declared.layout.placing.Cursor.{Cursor}
 use Rattle.types.specs.declared.layout.placing.Decl.{Decl}
@@ -34,6 +34,7 @@ Full (Shared i) = ⊥
 unfoldable pub endOf : Cursor → Decl → ℕ
 endOf c d = startOf c d + d .size * times (d .count)
 
+-- the cursor after any other member: at its end, with the host closed and one member more
 abbrev pub pastOther : Cursor → Decl → Cursor
 pastOther c d = record { offset = endOf c d; host = closed (c .host); members = c .members + 1 }
 
@@ -45,8 +46,8 @@ pub record Ways (P : Placed → Type 0) (c : Cursor) (d : Decl) : Type 0 where
       → P (nextBit c d byte bit (Open byte (bit + 1)))
   pub shared : isBool (d .ty) ≡ true → (i : ℕ) → c .host ≡ Shared i
       → P (nextBit c d (4 * (i / 32) + i % 32 / 8) (i % 8) (Shared (i + 1)))
-  pub other : isBool (d .ty) ≡ false → endOf c d ≤ most → P (One (otherAt d (startOf c d)) (pastOther c d))
-  pub far : isBool (d .ty) ≡ false → most < endOf c d → P TooFar
+  pub other : isBool (d .ty) ≡ false → endOf c d ≤ mostSize → P (One (otherAt d (startOf c d)) (pastOther c d))
+  pub far : isBool (d .ty) ≡ false → mostSize < endOf c d → P TooFar
 
 -- what holds of both answers of a test holds of the picked one
 either : (P : Placed → Type 0) (t : Bool) (x y : Placed) → (t ≡ true → P x) → (t ≡ false → P y) → P (cond t x y)
@@ -65,9 +66,9 @@ module _ (P : Placed → Type 0) (c : Cursor) (d : Decl) (w : Ways P c d) where
 
   other-cases : isBool (d .ty) ≡ false → P (placeOther c d)
   unfolding placeOther memberEnd endOf
-  other-cases b = go (leb (endOf c d) most) refl
+  other-cases b = go (leb (endOf c d) mostSize) refl
     where
-      go : (t : Bool) → leb (endOf c d) most ≡ t
+      go : (t : Bool) → leb (endOf c d) mostSize ≡ t
           → P (onEnd (cond t (done (endOf c d)) (refused 12 0)) (λ e. One (otherAt d (startOf c d))
           (record { offset = e; host = closed (c .host); members = c .members + 1 })))
       go true q = w .other b (leb-true _ _ q)
@@ -87,14 +88,16 @@ module _ (host : ℕ → List ℕ) (e : Cursor) (n′ : ℕ) where
   -- a layout that goes on from a step ends at e, with so many bytes of names
   abbrev pub Ends : Cursor → ℕ → Decl → List Decl → Placed → Type 0
   Ends c n d ds p =
-      thenMeasure p (length (host (c .members))) (d .name .long) n (λ c′ k. measured host c′ k ds) ≡ Laid e n′
+      thenMeasure p (length (host (c .members))) (d .name .long) n (λ c′ k. measured host c′ k ds) ≡ Came e n′
 
 -- a refused layout ends nowhere
 module _ {A : Type 0} {c : Cursor} {n : ℕ} where
-  pub no-access : accessWrong ≡ Laid c n → A
+  -- no layout with a wrong access comes to an end
+  pub no-access : accessWrong ≡ Came c n → A
   no-access q = let z : true ≡ false = cc in absurd (true≢false z)
 
-  pub no-far : tooFar ≡ Laid c n → A
+  -- no layout with a member too far comes to an end
+  pub no-far : tooFar ≡ Came c n → A
   no-far q = let z : true ≡ false = cc in absurd (true≢false z)
 
 -- ---- in a UDT no host stays open across another member
@@ -124,7 +127,7 @@ host-closed c d m c′ u b =
     })
 
 module _ (host : ℕ → List ℕ) (e : Cursor) (n′ : ℕ) where
-  stays-udt : (c : Cursor) (n : ℕ) (ds : List Decl) → InUdt (c .host) → measured host c n ds ≡ Laid e n′
+  stays-udt : (c : Cursor) (n : ℕ) (ds : List Decl) → InUdt (c .host) → measured host c n ds ≡ Came e n′
       → InUdt (e .host)
   unfolding measured opened nextBit
   stays-udt c n [] u q = let z : c ≡ e = cc in rw (← z) u
@@ -142,5 +145,5 @@ module _ (host : ℕ → List ℕ) (e : Cursor) (n′ : ℕ) where
 
   -- so it is after any members of a UDT
   pub udt-shut : (n₀ : ℕ) (ds : List Decl) (d : Decl) (m : Member) (c′ : Cursor)
-      → measured host udtStart n₀ ds ≡ Laid e n′ → isBool (d .ty) ≡ false → placed e d ≡ One m c′ → Shut c′
+      → measured host udtStart n₀ ds ≡ Came e n′ → isBool (d .ty) ≡ false → placed e d ≡ One m c′ → Shut c′
   udt-shut n₀ ds d m c′ q b p = host-closed e d m c′ (stays-udt udtStart n₀ ds tt q) b p

@@ -1,31 +1,27 @@
--- Laws of the predefined types (document 01, "Layout", Predefined; "Order of building"): the tests of their ids, their
--- parts can be stored and read back, each is added to the earlier ones, and the tables show all four.
+-- Laws of the predefined types (document 01, "Layout", Predefined; "Order of building"): their parts can be stored and
+-- read back, each is added to the earlier ones, and the tables show all four.
 use Prim.Native.Nat.{ℕ, _+_, _/_, _<_, _≤_}
 use native.Mathlib.Omega.{arith}
 use mathlib.Core.Path.{_≡_, refl}
-use mathlib.Core.Bool.{true, false, not, and-eq-true-iff}
+use mathlib.Core.Bool.{true}
 use mathlib.Core.List.{List, [], _∷_, _++_}
-use borrow.Author.Tests.{le-leb, lt-leb, leb-true, eq-eqb, ne-eqb}
-use lib.Dec.{eqb, leb}
 use lib.ListN.{length}
 use Rattle.words.specs.Words.{part}
 use Rattle.types.specs.adding.Add.{yes, newDef}
 use Rattle.types.specs.inside.adding.Add.{Took, Ready}
 use Rattle.types.specs.inside.layout.Predefined.{ControlReady}
 use Rattle.types.specs.inside.layout.Structs.{controlOf, pairs}
-use Rattle.types.specs.inside.tables.Registry.{viewIn}
-use Rattle.types.specs.inside.tables.Registry.{Stands}
+use Rattle.types.specs.inside.tables.Registry.{viewIn, Stands}
 use Rattle.types.specs.layout.Laid.{Every}
-use Rattle.types.specs.layout.Predefined.{predefinedId, distinct, predefinedIds, withOne}
-use Rattle.types.specs.layout.Predefined.{withTimer, withCounter, withControl, predefined}
-use Rattle.types.specs.layout.Predefined.{timerName, counterName, controlName, stringName}
-use Rattle.types.specs.layout.Structs.{namesOf, statusParts, controlParts, stringParts, stringSize}
-use Rattle.types.specs.layout.Structs.{timerParts, counterParts, controlTypeParts}
+use Rattle.types.specs.layout.Predefined.{predefinedId, predefinedIds, withOne, withTimer, withCounter}
+use Rattle.types.specs.layout.Predefined.{withControl, predefined, timerName, counterName, controlName}
+use Rattle.types.specs.layout.Predefined.{stringName}
+use Rattle.types.specs.layout.Structs.{namesOf, statusParts, controlParts, stringParts, stringSize, timerParts}
+use Rattle.types.specs.layout.Structs.{counterParts, controlTypeParts}
 use Rattle.types.specs.tables.Defs.{Part, Def}
-use Rattle.types.specs.tables.Registry.{viewOf, membersOf, nameBytesOf}
-use Rattle.types.specs.tables.Registry.{noTypes, noMembers, noNames, typeRows, memberRows}
-use Rattle.types.specs.tables.Registry.{typesTable, membersTable, namesTable}
-use Rattle.types.specs.templates.Template.{userId}
+use Rattle.types.specs.tables.Limits.{mostTypes, mostMembers, mostNames}
+use Rattle.types.specs.tables.Registry.{viewOf, membersOf, nameBytesOf, noTypes, noMembers, noNames, typeRows}
+use Rattle.types.specs.tables.Registry.{memberRows, typesTable, membersTable, namesTable}
 use Rattle.types.specs.declared.adding.progress.Progress.the-variants.{Added}
 use Rattle.types.specs.declared.adding.used.Used.{Used}
 use Rattle.types.specs.declared.layout.predefined.PredefinedIds.{PredefinedIds}
@@ -33,118 +29,13 @@ use Rattle.types.specs.declared.tables.member.StructKind.{StructKind}
 use Rattle.types.specs.declared.tables.member.StructKind.the-variants.{Predefined, Str}
 use Rattle.types.proofs.adding.AddLaidLaws.{string-counted}
 use Rattle.types.proofs.adding.AddStoreLaws.{Counted}
+use Rattle.types.proofs.layout.PredefinedIds.{Allowed, Id, ids-allowed, id-within}
 use Rattle.types.proofs.tables.DefLaws.{PartFits}
 use Rattle.types.proofs.tables.RegistryLaws.{length-snoc, members-of-snoc, long-snoc, members-long, names-long}
 use Rattle.types.proofs.tables.RegistryLaws.{stands-more}
 use Rattle.types.proofs.tables.ShownLaws.{Shown, Fits, shown-none, shown-more, view-same, names-inside}
 use Rattle.types.proofs.tables.ShownLaws.{ids-small}
 use Rattle.types.proofs.templates.HandleLaws.{handle-small}
-
--- ---- the ids, one test after the other
-
-module _ (id : ℕ) where
-  pub id-zero : id < 1 → false ≡ predefinedId id
-  unfolding predefinedId
-  id-zero l = simp (lt-leb _ _ l)
-
-  module _ (p : 1 ≤ id) where
-    pub id-large : 0xFFF < id → false ≡ predefinedId id
-    unfolding predefinedId
-    id-large l = simp (le-leb _ _ p, lt-leb _ _ l)
-
-    module _ (q : id ≤ 0xFFF) where
-      pub id-low : id < 0x100 → true ≡ predefinedId id
-      unfolding predefinedId userId
-      id-low l = simp (le-leb _ _ p, le-leb _ _ q, lt-leb _ _ l)
-
-      pub id-user : 0x100 ≤ id → id ≤ 0xEFF → false ≡ predefinedId id
-      unfolding predefinedId userId
-      id-user l h = simp (le-leb _ _ p, le-leb _ _ q, le-leb _ _ l, le-leb _ _ h)
-
-      pub id-high : 0x100 ≤ id → 0xEFF < id → true ≡ predefinedId id
-      unfolding predefinedId userId
-      id-high l h = simp (le-leb _ _ p, le-leb _ _ q, le-leb _ _ l, lt-leb _ _ h)
-
-module _ (ids : PredefinedIds) where
-  pub same-1 : ids .timer ≡ ids .counter → false ≡ distinct ids
-  unfolding distinct
-  same-1 e = simp (eq-eqb _ _ e)
-
-  module _ (p : ids .timer ≡ ids .counter → ⊥) where
-    pub same-2 : ids .timer ≡ ids .control → false ≡ distinct ids
-    unfolding distinct
-    same-2 e = simp (ne-eqb _ _ p, eq-eqb _ _ e)
-
-    module _ (q : ids .timer ≡ ids .control → ⊥) where
-      pub same-3 : ids .timer ≡ ids .string → false ≡ distinct ids
-      unfolding distinct
-      same-3 e = simp (ne-eqb _ _ p, ne-eqb _ _ q, eq-eqb _ _ e)
-
-      module _ (r : ids .timer ≡ ids .string → ⊥) where
-        pub same-4 : ids .counter ≡ ids .control → false ≡ distinct ids
-        unfolding distinct
-        same-4 e = simp (ne-eqb _ _ p, ne-eqb _ _ q, ne-eqb _ _ r, eq-eqb _ _ e)
-
-        module _ (s : ids .counter ≡ ids .control → ⊥) where
-          pub same-5 : ids .counter ≡ ids .string → false ≡ distinct ids
-          unfolding distinct
-          same-5 e = simp (ne-eqb _ _ p, ne-eqb _ _ q, ne-eqb _ _ r, ne-eqb _ _ s, eq-eqb _ _ e)
-
-          pub same-6 : (ids .counter ≡ ids .string → ⊥) → not (eqb (ids .control) (ids .string)) ≡ distinct ids
-          unfolding distinct
-          same-6 t = simp (ne-eqb _ _ p, ne-eqb _ _ q, ne-eqb _ _ r, ne-eqb _ _ s, ne-eqb _ _ t)
-
-module _ (ids : PredefinedIds) where
-  pub wrong-1 : predefinedId (ids .timer) ≡ false → false ≡ predefinedIds ids
-  unfolding predefinedIds
-  wrong-1 e = simp e
-
-  module _ (p : predefinedId (ids .timer) ≡ true) where
-    pub wrong-2 : predefinedId (ids .counter) ≡ false → false ≡ predefinedIds ids
-    unfolding predefinedIds
-    wrong-2 e = simp (p, e)
-
-    module _ (q : predefinedId (ids .counter) ≡ true) where
-      pub wrong-3 : predefinedId (ids .control) ≡ false → false ≡ predefinedIds ids
-      unfolding predefinedIds
-      wrong-3 e = simp (p, q, e)
-
-      module _ (r : predefinedId (ids .control) ≡ true) where
-        pub wrong-4 : predefinedId (ids .string) ≡ false → false ≡ predefinedIds ids
-        unfolding predefinedIds
-        wrong-4 e = simp (p, q, r, e)
-
-        pub ids-differ : predefinedId (ids .string) ≡ true → distinct ids ≡ predefinedIds ids
-        unfolding predefinedIds
-        ids-differ e = simp (p, q, r, e)
-
--- what they are where all tests are passed
-pub record Allowed (ids : PredefinedIds) : Type 0 where
-  pub timer : predefinedId (ids .timer) ≡ true
-  pub counter : predefinedId (ids .counter) ≡ true
-  pub control : predefinedId (ids .control) ≡ true
-  pub string : predefinedId (ids .string) ≡ true
-
-pub ids-allowed : (ids : PredefinedIds) → predefinedIds ids ≡ true → Allowed ids
-unfolding predefinedIds
-ids-allowed ids e =
-    let four = and-eq-true-iff _ (distinct ids) .0 e .0 in
-    let three = and-eq-true-iff _ (predefinedId (ids .string)) .0 four in
-    let two = and-eq-true-iff _ (predefinedId (ids .control)) .0 (three .0) in
-    let one = and-eq-true-iff _ (predefinedId (ids .counter)) .0 (two .0) in
-    record { timer = one .0; counter = one .1; control = two .1; string = three .1 }
-
--- and one of them
-record Id (id : ℕ) : Type 0 where
-  pub least : 1 ≤ id
-  pub most : id ≤ 0xFFF
-
-id-within : (id : ℕ) → predefinedId id ≡ true → Id id
-unfolding predefinedId
-id-within id e =
-    let range = and-eq-true-iff _ (not (userId id)) .0 e .0 in
-    let both = and-eq-true-iff _ (leb id 0xFFF) .0 range in
-    record { least = leb-true _ _ (both .0); most = leb-true _ _ (both .1) }
 
 -- ---- their parts can be stored and read back
 
@@ -209,14 +100,17 @@ abbrev controlBits : List ℕ
 controlBits = 69 ∷ 78 ∷ 69 ∷ 85 ∷ 68 ∷ 78 ∷ 69 ∷ 77 ∷ 69 ∷ 82 ∷ 85 ∷ 76 ∷ 73 ∷ 78 ∷ 70 ∷ 68 ∷ []
 
 module _ {t m n : List ℕ} {u : Used} where
+  -- tables with room for 6 members and 20 bytes of names are ready for TIMER
   pub timer-ready : Ready t m n u 6 20 → ControlReady t m n u timerName preAcc timerBits
   unfolding part pairs controlParts statusParts namesOf
   timer-ready r = record { ready = r; two = refl; few = omega arith; parts = refl; long = refl }
 
+  -- tables with room for 8 members and 26 bytes of names are ready for COUNTER
   pub counter-ready : Ready t m n u 8 26 → ControlReady t m n u counterName preAcc counterBits
   unfolding part pairs controlParts statusParts namesOf
   counter-ready r = record { ready = r; two = refl; few = omega arith; parts = refl; long = refl }
 
+  -- tables with room for 11 members and 32 bytes of names are ready for CONTROL
   pub control-ready : Ready t m n u 11 32 → ControlReady t m n u controlName lenPos controlBits
   unfolding part pairs controlParts statusParts namesOf
   control-ready r = record { ready = r; two = refl; few = omega arith; parts = refl; long = refl }
@@ -242,9 +136,9 @@ module _ (ds : List Def) (name : List ℕ) (id size : ℕ) (kind : StructKind) (
   abbrev new : Def
   new = newDef (viewOf ds) name id size kind parts
 
-  new-fits : length ds < 200 → membersOf ds + length parts ≤ 2000
-      → length (nameBytesOf ds) + length (name ++ namesOf parts) ≤ 32768 → Every (PartFits (length ds)) parts → Id id
-      → Fits ds new
+  new-fits : length ds < mostTypes → membersOf ds + length parts ≤ mostMembers
+      → length (nameBytesOf ds) + length (name ++ namesOf parts) ≤ mostNames → Every (PartFits (length ds)) parts
+      → Id id → Fits ds new
   unfolding newDef
   new-fits f r b p i =
       record {
@@ -257,8 +151,8 @@ module _ (ds : List Def) (name : List ℕ) (id size : ℕ) (kind : StructKind) (
         handle = handle-small _;
       }
 
-  built-more : {t m b k l : ℕ} → Counts name parts k l → Built ds t m b → predefinedId id ≡ true → t < 200
-      → m + k ≤ 2000 → b + l ≤ 32768 → Built (withOne ds name id size kind parts) (t + 1) (m + k) (b + l)
+  built-more : {t m b k l : ℕ} → Counts name parts k l → Built ds t m b → predefinedId id ≡ true → t < mostTypes
+      → m + k ≤ mostMembers → b + l ≤ mostNames → Built (withOne ds name id size kind parts) (t + 1) (m + k) (b + l)
   unfolding newDef
   built-more p u i f r b =
       let c = p (length ds) in
@@ -282,22 +176,26 @@ module _ (ds : List Def) (name : List ℕ) (id size : ℕ) (kind : StructKind) (
 
 -- ---- the four
 
+-- no types, no members and no bytes of names, which their tables show
 pub none-built : Built [] 0 0 0
 unfolding membersOf nameBytesOf
 none-built = record { shown = shown-none; few = refl; rows = refl; long = refl }
 
 module _ (ids : PredefinedIds) (good : Allowed ids) where
+  -- with TIMER 1 type, 6 members and 20 bytes of names, which its tables show
   pub timer-built : Built (withTimer ids) 1 6 20
   unfolding withTimer
   timer-built =
       built-more [] _ (ids .timer) _ _ _ timer-counts none-built (good .timer) (omega arith) (omega arith) (omega arith)
 
+  -- with COUNTER 2 types, 14 members and 46 bytes of names, which their tables show
   pub counter-built : Built (withCounter ids) 2 14 46
   unfolding withCounter
   counter-built =
       built-more (withTimer ids) _ (ids .counter) _ _ _ counter-counts timer-built (good .counter) (omega arith)
       (omega arith) (omega arith)
 
+  -- with CONTROL 3 types, 25 members and 78 bytes of names, which their tables show
   pub control-built : Built (withControl ids) 3 25 78
   unfolding withControl
   control-built =
@@ -311,17 +209,20 @@ module _ (ids : PredefinedIds) (good : Allowed ids) where
       built-more (withControl ids) _ (ids .string) _ _ _ string-counts control-built (good .string) (omega arith)
       (omega arith) (omega arith)
 
+-- under good ids their tables show the four predefined types
 pub predefined-shown : (ids : PredefinedIds) → predefinedIds ids ≡ true → Shown (predefined ids)
 predefined-shown ids e = predefined-built ids (ids-allowed ids e) .shown
 
 -- ---- in the tables
 
+-- tables of zeros are those of no types
 pub none-stands : {t m n : List ℕ} → t ≡ noTypes → m ≡ noMembers → n ≡ noNames
     → Stands [] t m n (record { types = 0; members = 0; bytes = 0 })
 unfolding typesTable typeRows membersTable memberRows namesTable nameBytesOf membersOf
 none-stands e f g = record { types = e; members = f; names = g; used = refl }
 
 module _ (ids : PredefinedIds) {t m n t′ m′ n′ : List ℕ} {u r : Used} where
+  -- where TIMER was added to the tables of no types, they are those of TIMER
   pub timer-stands : Stands [] t m n u
       → Took (yes (newDef (viewIn t n u) timerName (ids .timer) 12 Predefined (controlOf preAcc timerBits))) u t m n
       t′ m′ n′ (Added r)
@@ -330,6 +231,7 @@ module _ (ids : PredefinedIds) {t m n t′ m′ n′ : List ℕ} {u r : Used} wh
   timer-stands s k = added-stands [] _ _ _ _ _ shown-none s k
 
   module _ (good : Allowed ids) where
+    -- where COUNTER was added after TIMER, the tables are those of both
     pub counter-stands : Stands (withTimer ids) t m n u
         → Took (yes (newDef (viewIn t n u) counterName (ids .counter) 12 Predefined (controlOf preAcc counterBits))) u
         t m n t′ m′ n′ (Added r)
@@ -337,6 +239,7 @@ module _ (ids : PredefinedIds) {t m n t′ m′ n′ : List ℕ} {u r : Used} wh
     unfolding withCounter counterParts part pairs
     counter-stands s k = added-stands (withTimer ids) _ _ _ _ _ (timer-built ids good .shown) s k
 
+    -- where CONTROL was added after these, the tables are those of the three
     pub control-stands : Stands (withCounter ids) t m n u
         → Took (yes (newDef (viewIn t n u) controlName (ids .control) 12 Predefined (controlOf lenPos controlBits))) u
         t m n t′ m′ n′ (Added r)
@@ -344,6 +247,7 @@ module _ (ids : PredefinedIds) {t m n t′ m′ n′ : List ℕ} {u r : Used} wh
     unfolding withControl controlTypeParts part pairs
     control-stands s k = added-stands (withCounter ids) _ _ _ _ _ (counter-built ids good .shown) s k
 
+    -- where STRING was added after these, the tables are those of all four
     pub string-stands : Stands (withControl ids) t m n u
         → Took (yes (newDef (viewIn t n u) stringName (ids .string) (stringSize 82) Str (stringParts 82))) u t m n
         t′ m′ n′ (Added r)
@@ -353,7 +257,7 @@ module _ (ids : PredefinedIds) {t m n t′ m′ n′ : List ℕ} {u r : Used} wh
 
 -- the tables of a registry are ready for one type more
 pub ready-for : {ds : List Def} {x y z k l : ℕ} {t m n : List ℕ} {u : Used} → Built ds x y z → Stands ds t m n u
-    → x < 200 → y + k ≤ 2000 → z + l ≤ 32768 → Ready t m n u k l
+    → x < mostTypes → y + k ≤ mostMembers → z + l ≤ mostNames → Ready t m n u k l
 ready-for {ds} b s f r g =
     rw (s .types, s .members, s .names, s .used) record {
       usable =

@@ -43,6 +43,7 @@ module _ (ids : PredefinedIds) where
         string = other-kind Predefined refl;
       })
 
+  -- each of the four predefined types is well made
   pub predefined-well : Well (predefined ids)
   unfolding predefined newDef stringSize alignUp
   predefined-well =

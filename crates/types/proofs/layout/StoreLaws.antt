@@ -12,6 +12,7 @@ use Rattle.types.specs.tables.Defs.{Part}
 use Rattle.types.specs.tables.Lent.{memberRow}
 use Rattle.types.specs.declared.tables.member.Member.{Member}
 
+-- the rows of one part are its member's row
 pub one-row : (at : ℕ) (n : List ℕ) (m : Member)
     → memberRow (record { at = at; long = length n }) m ≡ rowsOf at (named n m ∷ [])
 unfolding rowsOf
@@ -22,10 +23,12 @@ pub one-row-of : (at : ℕ) (n : List ℕ) (m : Member) (long : ℕ) → long �
     → memberRow (record { at = at; long = long }) m ≡ rowsOf at (named n m ∷ [])
 one-row-of at n m long e = rw e (one-row at n m)
 
+-- the names of one part are its name
 pub one-name : (n : List ℕ) (m : Member) → n ≡ namesOf (named n m ∷ [])
 unfolding namesOf
 one-name n m = sym (append-nil n)
 
+-- the rows of some parts have eight words for each
 pub row-long : (at : ℕ) (ps : List Part) → length (rowsOf at ps) ≡ 8 * length ps
 unfolding rowsOf memberRow
 row-long at [] = refl
@@ -42,6 +45,7 @@ rows-append at (p ∷ ps) qs =
     rw (e, append-assoc) (ap (λ (l : List ℕ). memberRow (record { at = at; long = length (p .name) }) (p .member) ++ l)
     (rows-append (at + length (p .name)) ps qs))
 
+-- the names of parts one after the other are the names of the first ones, then of the others
 pub names-append : (ps qs : List Part) → namesOf (ps ++ qs) ≡ namesOf ps ++ namesOf qs
 unfolding namesOf
 names-append [] qs = refl
@@ -55,6 +59,7 @@ rows-then t row at ps qs =
     let e : 8 * (row + length ps) ≡ 8 * row + length (rowsOf at ps) = omega (arith, row-long at ps) in
     rw (rows-append at ps qs, e) (sets-append t (8 * row) (rowsOf at ps) _)
 
+-- the names of some parts stored, then those of others right after them, are the names of all
 pub names-then : (t : List ℕ) (at : ℕ) (ps qs : List Part)
     → sets t at (namesOf (ps ++ qs)) ≡ sets (sets t at (namesOf ps)) (at + length (namesOf ps)) (namesOf qs)
 names-then t at ps qs = rw (names-append ps qs) (sets-append t at (namesOf ps) (namesOf qs))

@@ -15,6 +15,7 @@ use Rattle.types.specs.layout.HostNames.{hostName}
 use Rattle.types.specs.layout.Placing.{placed, opened, nextBit}
 use Rattle.types.specs.layout.Structs.{named, namesOf, rowsOf}
 use Rattle.types.specs.tables.Defs.{nameIn}
+use Rattle.types.specs.tables.Limits.{mostMembers, mostNames}
 use Rattle.types.specs.declared.layout.placing.Cursor.{Cursor}
 use Rattle.types.specs.declared.layout.placing.Decl.{Decl}
 use Rattle.types.specs.declared.layout.placing.Placed.{Placed}
@@ -53,14 +54,15 @@ all-fit c d f =
 
 -- what is asked of the tables for a host and a member, and for a member alone
 pub record TwoFit (book type : List ℕ) (c : Cursor) (d : Decl) (row at : ℕ) (h m : Member) : Type 0 where
-  pub rows : row + 2 ≤ 2000
-  pub names : at + (length (hostName type (c .members)) + d .name .long) ≤ 32768
+  pub rows : row + 2 ≤ mostMembers
+  pub names : at + (length (hostName type (c .members)) + d .name .long) ≤ mostNames
   pub host : TyFits (h .ty)
   pub member : TyFits (m .ty)
 
+-- what a member alone asks of the tables
 pub record OneFits (d : Decl) (row at : ℕ) (m : Member) : Type 0 where
-  pub rows : row + 1 ≤ 2000
-  pub names : at + d .name .long ≤ 32768
+  pub rows : row + 1 ≤ mostMembers
+  pub names : at + d .name .long ≤ mostNames
   pub member : TyFits (m .ty)
 
 module _ (book type : List ℕ) (c : Cursor) (d : Decl) (row at : ℕ) (p : Placed) (e : p ≡ placed c d) where
@@ -82,6 +84,7 @@ module _ (book type : List ℕ) (c : Cursor) (d : Decl) (row at : ℕ) (p : Plac
     long : length name ≡ d .name .long
     long = length-part book (d .name .at) (d .name .long) (f .name)
 
+    -- where a host opens, the tables have room for it and the member
     pub two-fit : {h m : Member} {c′ : Cursor} → p ≡ Hosted h m c′ → TwoFit book type c d row at h m
     unfolding namesOf
     two-fit {h} {m} {c′} q =
@@ -94,6 +97,7 @@ module _ (book type : List ℕ) (c : Cursor) (d : Decl) (row at : ℕ) (p : Plac
           member = a .1;
         }
 
+    -- where the member is placed alone, the tables have room for it
     pub one-fits : {m : Member} {c′ : Cursor} → p ≡ One m c′ → OneFits d row at m
     unfolding namesOf
     one-fits {m} q =
@@ -104,20 +108,24 @@ module _ (book type : List ℕ) (c : Cursor) (d : Decl) (row at : ℕ) (p : Plac
           member = rw (← e, q) at (all-fit c d (f .ty));
         }
 
+  -- after a host and its member the next row is two further, the next name after both names
   pub next-hosted : {h m : Member} {c′ : Cursor} (k : ℕ) → p ≡ Hosted h m c′ → k ≡ length host
       → Next c′ (row + 2) (at + k + d .name .long) ≡ storedOne type c d row at
   unfolding storedOne
   next-hosted k q l = rw (← e, q, l)
 
+  -- after a member alone the next row is one further, the next name after its name
   pub next-alone : {m : Member} {c′ : Cursor} → p ≡ One m c′
       → Next c′ (row + 1) (at + d .name .long) ≡ storedOne type c d row at
   unfolding storedOne
   next-alone q = rw (← e, q)
 
+  -- storing stops at a wrong access
   pub stop-access : p ≡ AccessWrong → Stop ≡ storedOne type c d row at
   unfolding storedOne
   stop-access q = rw (← e, q)
 
+  -- storing stops at a member that ends too far
   pub stop-far : p ≡ TooFar → Stop ≡ storedOne type c d row at
   unfolding storedOne
   stop-far q = rw (← e, q)
@@ -130,6 +138,7 @@ module _ (book type : List ℕ) (c : Cursor) (d : Decl) (row at : ℕ) (p : Plac
       let n : k ≡ length (namesOf (named host h ∷ [])) = l ∙ ap length (one-name host h) in
       rw (hosted q, n) (sym (rows-then t row at (named host h ∷ []) (named name m ∷ [])))
 
+  -- a host's name and then the member's are the names of both parts
   pub names-hosted : {h m : Member} {c′ : Cursor} (t : List ℕ) (k : ℕ) → p ≡ Hosted h m c′ → k ≡ length host
       → sets (sets t at (namesOf (named host h ∷ []))) (at + k) (namesOf (named name m ∷ []))
       ≡ sets t at (namesOf (oneParts book type c d))
@@ -137,10 +146,12 @@ module _ (book type : List ℕ) (c : Cursor) (d : Decl) (row at : ℕ) (p : Plac
       let n : k ≡ length (namesOf (named host h ∷ [])) = l ∙ ap length (one-name host h) in
       rw (hosted q, n) (sym (names-then t at (named host h ∷ []) (named name m ∷ [])))
 
+  -- the row of a member alone is all the rows that the step stores
   pub rows-alone : {m : Member} {c′ : Cursor} (t : List ℕ) → p ≡ One m c′
       → sets t (8 * row) (rowsOf at (named name m ∷ [])) ≡ sets t (8 * row) (rowsOf at (oneParts book type c d))
   rows-alone t q = rw (alone q)
 
+  -- the name of a member alone is all the names that the step stores
   pub names-alone : {m : Member} {c′ : Cursor} (t : List ℕ) → p ≡ One m c′
       → sets t at (namesOf (named name m ∷ [])) ≡ sets t at (namesOf (oneParts book type c d))
   names-alone t q = rw (alone q)
@@ -157,15 +168,18 @@ module _ (book type : List ℕ) (c : Cursor) (d : Decl) (row at : ℕ) (p : Plac
   refused : (p ≡ AccessWrong) ⊎ (p ≡ TooFar) → oneParts book type c d ≡ []
   refused w = ⊎-elim access far w
 
+  -- where the step is refused, the rows stay as they were
   pub rows-kept : (t : List ℕ) → (p ≡ AccessWrong) ⊎ (p ≡ TooFar)
       → t ≡ sets t (8 * row) (rowsOf at (oneParts book type c d))
   unfolding rowsOf
   rows-kept t w = rw (refused w)
 
+  -- where the step is refused, the names stay as they were
   pub names-kept : (t : List ℕ) → (p ≡ AccessWrong) ⊎ (p ≡ TooFar) → t ≡ sets t at (namesOf (oneParts book type c d))
   unfolding namesOf
   names-kept t w = rw (refused w)
 
+-- the part of the book that is lent for a name is as long as the name
 pub lent-long : (book : List ℕ) (s : Span) (start long : ℕ) → start ≡ s .at → long ≡ s .long
     → s .at + s .long ≤ length book
     → length (take (start + long - start) (drop start book)) ≡ s .long

@@ -37,10 +37,12 @@ pub other-kind : {size : ℕ} {parts : List Part} (k : StructKind) → eqb (kind
     → IsString size parts
 other-kind k n e = absurd (true≢false (sym (ap (λ (x : StructKind). eqb (kindWord x) 2) e) ∙ n))
 
+-- the kind of a UDT or an AOI is not Str
 pub no-string : (aoi : Bool) → eqb (kindWord (laidKind aoi)) 2 ≡ false
 no-string true = refl
 no-string false = refl
 
+-- a string's size is 4 plus its capacity rounded up to 4
 pub string-bytes : (c : ℕ) → stringSize c ≡ 4 + 4 * ((c + 3) / 4)
 unfolding stringSize alignUp
 string-bytes c = omega arith

@@ -13,8 +13,7 @@ use Rattle.types.specs.refusals.Given.{saidBy}
 use Rattle.types.specs.refusals.Refusal.{numberOf, placeOf}
 use Rattle.types.specs.refusals.Said.{why}
 use Rattle.types.specs.rounds.Build.{saidBy as builtSays}
-use Rattle.types.specs.shape.Tags.{saidBy as shapedSays}
-use Rattle.types.specs.shape.Tags.{symbolSays}
+use Rattle.types.specs.shape.Tags.{saidBy as shapedSays, symbolSays}
 use Rattle.types.specs.templates.Waste.{saidBy as wastedSays}
 use Rattle.types.specs.declared.atomics.header.Headed.{Headed}
 use Rattle.types.specs.declared.atomics.lookup.FoundTy.{FoundTy}
@@ -81,6 +80,7 @@ back refusal.TagTooLarge = refl
 pub refusal-same : (r s : Refusal) → numberOf r ≡ numberOf s → placeOf r ≡ placeOf s → r ≡ s
 refusal-same r s e f = sym (back r) ∙ ap₂ refusalAt e f ∙ back s
 
+-- refusals that say the same number and place are the same
 pub why-same : {A : Type 0} (r s : Refusal) → why {A = A} r ≡ why s → r ≡ s
 why-same r s e =
     let number : numberOf r ≡ numberOf s = cc in

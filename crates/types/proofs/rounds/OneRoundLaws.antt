@@ -19,8 +19,7 @@ use Rattle.types.specs.refusals.Said.{Why, whyOf}
 use Rattle.types.specs.rounds.Order.{allKnown}
 use Rattle.types.specs.rounds.Resolve.{typeNames, hasName}
 use Rattle.types.specs.rounds.Rounds.{no, ok, went}
-use Rattle.types.specs.rounds.Turns.{stuckAt}
-use Rattle.types.specs.rounds.Turns.{entriesAt, countOf, declsOf, readyIn, verdictOn, addIn}
+use Rattle.types.specs.rounds.Turns.{stuckAt, entriesAt, countOf, declsOf, readyIn, verdictOn, addIn}
 use Rattle.types.specs.tables.Defs.{Def}
 use Rattle.types.specs.tables.Registry.{viewOf}
 use Rattle.types.specs.declared.adding.progress.Progress.{Progress}
@@ -34,8 +33,8 @@ use Rattle.types.proofs.rounds.RoundLaws.{round-keep}
 use Rattle.types.proofs.rounds.RoundsKeep.{Begun, keeps, predefined-begun}
 use Rattle.types.proofs.rounds.RunLaws.{Inner, inner-start, inner-past, inner-wait, inner-no, inner-yes}
 use Rattle.types.proofs.rounds.RunLaws.{inner-end}
-use Rattle.types.proofs.rounds.StandLaws.{turn-in, turn-same, turn-waits, turn-refused, turn-added}
-use Rattle.types.proofs.rounds.StandLaws.{AddedBy, tries-stand}
+use Rattle.types.proofs.rounds.StandLaws.{turn-in, turn-same, turn-waits, turn-refused, turn-added, AddedBy}
+use Rattle.types.proofs.rounds.StandLaws.{tries-stand}
 use Rattle.types.proofs.rounds.WaitLaws.{waits-on}
 use Rattle.types.proofs.tables.RegistryLaws.{stands-more}
 use Rattle.types.proofs.tables.ShownLaws.{Shown, shown-more}
@@ -46,6 +45,7 @@ reached-begun : (book : List ℕ) → Bytes book → (ds : List Def) → Reached
 reached-begun book b _ (first ids q) = predefined-begun ids q
 reached-begun book b _ (more ds ds′ i r e) = keeps book b ds ds′ i (reached-begun book b ds r) e
 
+-- each type of a registry that rounds reach is shown by its row, and the rows after them are unused
 pub reached-shown : {book : List ℕ} {ds : List Def} → Bytes book → Reached book ds → Shown ds
 reached-shown {book} {ds} b r = reached-begun book b ds r .good .shown
 
@@ -65,9 +65,11 @@ pub record Const (book tys : List ℕ) (T : ℕ) : Type 0 where
   pub is : T ≡ typesIn book
   pub room : membersIn book ≤ length tys
 
+-- the types that the loop goes over are fewer than 65,536
 pub const-small : {book tys : List ℕ} {T : ℕ} → Const book tys T → T < 65536
 const-small {book} k = omega (arith, k .is, word-below 2 book 0 (k .bytes))
 
+-- what the loop has of book and scratch it has with another scratch of the same length
 pub const-kept : {book tys tys′ : List ℕ} {T : ℕ} → Const book tys T → length tys′ ≡ length tys → Const book tys′ T
 const-kept k e = record { bytes = k .bytes; okay = k .okay; is = k .is; room = rw e (k .room) }
 
@@ -85,10 +87,12 @@ pub record Within (book : List ℕ) (T : ℕ) (t₀ m₀ n₀ tys₀ f₀ k₀ r
   pub members : length k ≡ length k₀
   pub rows : length r ≡ length r₀
 
+-- a book that a round is given has fewer than 65,536 types
 pub start-small : {book t m n tys f k r : List ℕ} {T left : ℕ} {u : Used} → RoundIn book T u left t m n tys f k r
     → Bytes book → T < 65536
 start-small {book} p b = omega (arith, p .is, word-below 2 book 0 b)
 
+-- a round begins at type 0, with the tables, flags and scratches that it is given
 pub within-start : {book t m n tys f k r : List ℕ} {T left : ℕ} {u : Used} → RoundIn book T u left t m n tys f k r
     → Bytes book → Within book T t m n tys f k r u t m n tys f k r u left 0 (4 + 16 * T)
 within-start p b =
@@ -125,6 +129,7 @@ module _ {book t₀ m₀ n₀ tys₀ f₀ k₀ r₀ t m n tys f k r : List ℕ} 
 
   -- ---- the end of a round
 
+  -- past the last type the round was made: it refused none, and so many still wait
   pub made-all : T ≤ i → RoundMade book T u₀ t₀ m₀ n₀ f₀ t m n f k r (Went u left)
   made-all l =
       record {
@@ -143,6 +148,7 @@ module _ {book t₀ m₀ n₀ tys₀ f₀ k₀ r₀ t m n tys f k r : List ℕ} 
     good : Sound book
     good = sound book (w .const .okay)
 
+    -- the turn of type i finds what it asks
     pub within-in : TurnIn t m n book tys k r i at u
     within-in =
         let v = within-now in
@@ -160,12 +166,15 @@ module _ {book t₀ m₀ n₀ tys₀ f₀ k₀ r₀ t m n tys f k r : List ℕ} 
           word-below 2 book 2 (w .const .bytes),
         )
 
+    -- type i has a flag
     pub within-flag : i < length f
     within-flag = omega (arith, within-now .flags, l)
 
+    -- where type i waits, at least one type is left
     pub within-left : getD f i 0 ≡ 0 → 1 ≤ left
     within-left o = omega (arith, within-now .count, ap length (waits-on f T i l o))
 
+    -- a type that was added before is passed, and the round goes on with the next one
     pub within-past : (getD f i 0 ≡ 0 → ⊥)
         → Within book T t₀ m₀ n₀ tys₀ f₀ k₀ r₀ u₀ t m n tys f k r u left (i + 1) (at + 16 * countOf book i)
     within-past o =
@@ -191,6 +200,7 @@ module _ {book t₀ m₀ n₀ tys₀ f₀ k₀ r₀ t m n tys f k r : List ℕ} 
           → Turned (readyIn book (v .ds) i) (verdictOn book (viewOf (v .ds)) i) u t m n t′ m′ n′ x
       turned v = turn-same (v .shown) (v .stands) book i at (v .place) h
 
+      -- where the turn refuses the type, the round was made with that refusal
       pub made-no : {k′ r′ : List ℕ} (y : Refusal) → x ≡ Against y
           → RoundMade book T u₀ t₀ m₀ n₀ f₀ t′ m′ n′ f k′ r′ (Refused y)
       made-no y e =
@@ -221,6 +231,7 @@ module _ {book t₀ m₀ n₀ tys₀ f₀ k₀ r₀ t m n tys f k r : List ℕ} 
 
       module _ {tys′ k′ r′ : List ℕ} (kept : length tys′ ≡ length tys) (kept-k : length k′ ≡ length k)
           (kept-r : length r′ ≡ length r) (tries : Tries book (rowNames t n (u .types)) k′ r′) where
+        -- where the type still waits, the round goes on with the next one and the same flags
         pub within-wait : x ≡ Waits
             → Within book T t₀ m₀ n₀ tys₀ f₀ k₀ r₀ u₀ t′ m′ n′ tys′ f k′ r′ u left (i + 1)
             (at + 16 * countOf book i)
@@ -242,6 +253,7 @@ module _ {book t₀ m₀ n₀ tys₀ f₀ k₀ r₀ t m n tys f k r : List ℕ} 
               rows = kept-r ∙ w .rows;
             }
 
+        -- where the type is added, its flag is set, one fewer is left, and the round goes on with the next one
         pub within-yes : (u′ : Used) → x ≡ Added u′
             → Within book T t₀ m₀ n₀ tys₀ f₀ k₀ r₀ u₀ t′ m′ n′ tys′ (set f i 1) k′ r′ u′ (left - 1) (i + 1)
             (at + 16 * countOf book i)

@@ -13,15 +13,14 @@ use Rattle.types.specs.atomics.Atomic.{atomics, nameOf, firstOf, atomicN
 use Rattle.types.specs.atomics.Lookup.{namedAmong, atomicOr, typeAmong}
 use Rattle.types.specs.book.Contents.{typesIn}
 use Rattle.types.specs.book.Names.{sameName, lowerOf}
-use Rattle.types.specs.layout.Predefined.{withTimer, withCounter, withControl, predefined}
-use Rattle.types.specs.layout.Predefined.{timerName, counterName, controlName, stringName}
+use Rattle.types.specs.layout.Predefined.{withTimer, withCounter, withControl, predefined, timerName, counterName}
+use Rattle.types.specs.layout.Predefined.{controlName, stringName}
 use Rattle.types.specs.rounds.Build.{buildOf}
 use Rattle.types.specs.rounds.Order.{Known}
 use Rattle.types.specs.rounds.Ordering.{typeNamed, Ordering}
 use Rattle.types.specs.rounds.Resolve.{isFound, hasName}
 use Rattle.types.specs.rounds.Rounds.{no, ok, accepted, refused}
-use Rattle.types.specs.rounds.Turns.{stuckAt}
-use Rattle.types.specs.rounds.Turns.{usesOf, readyIn, verdictOn, stepOf, addIn, upFrom, roundsFrom}
+use Rattle.types.specs.rounds.Turns.{stuckAt, usesOf, readyIn, verdictOn, stepOf, addIn, upFrom, roundsFrom}
 use Rattle.types.specs.tables.Defs.{Def}
 use Rattle.types.specs.tables.Registry.{viewOf}
 use Rattle.types.specs.declared.atomics.atomic.Atomic.{Atomic as Kind}

@@ -59,6 +59,7 @@ found-earlier known s ty e = rw e at (found-below known s)
 
 -- ---- the words that are left
 
+-- the words of the first j member types stand in the scratch, and those that are found from the j-th on are left
 pub record Left (known : List (List ℕ)) (book : List ℕ) (at n : ℕ) (tys₀ tys : List ℕ) (j : ℕ) : Type 0 where
   pub count : length (foundWords known (typeNames book at 0 n))
       ≡ j + length (foundWords known (typeNames book at j (n - j)))

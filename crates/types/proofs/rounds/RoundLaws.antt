@@ -2,19 +2,15 @@
 -- holds of the round, and so for all rounds; what every addition keeps, the rounds keep; and the next round of a loop.
 use Prim.Native.Nat.{ℕ, zero, suc, _-_, _<_, _≤_}
 use native.Mathlib.Omega.{arith}
-use mathlib.Core.Path.{_≡_, refl}
-use mathlib.Core.Bool.{Bool, true, false, cond, true≢false}
-use mathlib.Core.List.{List, [], _∷_}
 use borrow.Author.Tests.{eqb-true, eqb-false}
+use mathlib.Core.Bool.{Bool, true, false, true≢false}
+use mathlib.Core.List.{List, [], _∷_}
+use mathlib.Core.Path.{_≡_, refl}
 use lib.Dec.{eqb}
 use lib.ListN.{length, getD}
-use Rattle.types.specs.rounds.Rounds.{Step, no, ok, Out, stop, went, Answer, refused, accepted}
-use Rattle.types.specs.rounds.Rounds.{keep, onStep, onRound, round, rounds}
-
--- what holds of both answers of a test holds of the picked one
-pub either : {A : Type 0} (P : A → Type 0) (t : Bool) (x y : A) → (t ≡ true → P x) → (t ≡ false → P y) → P (cond t x y)
-either P true x y f g = f refl
-either P false x y f g = g refl
+use Rattle.words.proofs.TestLaws.{either}
+use Rattle.types.specs.rounds.Rounds.{Step, no, ok, Out, stop, went, Answer, refused, accepted, keep, onStep}
+use Rattle.types.specs.rounds.Rounds.{onRound, round, rounds}
 
 -- ---- one round
 
@@ -57,7 +53,7 @@ module _ {S R : Type 0} (stuck : ℕ → R) (ready : S → ℕ → Bool) (add : 
     unfolding round
     round-cases s [] = w .over s
     round-cases s (i ∷ ws) =
-        either (Comes T (P s (i ∷ ws))) (ready s i) _ _
+        either (Comes T (P s (i ∷ ws))) (ready s i)
         (λ h. step-cases s i ws (λ t. round-cases t ws) h (add s i) refl)
         (λ h. comes-keep T (P s ws) _ i (round stuck ready add s ws) (w .waits s i ws h) (round-cases s ws))
 
@@ -83,7 +79,7 @@ module _ {S R : Type 0} (stuck : ℕ → R) (ready : S → ℕ → Bool) (add : 
         → Q (suc k) s (w ∷ ws) (onRound stuck (length (w ∷ ws)) o (λ s′ ws′. rounds stuck ready add k s′ ws′))
     out-cases k s w ws ih (stop r) e = v .refuses k s w ws r e
     out-cases k s w ws ih (went s′ ws′) e =
-        either (Q (suc k) s (w ∷ ws)) (eqb (length ws′) (length (w ∷ ws))) _ _
+        either (Q (suc k) s (w ∷ ws)) (eqb (length ws′) (length (w ∷ ws)))
         (λ q. v .idle k s w ws s′ ws′ e (eqb-true _ _ q))
         (λ q. v .goes k s w ws s′ ws′ _ e (eqb-false _ _ q) (ih s′ ws′))
 
@@ -108,10 +104,12 @@ module _ {S R : Type 0} (stuck : ℕ → R) (ready : S → ℕ → Bool) (add : 
           waits = λ s i ws h s′ ws′ f. f;
         }
 
+    -- what every addition keeps holds after a round that refused no type
     pub round-keep : (s : S) (ws : List ℕ) (s′ : S) (ws′ : List ℕ) → P s
         → round stuck ready add s ws ≡ went s′ ws′ → P s′
     round-keep s ws s′ ws′ p e = (rw e at (round-cases _ _ round-ways s ws)) p
 
+    -- what every addition keeps holds of the state that all rounds accept
     pub rounds-keep : (k : ℕ) (s : S) (ws : List ℕ) (s′ : S) → P s
         → rounds stuck ready add k s ws ≡ accepted s′ → P s′
     rounds-keep k s ws s′ p e =
@@ -136,6 +134,7 @@ module _ {S R : Type 0} (stuck : ℕ → R) (ready : S → ℕ → Bool) (add : 
         waits = λ s i ws h s′ ws′ l. omega (arith, l);
       }
 
+  -- a round that refused no type leaves at most as many waiting as it began with
   pub round-fewer : (s : S) (ws : List ℕ) (s′ : S) (ws′ : List ℕ) → round stuck ready add s ws ≡ went s′ ws′
       → length ws′ ≤ length ws
   round-fewer s ws s′ ws′ e = rw e at (round-cases _ _ fewer-ways s ws)

@@ -12,14 +12,14 @@ use Rattle.types.specs.book.Contents.{typesIn}
 use Rattle.types.specs.layout.Predefined.{predefinedIds, predefined}
 use Rattle.types.specs.refusals.Said.{Why}
 use Rattle.types.specs.rounds.Rounds.{Step, ok, accepted}
-use Rattle.types.specs.rounds.Turns.{stuckAt}
-use Rattle.types.specs.rounds.Turns.{readyIn, verdictOn, stepOf, addIn, upFrom, roundsFrom}
+use Rattle.types.specs.rounds.Turns.{stuckAt, readyIn, verdictOn, stepOf, addIn, upFrom, roundsFrom}
 use Rattle.types.specs.tables.Defs.{Def}
 use Rattle.types.specs.tables.Registry.{viewOf}
 use Rattle.types.specs.declared.layout.predefined.PredefinedIds.{PredefinedIds}
 use Rattle.types.proofs.adding.VerdictLaws.{verdict-fits, verdict-laid, verdict-most, verdict-string}
 use Rattle.types.proofs.adding.VerdictLaws.{verdict-proper, verdict-unheld, verdict-unknown}
-use Rattle.types.proofs.layout.PredefinedLaws.{ids-allowed, predefined-built, predefined-shown}
+use Rattle.types.proofs.layout.PredefinedIds.{ids-allowed}
+use Rattle.types.proofs.layout.PredefinedLaws.{predefined-built, predefined-shown}
 use Rattle.types.proofs.layout.PredefinedWell.{predefined-well}
 use Rattle.types.proofs.rounds.RoundLaws.{rounds-keep}
 use Rattle.types.proofs.tables.ProperLaws.{AllProper, proper-more, predefined-proper}
@@ -94,6 +94,7 @@ module _ (book : List ℕ) (b : Bytes book) where
         four = omega (arith, h .four, length-snoc ds (a .def));
       })
 
+  -- rounds that accept lead from a registry that begins with the predefined types to such a one
   pub rounds-begun : (start ds : List Def) → Begun start → roundsFrom book start ≡ accepted ds → Begun ds
   unfolding roundsFrom
   rounds-begun start ds g e =

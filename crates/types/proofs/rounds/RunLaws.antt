@@ -13,10 +13,9 @@ use Rattle.types.specs.inside.rounds.Build.{waits}
 use Rattle.types.specs.inside.rounds.OneRound.{roundIn, Reached}
 use Rattle.types.specs.inside.tables.Registry.{Stands}
 use Rattle.types.specs.refusals.Said.{Why}
-use Rattle.types.specs.rounds.Rounds.{no, ok, stop, went, Answer, refused, accepted}
-use Rattle.types.specs.rounds.Rounds.{keep, onStep, onRound, round, rounds}
-use Rattle.types.specs.rounds.Turns.{stuckAt}
-use Rattle.types.specs.rounds.Turns.{entriesAt, countOf, readyIn, addIn, roundsFrom}
+use Rattle.types.specs.rounds.Rounds.{no, ok, stop, went, Answer, refused, accepted, keep, onStep, onRound, round}
+use Rattle.types.specs.rounds.Rounds.{rounds}
+use Rattle.types.specs.rounds.Turns.{stuckAt, entriesAt, countOf, readyIn, addIn, roundsFrom}
 use Rattle.types.specs.tables.Defs.{Def}
 use Rattle.types.specs.declared.adding.used.Used.{Used}
 use Rattle.types.proofs.book.SoundLaws.{entries-first, entries-next}
@@ -43,6 +42,7 @@ pub record Inner (book : List ℕ) (ds₀ : List Def) (f₀ : List ℕ) (T : ℕ
   pub count : left ≡ length (waits f 0 i) + length (waits f i (T - i))
   pub flags : T ≤ length f
 
+-- a round begins at type 0, with the registry that stands in the tables and the flags of that time
 pub inner-start : {book f t m n : List ℕ} {ds : List Def} {u : Used} {left T : ℕ} → Shown ds → Stands ds t m n u
     → T ≡ typesIn book → left ≡ length (waits f 0 T) → T ≤ length f
     → Inner book ds f T t m n f u left 0 (4 + 16 * T)
@@ -146,6 +146,7 @@ pub record Outer (book : List ℕ) (start : List Def) (T : ℕ) (t m n f : List 
   pub count : left ≡ length (waits f 0 T)
   pub flags : T ≤ length f
 
+-- the rounds begin with no flag set, so all types are left
 pub outer-start : {book t m n f : List ℕ} {ds : List Def} {u : Used} {T : ℕ} → Reached book ds → Stands ds t m n u
     → T ≡ typesIn book → ((k : ℕ) → getD f k 0 ≡ 0) → T ≤ length f → Outer book ds T t m n f u T
 unfolding roundsFrom
@@ -164,6 +165,7 @@ outer-start {f = f} {ds = ds} {T = T} s h e z g =
 
 module _ {book t m n f : List ℕ} {start : List Def} {u : Used} {T left : ℕ} (o : Outer book start T t m n f u left)
   where
+    -- where no type is left, the rounds accept the registry that they have come to
     pub outer-end : left ≡ 0 → roundsFrom book start ≡ accepted (o .ds)
     outer-end e =
         o .goes ∙ rounds-none stuckAt (readyIn book) (addIn book) (o .fuel) (o .ds) _ (sym (o .count) ∙ e)
@@ -176,13 +178,16 @@ module _ {book t m n f : List ℕ} {start : List Def} {u : Used} {T left : ℕ} 
           rounds-some stuckAt (readyIn book) (addIn book) (o .fuel) (o .ds) (waits f 0 T)
           (omega (arith, o .count)) (omega (arith, o .count, o .enough))
 
+      -- where a round refuses a type, the rounds give its refusal
       pub outer-stop : (x : Why) → roundIn book (o .ds) (waits f 0 T) ≡ stop x → roundsFrom book start ≡ refused x
       outer-stop x r = o .goes ∙ some ∙ rw r
 
+      -- where a round leaves as many as it began with, the rounds give refusal 10 at the first that waits
       pub outer-stuck : {ds : List Def} {ws : List ℕ} → roundIn book (o .ds) (waits f 0 T) ≡ went ds ws
           → length ws ≡ left → roundsFrom book start ≡ refused (stuckAt (getD ws 0 0))
       outer-stuck r e = o .goes ∙ some ∙ rw r (simp (eq-eqb _ _ (e ∙ o .count)))
 
+      -- where a round leaves fewer, the rounds go on with the registry and the flags after it
       pub outer-next : {ds : List Def} {t′ m′ n′ g : List ℕ} {u′ : Used} {left′ : ℕ}
           → roundIn book (o .ds) (waits f 0 T) ≡ went ds (waits g 0 T) → Reached book ds → Stands ds t′ m′ n′ u′
           → left′ ≡ length (waits g 0 T) → T ≤ length g → left′ < left → Outer book start T t′ m′ n′ g u′ left′

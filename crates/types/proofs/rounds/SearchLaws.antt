@@ -52,10 +52,10 @@ neither : (a : FoundAtomic) (f : FoundTy) → atomicOr a f ≡ Nothing → (a �
 neither (found a) f e = let z : true ≡ false = cc in absurd (true≢false z)
 neither none f e = (refl, e)
 
-pub unseen-all : (known : List (List ℕ)) (s : List ℕ) → typeAmong known s ≡ Nothing → (n : ℕ) → n ≡ length known
+pub unseen-all : (known : List (List ℕ)) {s : List ℕ} → typeAmong known s ≡ Nothing → (n : ℕ) → n ≡ length known
     → Unseen known s n
 unfolding typeAmong
-unseen-all known s e n q =
+unseen-all known {s} e n q =
     let d = neither (atomicNamed s) (namedAmong known s 0) e in
     record {
       few = omega (arith, q);
@@ -79,6 +79,7 @@ module _ (f : ℕ → List ℕ) (s : List ℕ) (from n : ℕ) (u : Unseen (listF
           rw (getD-list f n j [] l, ← p)
           (rw (getD-from f from (n - from) (j - from) [] (omega (arith, o))) at q)
 
+  -- a name that is no atomic's, none of the first types' and none of the later ones' is not found
   pub unseen-none : typeAmong (listFrom f 0 n) s ≡ Nothing
   unfolding typeAmong
   unseen-none = rw (u .plain) (other-none (listFrom f 0 n) s 0 (λ j l. each j (omega (arith, length-list f 0 n))))
@@ -123,11 +124,13 @@ unseen-more {known} x u =
       other = λ j l. rw (List·getD-append known (x ∷ []) [] j (omega (arith, u .few))) (u .other j l);
     }
 
-pub tries-start : {book stuck tried : List ℕ} (known : List (List ℕ)) → typesIn book ≤ length stuck
+-- where no type was tried, what the scratches say is true of any known names
+pub tries-start : {book stuck tried : List ℕ} {known : List (List ℕ)} → typesIn book ≤ length stuck
     → typesIn book ≤ length tried → ((k : ℕ) → getD tried k 0 ≡ 0) → Tries book known stuck tried
-tries-start known a b z = record { members = a; rows = b; missed = λ i l o. absurd (o (z i)) }
+tries-start {known} a b z = record { members = a; rows = b; missed = λ i l o. absurd (o (z i)) }
 
 module _ {book stuck tried : List ℕ} {known : List (List ℕ)} (t : Tries book known stuck tried) where
+  -- what is known of earlier turns stays true with one known name more
   pub tries-more : (x : List ℕ) → Tries book (known ++ x ∷ []) stuck tried
   tries-more x =
       record {
@@ -167,7 +170,7 @@ module _ {book stuck tried : List ℕ} {known : List (List ℕ)} (t : Tries book
     module _ (long : n ≡ length known) (k : ℕ) (below : k < countOf book i)
         (none-is : typeAmong known (typeName book (entriesAt book i) k) ≡ Nothing) where
       missed-now : Missed book known i k n
-      missed-now = record { below = below; unseen = unseen-all known _ none-is n long }
+      missed-now = record { below = below; unseen = unseen-all known none-is n long }
 
       -- type i still waits for the same member ..
       pub tries-again : getD stuck i 0 ≡ k → Tries book known stuck (set tried i n)

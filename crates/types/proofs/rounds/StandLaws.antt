@@ -53,6 +53,7 @@ module _ {ds : List Def} {t m n : List ℕ} {u : Used} (shown : Shown ds) (stand
   -- ---- a turn
 
   module _ (book : List ℕ) (i at : ℕ) (e : at ≡ entriesAt book i) where
+    -- where the tables are a registry's and the book is good, the turn of type i finds what it asks
     pub turn-in : {stuck tried : List ℕ} (tys : List ℕ) → Bytes book → Sound book → i < typesIn book
         → membersIn book ≤ length tys → Tries book (rowNames t n (u .types)) stuck tried
         → TurnIn t m n book tys stuck tried i at u
@@ -125,16 +126,20 @@ added-of u′ true (against y) u r h e =
 added-of u′ true (for d) u r h e =
     record { d = d; ready = refl; is = refl; took = rw e at (h .takes refl) }
 
-module _ {b : Bool} {v : Verdict} {u : Used} {t m n t′ m′ n′ : List ℕ} {r : Progress} (h : Turned b v u t m n t′ m′ n′ r)
+module _ {b : Bool} {v : Verdict} {u : Used} {t m n t′ m′ n′ : List ℕ} {r : Progress}
+    (h : Turned b v u t m n t′ m′ n′ r)
   where
+    -- where a turn says that the type waits, it was not ready, and the tables stay as they were
     pub turn-waits : r ≡ Waits → (b ≡ false) × ((t′ ≡ t) × ((m′ ≡ m) × (n′ ≡ n)))
     turn-waits e =
         let q = waits-of b v u r h e in
         (q, h .waits q .1)
 
+    -- where a turn says a refusal, the type was ready, and the verdict is that refusal
     pub turn-refused : (x : Refusal) → r ≡ Refused x → (b ≡ true) × (v ≡ against (whyOf x))
     turn-refused x e = refused-of x b v u r h e
 
+    -- where a turn says that the type was added, it was ready, and the verdict with it was carried out
     pub turn-added : (u′ : Used) → r ≡ Added u′ → AddedBy b v u t m n t′ m′ n′ u′
     turn-added u′ e = added-of u′ b v u r h e
 

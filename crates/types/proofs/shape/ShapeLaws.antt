@@ -17,22 +17,21 @@ use Rattle.words.proofs.TestLaws.{and-left, and-right}
 use Rattle.types.specs.atomics.Atomic.{codeOf}
 use Rattle.types.specs.inside.shape.Tags.{productOf}
 use Rattle.types.specs.inside.tables.Lent.{TyFits}
-use Rattle.types.specs.layout.Placing.{most, isBool, alignUp}
+use Rattle.types.specs.layout.Placing.{mostSize, isBool, alignUp}
 use Rattle.types.specs.refusals.Said.{done}
 use Rattle.types.specs.refusals.Said as say
 use Rattle.types.specs.shape.Tags.{ShapeSaid, given, refusedShape, mostLengths, noneZero, lengthsOk, product}
-use Rattle.types.specs.shape.Tags.{three}
-use Rattle.types.specs.shape.Tags.{within, boolTag, boolShape, plainShape, shapeOf, symbolFor, symbolOf}
+use Rattle.types.specs.shape.Tags.{three, within, boolTag, boolShape, plainShape, shapeOf, symbolFor, symbolOf}
 use Rattle.types.specs.tables.Kept.{KeptTypes}
 use Rattle.types.specs.tables.Lent.{typeAt}
+use Rattle.types.specs.tables.Limits.{mostTypes}
 use Rattle.types.specs.tables.Sizes.{sizeIn, sizesIn}
 use Rattle.types.specs.tables.There.{isThere}
 use Rattle.types.specs.tables.TypeWord.{typeIn, idsIn}
 use Rattle.types.specs.declared.atomics.atomic.Atomic.{Atomic as Kind}
 use Rattle.types.specs.declared.atomics.atomic.Atomic.the-variants.{Bool as BOOL, SInt, Int, DInt, LInt, USInt}
-use Rattle.types.specs.declared.atomics.atomic.Atomic.the-variants.{UInt}
-use Rattle.types.specs.declared.atomics.atomic.Atomic.the-variants.{UDInt}
-use Rattle.types.specs.declared.atomics.atomic.Atomic.the-variants.{ULInt, Real, LReal, Byte, Word, DWord, LWord}
+use Rattle.types.specs.declared.atomics.atomic.Atomic.the-variants.{UInt, UDInt, ULInt, Real, LReal, Byte, Word}
+use Rattle.types.specs.declared.atomics.atomic.Atomic.the-variants.{DWord, LWord}
 use Rattle.types.specs.declared.shape.tags.Product.{Product}
 use Rattle.types.specs.declared.shape.tags.Product.the-variants.{Is, Over}
 use Rattle.types.specs.declared.shape.tags.Shape.{Shape}
@@ -43,45 +42,55 @@ use Rattle.types.proofs.tables.KeptLaws.{kept-ids}
 
 -- ---- the types that are there
 
-pub no-row : (types : List ℕ) (n : ℕ) → 200 ≤ n → false ≡ isThere types (Struct n)
-no-row types n h = simp (le-ltb n 200 h)
+-- a structure with a number of 200 or above is not there
+pub no-row : (types : List ℕ) {n : ℕ} → mostTypes ≤ n → false ≡ isThere types (Struct n)
+no-row types {n} h = simp (le-ltb n mostTypes h)
 
-pub row-used : (types : List ℕ) (n : ℕ) {d : StructDef} → n < 200 → d ≡ typeAt types n
+-- a structure with a number below 200 is there just where the id in its row is not 0
+pub row-used : (types : List ℕ) {n : ℕ} {d : StructDef} → n < mostTypes → d ≡ typeAt types n
     → not (eqb (d .id) 0) ≡ isThere types (Struct n)
-row-used types n h e = rw e (simp (lt-ltb n 200 h))
+row-used types {n} h e = rw e (simp (lt-ltb n mostTypes h))
 
+-- a type that is there is an atomic or a structure with a number below 200
 pub there-fits : (types : List ℕ) (t : Ty) → isThere types t ≡ true → TyFits t
 there-fits types (Atomic a) e = tt
-there-fits types (Struct n) e = ltb-true n 200 (and-left (ltb n 200) _ e)
+there-fits types (Struct n) e = ltb-true n mostTypes (and-left (ltb n mostTypes) _ e)
 
 -- ---- the lengths
 
+-- BOOL has at most one length
 pub most-bool : (t : Ty) → isBool t ≡ true → 1 ≡ mostLengths t
 unfolding mostLengths
 most-bool t b = rw b
 
+-- any type but BOOL has at most three lengths
 pub most-other : (t : Ty) → isBool t ≡ false → 3 ≡ mostLengths t
 unfolding mostLengths
 most-other t b = rw b
 
 module _ (s : List ℕ) (i : ℕ) (l : i < length s) where
+  -- where length i is 0, one of those from it on is 0
   pub none-off : getD s i 0 ≡ 0 → noneZero (drop i s) ≡ false
   unfolding noneZero
   none-off e = rw (drop-cons s i 0 l) (simp (eq-eqb _ 0 e))
 
+  -- where length i is not 0, none from it on is 0 just where none after it is
   pub none-on : (getD s i 0 ≡ 0 → ⊥) → noneZero (drop i s) ≡ noneZero (drop (i + 1) s)
   unfolding noneZero
   none-on n = rw (add-one, drop-cons s i 0 l) (simp (ne-eqb _ 0 n))
 
+-- where no length is left, none is 0
 pub none-done : (s : List ℕ) (i : ℕ) → length s ≤ i → noneZero (drop i s) ≡ true
 unfolding noneZero
 none-done s i l = rw (drop-of-length-le s l)
 
 module _ (t : Ty) (s : List ℕ) where
+  -- more lengths than the type may have are wrong
   pub too-many : mostLengths t < length s → false ≡ lengthsOk t s
   unfolding lengthsOk
   too-many h = simp (lt-leb (length s) (mostLengths t) h)
 
+  -- lengths that are not too many for the type are right just where none is 0
   pub few : length s ≤ mostLengths t → noneZero s ≡ lengthsOk t s
   unfolding lengthsOk
   few h = simp (le-leb (length s) (mostLengths t) h)
@@ -90,23 +99,28 @@ module _ (t : Ty) (s : List ℕ) where
   unfolding lengthsOk
   ok-few e = leb-true (length s) (mostLengths t) (and-left _ (noneZero s) e)
 
+  -- of right lengths none is 0
   pub ok-none : lengthsOk t s ≡ true → noneZero s ≡ true
   unfolding lengthsOk
   ok-none e = and-right (leb (length s) (mostLengths t)) (noneZero s) e
 
+  -- a tag of BOOL counts as BOOL with a length just where it has one
   pub tag-bool : isBool t ≡ true → ltb 0 (length s) ≡ boolTag t s
   unfolding boolTag
   tag-bool b = rw b
 
+  -- a tag of any other type does not count as BOOL with a length
   pub tag-other : isBool t ≡ false → false ≡ boolTag t s
   unfolding boolTag
   tag-other b = rw b
 
 -- ---- products
 
+-- 0 times anything is at most any bound
 pub fits-zero : (a b m : ℕ) → a ≡ 0 → true ≡ leb (a * b) m
 fits-zero a b m e = rw e (sym (le-leb (0 * b) m (omega arith)))
 
+-- a product is at most a bound just where the second factor is at most the bound over the first
 pub fits-div : (a b m : ℕ) → (a ≡ 0 → ⊥) → leb b (m / a) ≡ leb (a * b) m
 fits-div a b m n = go (decLe b (m / a))
   where
@@ -136,6 +150,7 @@ pub record Multiplying (s : List ℕ) (n i : ℕ) : Type 0 where
   pub none : noneZero (drop i s) ≡ true
   pub rest : product s ≡ n * product (drop i s)
 
+-- before the first length the product is 1, and all lengths are left
 pub mul-start : (s : List ℕ) → noneZero s ≡ true → Multiplying s 1 0
 mul-start s e = record { inside = omega arith; small = omega arith; none = e; rest = omega arith }
 
@@ -149,10 +164,12 @@ module _ {s : List ℕ} {n i : ℕ} (w : Multiplying s n i) where
     unfolding product
     next-rest = w .rest ∙ rw (add-one, drop-cons s i 0 l, ← e) (sym (mul-assoc n x _))
 
+    -- the next length is multiplied in where 64 bits hold the product
     pub mul-on : leb (n * x) (2 ^ 64 - 1) ≡ true → Multiplying s (n * x) (i + 1)
     mul-on f =
         record { inside = omega arith; small = leb-true (n * x) (2 ^ 64 - 1) f; none = next-none; rest = next-rest }
 
+    -- where 64 bits do not hold the product with the next length, they do not hold that of all
     pub mul-over : leb (n * x) (2 ^ 64 - 1) ≡ false → Over ≡ productOf s
     unfolding productOf
     mul-over f =
@@ -160,6 +177,7 @@ module _ {s : List ℕ} {n i : ℕ} (w : Multiplying s n i) where
         let k = le-mul-of-pos-right (n * x) (product-least (drop (i + 1) s) next-none) in
         simp (lt-leb (product s) (2 ^ 64 - 1) (omega (arith, next-rest)))
 
+  -- where no length is left, the product is that of all
   pub mul-done : length s ≤ i → Is n ≡ productOf s
   unfolding productOf product
   mul-done l =
@@ -169,21 +187,25 @@ module _ {s : List ℕ} {n i : ℕ} (w : Multiplying s n i) where
 -- ---- the shapes
 
 module _ (sizes : ℕ → ℕ) (t : Ty) (lengths : List ℕ) (used n : ℕ) {size : ℕ} (e : size ≡ sizeIn sizes t) where
-  pub within-fits : leb (size * n) most ≡ true
+  -- elements of at most 2^26 bytes in all: the shape is given
+  pub within-fits : leb (size * n) mostSize ≡ true
       → given (record { ty = t; lengths = lengths; used = used; elements = n; bytes = size * n })
       ≡ within sizes t lengths used n
   unfolding within
   within-fits f = rw (← e) (simp f)
 
-  pub within-over : leb (size * n) most ≡ false → refusedShape 24 0 ≡ within sizes t lengths used n
+  -- elements of more than 2^26 bytes in all: refusal 24
+  pub within-over : leb (size * n) mostSize ≡ false → refusedShape 24 0 ≡ within sizes t lengths used n
   unfolding within
   within-over f = rw (← e) (simp f)
 
 module _ (sizes : ℕ → ℕ) (n up : ℕ) (e : up ≡ alignUp n 32) where
+  -- a BOOL tag whose rounded length is above 2^32 - 1: refusal 24
   pub bool-over : 2 ^ 32 - 1 < up → refusedShape 24 0 ≡ boolShape sizes n
   unfolding boolShape
   bool-over h = rw (← e) (simp (lt-leb up (2 ^ 32 - 1) h))
 
+  -- a BOOL tag of a smaller rounded length has a DWORD for each 32, if they are at most 2^26 bytes
   pub bool-within : up ≤ 2 ^ 32 - 1 → within sizes (Atomic DWord) (three (up ∷ [])) 1 (up / 32) ≡ boolShape sizes n
   unfolding boolShape
   bool-within h = rw (← e) (simp (le-leb up (2 ^ 32 - 1) h))
@@ -201,10 +223,12 @@ is-go true n m f q =
 is-go false n m f q = cc
 
 module _ (sizes : ℕ → ℕ) (t : Ty) (s : List ℕ) {p : Product} (e : p ≡ productOf s) where
+  -- lengths whose product 64 bits do not hold: refusal 24
   pub plain-over : p ≡ Over → refusedShape 24 0 ≡ plainShape sizes t s
   unfolding plainShape productOf
   plain-over q = over-go (leb (product s) (2 ^ 64 - 1)) _ _ (sym e ∙ q)
 
+  -- lengths whose product 64 bits hold give so many elements, if they are at most 2^26 bytes
   pub plain-is : (n : ℕ) → p ≡ Is n → within sizes t (three s) (length s) n ≡ plainShape sizes t s
   unfolding plainShape productOf
   plain-is n q =
@@ -213,19 +237,23 @@ module _ (sizes : ℕ → ℕ) (t : Ty) (s : List ℕ) {p : Product} (e : p ≡ 
 -- ---- the ways out
 
 module _ (types : List ℕ) (t : Ty) (s : List ℕ) where
+  -- the way out with 15: there is no such type
   pub not-there : isThere types t ≡ false → refusedShape 15 0 ≡ shapeOf types t s
   unfolding shapeOf
   not-there a = rw a
 
+  -- the way out with 23: the lengths are wrong
   pub lengths-wrong : isThere types t ≡ true → lengthsOk t s ≡ false → refusedShape 23 0 ≡ shapeOf types t s
   unfolding shapeOf
   lengths-wrong a b = rw (a, b)
 
+  -- the way of a BOOL with a right length: the shape of a BOOL tag
   pub bools : isThere types t ≡ true → lengthsOk t s ≡ true → boolTag t s ≡ true
       → boolShape (sizesIn types) (getD s 0 0) ≡ shapeOf types t s
   unfolding shapeOf
   bools a b d = rw (a, b, d)
 
+  -- the way of any other tag with right lengths: the shape of their product
   pub others : isThere types t ≡ true → lengthsOk t s ≡ true → boolTag t s ≡ false
       → plainShape (sizesIn types) t s ≡ shapeOf types t s
   unfolding shapeOf
@@ -252,6 +280,7 @@ code-below Word = lit< tt
 code-below DWord = lit< tt
 code-below LWord = lit< tt
 
+-- a type that is there has a type word below 0x9000
 pub type-below : {types : List ℕ} → KeptTypes types → (t : Ty) → isThere types t ≡ true
     → typeIn (idsIn types) t < 0x9000
 type-below k (Atomic a) h = omega (arith, code-below a)
@@ -259,14 +288,17 @@ type-below {types} k (Struct n) h = omega (arith, kept-ids (k .kept) n (there-fi
 
 -- the ways out
 module _ (types : List ℕ) (t : Ty) (used : ℕ) where
+  -- no symbol type is given but 15: there is no such type
   pub symbol-absent : isThere types t ≡ false → say.refused 15 0 ≡ symbolFor types t used
   unfolding symbolFor
   symbol-absent a = rw a
 
+  -- no symbol type is given but 23: there are more than three lengths
   pub symbol-many : isThere types t ≡ true → 3 < used → say.refused 23 0 ≡ symbolFor types t used
   unfolding symbolFor
   symbol-many a h = rw (a, lt-leb used 3 h)
 
+  -- the symbol type is given of a type that is there, with at most three lengths
   pub symbol-is : isThere types t ≡ true → used ≤ 3 → done (symbolOf (idsIn types) t used) ≡ symbolFor types t used
   unfolding symbolFor
   symbol-is a h = rw (a, le-leb used 3 h)
@@ -295,7 +327,7 @@ module _ (types : List ℕ) where
       → Asked types (within sizes t lengths used n)
   unfolding within
   asked-within sizes t lengths used n f h =
-      asked-if (leb (sizeIn sizes t * n) most)
+      asked-if (leb (sizeIn sizes t * n) mostSize)
       (λ b.
       record {
         ask = λ x e.

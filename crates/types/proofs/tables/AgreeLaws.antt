@@ -38,6 +38,7 @@ module _ (f g : ℕ → ℕ) (n : ℕ) (same : (k : ℕ) → k < n → f k ≡ g
   unfolding templateOf frontOf
   template-same d e = rw (infos-same (d .parts) e)
 
+  -- the size of an earlier type by either sizes
   pub size-same : (ty : Ty) → Earlier n ty → sizeIn f ty ≡ sizeIn g ty
   size-same (Atomic a) e = refl
   size-same (Struct k) e = same k e
@@ -58,11 +59,13 @@ module _ (f g : ℕ → ℕ) (n : ℕ) (same : (k : ℕ) → k < n → f k ≡ g
 -- ---- the first n values
 
 module _ {A : Type 0} where
+  -- the list of n values has length n
   pub length-list : (f : ℕ → A) (i n : ℕ) → length (listFrom f i n) ≡ n
   unfolding listFrom
   length-list f i zero = refl
   length-list f i (suc n) = ap suc (length-list f (i + 1) n)
 
+  -- the k-th of the values from the i-th on is the one with number i + k
   pub getD-from : (f : ℕ → A) (i n k : ℕ) (d : A) → k < n → getD (listFrom f i n) k d ≡ f (i + k)
   unfolding listFrom
   getD-from f i zero k d h = absurd (omega arith)

@@ -17,6 +17,7 @@ use Rattle.types.specs.layout.Laid.{Earlier, Every}
 use Rattle.types.specs.layout.Structs.{namesOf, rowsOf}
 use Rattle.types.specs.tables.Defs.{Part, Def, nameIn, partAt, partsAt, defOf}
 use Rattle.types.specs.tables.Lent.{memberRow, memberAt, nameAt, typeAt}
+use Rattle.types.specs.tables.Limits.{mostTypes, mostMembers, mostNames, memberWords}
 use Rattle.types.specs.tables.Registry.{ownNames, headOf}
 use Rattle.types.specs.declared.tables.member.Ty.{Ty}
 use Rattle.types.specs.declared.tables.member.Ty.the-variants.{Atomic, Struct}
@@ -42,18 +43,21 @@ module _ (t : List ℕ) (j : ℕ) (run : List ℕ) (i : ℕ) (h : (8 * i + 8 ≤
         w7 = at 7 (omega arith);
       }
 
+  -- the member in a row beside the run stays as it was
   pub member-stays : memberAt (sets t j run) i ≡ memberAt t i
   unfolding memberAt
   member-stays =
       let w = row-stays in
       simp (w .w2, w .w3, w .w4, w .w5, w .w6, w .w7)
 
+  -- the place of the name in a row beside the run stays as it was
   pub name-stays : nameAt (sets t j run) i ≡ nameAt t i
   unfolding nameAt
   name-stays =
       let w = row-stays in
       simp (w .w0, w .w1)
 
+  -- the structure in a row beside the run stays as it was
   pub type-stays : typeAt (sets t j run) i ≡ typeAt t i
   unfolding typeAt
   type-stays =
@@ -103,7 +107,7 @@ module _ (m : List ℕ) (row at : ℕ) (p : Part) (run : List ℕ) (l : 8 * row 
       ≡ record { at = at; long = length (p .name) }
   first-name =
       name-stays (sets m (8 * row) (rowOf at p)) (8 * (row + 1)) run row (inl (omega arith))
-      ∙ name-back m row _ (p .member) l
+      ∙ name-back m row (p .member) l
 
   first-part : (t bytes : List ℕ) → at + length (p .name) ≤ length t → Storable (p .member)
       → partAt (sets (sets m (8 * row) (rowOf at p)) (8 * (row + 1)) run)
@@ -179,6 +183,7 @@ pub record Within (m : List ℕ) (n edge row : ℕ) : Type 0 where
   pub name : nameAt m row .at + nameAt m row .long ≤ edge
   pub earlier : Earlier n (memberAt m row .ty)
 
+-- in the rows of stored parts each name ends at or before the end of all their names, each type is earlier
 pub rows-within : (m : List ℕ) (row at n : ℕ) (ps : List Part) → 8 * row + 8 * length ps ≤ length m
     → Every (PartFits n) ps → (k : ℕ) → k < length ps
     → Within (sets m (8 * row) (rowsOf at ps)) n (at + length (namesOf ps)) (row + k)
@@ -200,16 +205,19 @@ rows-within m row at n (p ∷ ps) h f (suc k) l =
     (rows-within (sets m (8 * row) (rowOf at p)) (row + 1) (at + length (p .name)) n ps
     (omega (arith, length-sets m (8 * row) (rowOf at p))) (f .1) k (omega arith))
 
-pub earlier-fits : (n : ℕ) → n ≤ 200 → (ty : Ty) → Earlier n ty → TyFits ty
+-- with at most 200 types, an earlier type is an atomic or a structure below 200
+pub earlier-fits : (n : ℕ) → n ≤ mostTypes → (ty : Ty) → Earlier n ty → TyFits ty
 earlier-fits n h (Atomic a) e = tt
 earlier-fits n h (Struct k) e = omega arith
 
-pub within-fits : {m : List ℕ} {n edge row : ℕ} → n ≤ 200 → Within m n edge row → TyFits (memberAt m row .ty)
+-- and so is the type of a member whose row names an earlier one
+pub within-fits : {m : List ℕ} {n edge row : ℕ} → n ≤ mostTypes → Within m n edge row → TyFits (memberAt m row .ty)
 within-fits {m} {n} {edge} {row} h w = earlier-fits n h (memberAt m row .ty) (w .earlier)
 
 -- its rows can be read
-pub head-readable : (m : List ℕ) (row at n : ℕ) (d : Def) → length m ≡ 16000 → row + length (d .parts) ≤ 2000
-    → at + length (ownNames d) ≤ 32768 → n ≤ 200 → Every (PartFits n) (d .parts)
+pub head-readable : (m : List ℕ) (row at n : ℕ) (d : Def) → length m ≡ memberWords
+    → row + length (d .parts) ≤ mostMembers
+    → at + length (ownNames d) ≤ mostNames → n ≤ mostTypes → Every (PartFits n) (d .parts)
     → Readable (sets m (8 * row) (rowsOf (at + length (d .name)) (d .parts))) (headOf at row d)
 head-readable m row at n d z h k few f =
     let long : length (ownNames d) ≡ length (d .name) + length (namesOf (d .parts)) =

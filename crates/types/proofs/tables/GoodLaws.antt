@@ -16,12 +16,12 @@ use Rattle.types.specs.inside.listing.Lines.{Short, TypeNamed, Listable}
 use Rattle.types.specs.inside.tables.Lent.{noType}
 use Rattle.types.specs.inside.templates.Waste.{Countable}
 use Rattle.types.specs.layout.Laid.{Earlier, Lies, Laid}
-use Rattle.types.specs.layout.Placing.{times}
+use Rattle.types.specs.layout.Placing.{mostSize, times}
 use Rattle.types.specs.layout.Structs.{namesOf, stringParts}
 use Rattle.types.specs.tables.Defs.{Part, Def, nameIn, partAt, partsAt, defOf}
 use Rattle.types.specs.tables.Lent.{kindOf, memberAt, nameAt, typeAt}
-use Rattle.types.specs.tables.Registry.{typesTable, membersTable, namesTable}
-use Rattle.types.specs.tables.Registry.{typeCount}
+use Rattle.types.specs.tables.Limits.{mostNames}
+use Rattle.types.specs.tables.Registry.{typesTable, membersTable, namesTable, typeCount}
 use Rattle.types.specs.tables.Sizes.{sizeIn, sizesIn, bitsOf}
 use Rattle.types.specs.declared.tables.member.Bit.the-variants.{None}
 use Rattle.types.specs.declared.tables.member.Member.{Member}
@@ -88,6 +88,7 @@ module _ (ds : List Def) (g : Good ds) where
       (λ i l e. s .rows i l .used (sym (s .rows i l .word) ∙ e))
       (λ l. s .blank (length ds) (omega arith))
 
+  -- the names of all types there are lie among the names
   pub good-inside : NamesInside types names (typeCount types)
   good-inside = rw good-count (names-inside ds (g .shown))
 
@@ -148,13 +149,16 @@ module _ (ds : List Def) (g : Good ds) where
     pub good-used : typeAt types i .id ≡ 0 → ⊥
     good-used = rw (r .head) (r .used)
 
+    -- its row holds its id
     pub good-id : typeAt types i .id ≡ d .id
     good-id = ap (λ (h : StructDef). h .id) (r .head)
 
+    -- its row holds its kind
     pub good-kind : typeAt types i .kind ≡ d .kind
     good-kind = ap (λ (h : StructDef). h .kind) (r .head)
 
-    pub good-most : typeAt types i .size ≤ 2 ^ 26 + 224
+    -- it is at most 2^26 + 224 bytes long
+    pub good-most : typeAt types i .size ≤ mostSize + 224
     good-most = rw (r .head) (g .well i l .most)
 
     member-is : (k : ℕ) → k < length (d .parts) → memberAt members (r .row + k) ≡ getD (d .parts) k noPart .member
@@ -224,7 +228,7 @@ module _ (ds : List Def) (g : Good ds) where
     unfolding partAt
     member-short k h =
         let w = r .within k h in
-        let inside : nameAt members (r .row + k) .at + nameAt members (r .row + k) .long ≤ 32768
+        let inside : nameAt members (r .row + k) .at + nameAt members (r .row + k) .long ≤ mostNames
         = omega (arith, w .name, r .bytes, g .shown .bytes) in
         let long = length-part names (nameAt members (r .row + k) .at) (nameAt members (r .row + k) .long)
         (omega (arith, inside, names-long ds)) in

@@ -1,7 +1,7 @@
 -- What follows from tables as our own calls left them (document 01, "What promises shut out"): each call's conditions,
 -- that a row is a type with all that is known of one or zero, and that no two types hold the same id or have the same
 -- name. A build keeps it, and says how many types there are.
-use Prim.Native.Nat.{ℕ, _+_, _*_, _^_, _<_, _≤_}
+use Prim.Native.Nat.{ℕ, _+_, _*_, _<_, _≤_}
 use native.Mathlib.Decide.{decLt}
 use native.Mathlib.Omega.{arith}
 use mathlib.Core.Path.{_≡_, refl, sym, ap, _∙_}
@@ -15,6 +15,7 @@ use Rattle.types.specs.inside.atomics.Lookup.{NamesInside}
 use Rattle.types.specs.inside.listing.Lines.{Listable}
 use Rattle.types.specs.inside.tables.Lent.{noType}
 use Rattle.types.specs.layout.Laid.{Laid}
+use Rattle.types.specs.layout.Placing.{mostSize}
 use Rattle.types.specs.layout.Predefined.{predefinedId, predefined}
 use Rattle.types.specs.refusals.Said.{Why}
 use Rattle.types.specs.rounds.Build.{buildOf, Ended}
@@ -22,9 +23,9 @@ use Rattle.types.specs.rounds.Rounds.{Answer, refused, accepted}
 use Rattle.types.specs.tables.Defs.{Def, partsAt}
 use Rattle.types.specs.tables.Kept.{Made, none, built, Kept}
 use Rattle.types.specs.tables.Lent.{typeAt}
+use Rattle.types.specs.tables.Limits.{mostTypes}
 use Rattle.types.specs.tables.Registry.{noTypes, noMembers, noNames, typesTable, membersTable, namesTable}
-use Rattle.types.specs.tables.Registry.{typeCount}
-use Rattle.types.specs.tables.Registry.{typeRows, memberRows, nameBytesOf}
+use Rattle.types.specs.tables.Registry.{typeCount, typeRows, memberRows, nameBytesOf}
 use Rattle.types.specs.tables.Sizes.{sizesIn}
 use Rattle.types.specs.templates.Template.{userId}
 use Rattle.types.specs.templates.Waste.{visibleBits}
@@ -58,15 +59,16 @@ made-good ds (built ids book bytes e) =
 
 -- ---- a row: a type with all that is known of one, or no type
 
+-- row i is a type's, with all that is known of one
 pub record TypeRow (types members names : List ℕ) (i : ℕ) : Type 0 where
   pub counted : i < typeCount types
-  pub few : i < 200
+  pub few : i < mostTypes
   pub used : typeAt types i .id ≡ 0 → ⊥
   pub listable : Listable types members (typeAt types i)
   -- it is laid out well, is at most 2^26 + 224 bytes long, and its visible members' bits never pass them
   pub laid : Laid (sizesIn types) i (typeAt types i .size)
       (partsAt members names (typeAt types i .first) (typeAt types i .count))
-  pub most : typeAt types i .size ≤ 2 ^ 26 + 224
+  pub most : typeAt types i .size ≤ mostSize + 224
   pub bits : visibleBits (sizesIn types) (partsAt members names (typeAt types i .first) (typeAt types i .count))
       ≤ 8 * typeAt types i .size
   -- one of kind Str is a string
@@ -80,6 +82,7 @@ pub record TypeRow (types members names : List ℕ) (i : ℕ) : Type 0 where
   pub name : goodName (rowName types names i) ≡ true
   pub parts : (k : ℕ) → k < typeAt types i .count → MemberRow members names (typeAt types i .first + k)
 
+-- row i is a type's, or it is zero
 pub data RowIs (types members names : List ℕ) (i : ℕ) : Type 0 where
   holds : TypeRow types members names i → RowIs types members names i
   empty : typeAt types i ≡ noType → RowIs types members names i
@@ -117,7 +120,7 @@ module _ {types members names : List ℕ} (k : Kept types members names) where
   kept-inside = rw (k .rows, k .bytes) (good-inside (k .defs) good)
 
   -- ids have twelve bits
-  pub kept-ids : (n : ℕ) → n < 200 → typeAt types n .id < 0x1000
+  pub kept-ids : (n : ℕ) → n < mostTypes → typeAt types n .id < 0x1000
   kept-ids n l = rw (k .rows) (ids-fit (k .defs) (good .shown) n l)
 
   -- so many types there are
@@ -130,7 +133,7 @@ module _ {types members names : List ℕ} (k : Kept types members names) where
       rw (k .rows, k .parts, k .bytes)
       (λ i l. good-row (k .defs) good i (rw (good-count (k .defs) good) at l))
 
-  -- .. and every other one is zero
+  -- each row is a type, with all that is known of one, or it is empty
   pub kept-row : (i : ℕ) → RowIs types members names i
   kept-row i = go (decLt i (typeCount types))
     where

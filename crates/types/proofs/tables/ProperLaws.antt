@@ -15,8 +15,7 @@ use Rattle.types.specs.book.Contents.{every}
 use Rattle.types.specs.book.Names.{nameByte, nameBytes, goodName}
 use Rattle.types.specs.layout.Laid.{Every}
 use Rattle.types.specs.layout.Predefined.{predefinedId, predefinedIds, withTimer, withCounter, withControl}
-use Rattle.types.specs.layout.Predefined.{predefined}
-use Rattle.types.specs.layout.Predefined.{timerName, counterName, controlName, stringName}
+use Rattle.types.specs.layout.Predefined.{predefined, timerName, counterName, controlName, stringName}
 use Rattle.types.specs.layout.Structs.{laidKind, timerParts, counterParts, controlTypeParts}
 use Rattle.types.specs.tables.Defs.{Def}
 use Rattle.types.specs.tables.Lent.{kindWord}
@@ -25,7 +24,7 @@ use Rattle.types.specs.declared.layout.predefined.PredefinedIds.{Predefi
 use Rattle.types.specs.declared.tables.member.StructKind.{StructKind}
 use Rattle.types.specs.declared.tables.member.StructKind.the-variants.{Udt, Predefined, Str}
 use Rattle.types.proofs.layout.PartLaws.{PartFormed, control-formed, string-formed}
-use Rattle.types.proofs.layout.PredefinedLaws.{ids-allowed}
+use Rattle.types.proofs.layout.PredefinedIds.{ids-allowed}
 use Rattle.types.proofs.tables.ShownLaws.{noDef, each-more}
 
 -- ---- ids
@@ -62,6 +61,7 @@ firstNames = timerName ∷ counterName ∷ controlName ∷ stringName ∷ []
 abbrev pub firstKinds : List StructKind
 firstKinds = Predefined ∷ Predefined ∷ Predefined ∷ Str ∷ []
 
+-- the name and the kind are those of the i-th predefined type
 pub record FirstFour (i : ℕ) (s : List ℕ) (k : StructKind) : Type 0 where
   pub name : s ≡ getD firstNames i []
   pub kind : k ≡ getD firstKinds i Udt
@@ -76,9 +76,11 @@ pub record Proper (i : ℕ) (d : Def) : Type 0 where
   pub late : 4 ≤ i → userId (d .id) ≡ true
   pub kind : userId (d .id) ≡ true → d .kind ≡ Predefined → ⊥
 
+-- each type of a registry is proper
 abbrev pub AllProper : List Def → Type 0
 AllProper ds = (i : ℕ) → i < length ds → Proper i (getD ds i noDef)
 
+-- each of no types is proper
 pub proper-none : AllProper []
 proper-none i l = absurd (let z : ⊥ = omega arith in z)
 

@@ -11,24 +11,25 @@ use lib.ListN.{length, getD, replicate, length-append, length-replicate}
 use lib.Seq.{sets, length-sets}
 use Rattle.words.proofs.Lists.{sets-append, getD-beside}
 use Rattle.types.specs.adding.Add.{yes}
-use Rattle.types.specs.inside.adding.Add.{added}
-use Rattle.types.specs.inside.adding.Add.{Took}
-use Rattle.types.specs.inside.tables.Registry.{usedBy, usedMore}
-use Rattle.types.specs.inside.tables.Registry.{Stands}
+use Rattle.types.specs.inside.adding.Add.{added, Took}
+use Rattle.types.specs.inside.tables.Registry.{usedMore, Stands}
 use Rattle.types.specs.layout.Structs.{rowsOf}
 use Rattle.types.specs.tables.Defs.{Def}
 use Rattle.types.specs.tables.Lent.{typeRow}
-use Rattle.types.specs.tables.Registry.{ownNames, membersOf, nameBytesOf, headOf, typeRows, memberRows}
-use Rattle.types.specs.tables.Registry.{noTypes, noMembers, noNames, typesTable, membersTable, namesTable}
+use Rattle.types.specs.tables.Limits.{mostNames, typeWords, memberWords}
+use Rattle.types.specs.tables.Registry.{ownNames, membersOf, nameBytesOf, headOf, typeRows, memberRows, noTypes}
+use Rattle.types.specs.tables.Registry.{noMembers, noNames, typesTable, membersTable, namesTable}
 use Rattle.types.specs.declared.adding.progress.Progress.the-variants.{Added}
 use Rattle.types.specs.declared.adding.used.Used.{Used}
 use Rattle.types.proofs.layout.StoreLaws.{row-long}
 
 -- ---- one type more: how many, and which rows
 
+-- with one type more the registry is longer by one
 pub length-snoc : (ds : List Def) (d : Def) → length (ds ++ d ∷ []) ≡ length ds + 1
 length-snoc ds d = length-append ds (d ∷ [])
 
+-- with one type more there are as many more members as it has parts
 pub members-of-snoc : (ds : List Def) (d : Def) → membersOf (ds ++ d ∷ []) ≡ membersOf ds + length (d .parts)
 unfolding membersOf
 members-of-snoc [] d = omega arith
@@ -41,6 +42,7 @@ bytes-of-snoc (x ∷ ds) d =
     ap (λ (l : List ℕ). ownNames x ++ l) (bytes-of-snoc ds d)
     ∙ sym (append-assoc (ownNames x) (nameBytesOf ds) (ownNames d))
 
+-- with one type more there are as many more bytes of names as its own have
 pub long-snoc : (ds : List Def) (d : Def)
     → length (nameBytesOf (ds ++ d ∷ [])) ≡ length (nameBytesOf ds) + length (ownNames d)
 long-snoc ds d = rw (bytes-of-snoc ds d) (length-append (nameBytesOf ds) (ownNames d))
@@ -88,6 +90,7 @@ member-rows-long at (d ∷ ds) =
 
 -- ---- one type more: the tables
 
+-- the types' table of one type more is the old one with its row stored after the others
 pub types-more : (ds : List Def) (d : Def) → typesTable (ds ++ d ∷ [])
     ≡ sets (typesTable ds) (8 * length ds) (typeRow (headOf (length (nameBytesOf ds)) (membersOf ds) d))
 unfolding typesTable
@@ -96,6 +99,7 @@ types-more ds d =
     rw (type-rows-snoc 0 0 ds d, zero-add (length (nameBytesOf ds)), zero-add (membersOf ds))
     (rw (← e) (sets-append noTypes 0 (typeRows 0 0 ds) _))
 
+-- the members' table of one type more is the old one with its members' rows stored after the others
 pub members-more : (ds : List Def) (d : Def) → membersTable (ds ++ d ∷ [])
     ≡ sets (membersTable ds) (8 * membersOf ds) (rowsOf (length (nameBytesOf ds) + length (d .name)) (d .parts))
 unfolding membersTable
@@ -103,6 +107,7 @@ members-more ds d =
     let e : 0 + length (memberRows 0 ds) ≡ 8 * membersOf ds = omega (arith, member-rows-long 0 ds) in
     rw (member-rows-snoc 0 ds d, zero-add) (rw (← e) (sets-append noMembers 0 (memberRows 0 ds) _))
 
+-- the names of one type more are the old ones with its own stored after them
 pub names-more : (ds : List Def) (d : Def)
     → namesTable (ds ++ d ∷ []) ≡ sets (namesTable ds) (length (nameBytesOf ds)) (ownNames d)
 unfolding namesTable
@@ -117,27 +122,30 @@ used-more ds d = rw (length-snoc ds d, members-of-snoc ds d, long-snoc ds d)
 
 -- ---- how long the tables are
 
-no-types-long : length noTypes ≡ 1600
+no-types-long : length noTypes ≡ typeWords
 unfolding noTypes
-no-types-long = length-replicate {A = ℕ} 1600 0
+no-types-long = length-replicate {A = ℕ} typeWords 0
 
-no-members-long : length noMembers ≡ 16000
+no-members-long : length noMembers ≡ memberWords
 unfolding noMembers
-no-members-long = length-replicate {A = ℕ} 16000 0
+no-members-long = length-replicate {A = ℕ} memberWords 0
 
-no-names-long : length noNames ≡ 32768
+no-names-long : length noNames ≡ mostNames
 unfolding noNames
-no-names-long = length-replicate {A = ℕ} 32768 0
+no-names-long = length-replicate {A = ℕ} mostNames 0
 
-pub types-long : (ds : List Def) → length (typesTable ds) ≡ 1600
+-- the types' table has 1,600 words
+pub types-long : (ds : List Def) → length (typesTable ds) ≡ typeWords
 unfolding typesTable
 types-long ds = length-sets noTypes 0 (typeRows 0 0 ds) ∙ no-types-long
 
-pub members-long : (ds : List Def) → length (membersTable ds) ≡ 16000
+-- the members' table has 16,000 words
+pub members-long : (ds : List Def) → length (membersTable ds) ≡ memberWords
 unfolding membersTable
 members-long ds = length-sets noMembers 0 (memberRows 0 ds) ∙ no-members-long
 
-pub names-long : (ds : List Def) → length (namesTable ds) ≡ 32768
+-- the names have 32,768 bytes
+pub names-long : (ds : List Def) → length (namesTable ds) ≡ mostNames
 unfolding namesTable
 names-long ds = length-sets noNames 0 (nameBytesOf ds) ∙ no-names-long
 
@@ -150,8 +158,9 @@ zeros (suc n) (suc k) = zeros n k
 
 no-word : (k : ℕ) → getD noTypes k 0 ≡ 0
 unfolding noTypes
-no-word k = zeros 1600 k
+no-word k = zeros typeWords k
 
+-- a word of the types' table after the rows of all types is zero
 pub word-after : (ds : List Def) (k : ℕ) → 8 * length ds ≤ k → getD (typesTable ds) k 0 ≡ 0
 unfolding typesTable
 word-after ds k l =
@@ -162,6 +171,7 @@ word-after ds k l =
 used-then : (u u′ : Used) (d : Def) → added u′ ≡ added (usedMore u d) → u′ ≡ usedMore u d
 used-then u u′ d e = cc
 
+-- where a type was added, the tables are those of the registry with that type at its end
 pub stands-more : {ds : List Def} {t m n t′ m′ n′ : List ℕ} {u u′ : Used} (d : Def) → Stands ds t m n u
     → Took (yes d) u t m n t′ m′ n′ (Added u′) → Stands (ds ++ d ∷ []) t′ m′ n′ u′
 stands-more {ds} {u = u} {u′ = u′} d s k =

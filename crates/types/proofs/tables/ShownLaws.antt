@@ -21,13 +21,14 @@ use Rattle.types.specs.layout.Laid.{Every}
 use Rattle.types.specs.layout.Structs.{namesOf, rowsOf}
 use Rattle.types.specs.tables.Defs.{Def, defOf}
 use Rattle.types.specs.tables.Lent.{typeAt, typeRow}
-use Rattle.types.specs.tables.Registry.{ownNames, membersOf, nameBytesOf, headOf}
-use Rattle.types.specs.tables.Registry.{typesTable, membersTable, namesTable, viewOf}
+use Rattle.types.specs.tables.Limits.{mostTypes, mostMembers, mostNames}
+use Rattle.types.specs.tables.Registry.{ownNames, membersOf, nameBytesOf, headOf, typesTable, membersTable}
+use Rattle.types.specs.tables.Registry.{namesTable, viewOf}
 use Rattle.types.specs.tables.Sizes.{sizesIn}
 use Rattle.types.specs.declared.tables.member.StructDef.{StructDef}
 use Rattle.types.specs.declared.tables.member.StructKind.the-variants.{Udt}
-use Rattle.types.proofs.tables.DefLaws.{PartFits, Within, type-stays, member-stays, name-stays}
-use Rattle.types.proofs.tables.DefLaws.{parts-beside, def-back, rows-within, within-fits}
+use Rattle.types.proofs.tables.DefLaws.{PartFits, Within, type-stays, member-stays, name-stays, parts-beside}
+use Rattle.types.proofs.tables.DefLaws.{def-back, rows-within, within-fits}
 use Rattle.types.proofs.tables.RegistryLaws.{length-snoc, members-of-snoc, long-snoc, types-more, members-more}
 use Rattle.types.proofs.tables.RegistryLaws.{names-more, types-long, members-long, names-long, word-after}
 use Rattle.types.proofs.tables.TableLaws.{type-back}
@@ -36,9 +37,9 @@ use Rattle.types.proofs.tables.TableLaws.{type-back}
 
 -- what a type that is added to a registry has
 pub record Fits (ds : List Def) (d : Def) : Type 0 where
-  pub few : length ds < 200
-  pub rows : membersOf ds + length (d .parts) ≤ 2000
-  pub bytes : length (nameBytesOf ds) + length (ownNames d) ≤ 32768
+  pub few : length ds < mostTypes
+  pub rows : membersOf ds + length (d .parts) ≤ mostMembers
+  pub bytes : length (nameBytesOf ds) + length (ownNames d) ≤ mostNames
   pub parts : Every (PartFits (length ds)) (d .parts)
   pub id : d .id < 0x1000
   pub used : d .id ≡ 0 → ⊥
@@ -76,9 +77,9 @@ each-more P ds d w n i l = go (decLt i (length ds))
 
 -- each type of the registry is shown by its row, and the rows after them are unused
 pub record Shown (ds : List Def) : Type 0 where
-  pub few : length ds ≤ 200
-  pub members : membersOf ds ≤ 2000
-  pub bytes : length (nameBytesOf ds) ≤ 32768
+  pub few : length ds ≤ mostTypes
+  pub members : membersOf ds ≤ mostMembers
+  pub bytes : length (nameBytesOf ds) ≤ mostNames
   pub rows : (i : ℕ) → i < length ds → Row ds i (getD ds i noDef)
   pub unused : (i : ℕ) → length ds ≤ i → typeAt (typesTable ds) i .id ≡ 0
   pub blank : (i : ℕ) → length ds ≤ i → idWord (typesTable ds) i ≡ 0
@@ -93,6 +94,7 @@ id-after ds i l = rw (word-after ds (8 * i + 2) (omega arith))
 
 -- ---- no type
 
+-- the tables of a registry of no types show it
 pub shown-none : Shown []
 unfolding membersOf nameBytesOf
 shown-none =
@@ -168,7 +170,7 @@ module _ (ds : List Def) (d : Def) (f : Fits ds d) where
   own-head : typeAt (typesTable (ds ++ d ∷ [])) (length ds) ≡ headOf (length (nameBytesOf ds)) (membersOf ds) d
   own-head =
       rw (types-more ds d)
-      (type-back (typesTable ds) (length ds) _ (omega (arith, types-long ds))
+      (type-back (typesTable ds) (length ds) (omega (arith, types-long ds))
       record { id = omega (arith, f .id); handle = f .handle })
 
   own-word : idWord (typesTable (ds ++ d ∷ [])) (length ds) ≡ d .id
@@ -186,7 +188,8 @@ module _ (ds : List Def) (d : Def) (f : Fits ds d) where
       (omega (arith, members-long ds)) (omega (arith, names-long ds)) (f .parts))
 
   own-within : (k : ℕ) → k < length (d .parts)
-      → Within (membersTable (ds ++ d ∷ [])) (length ds) (length (nameBytesOf ds) + length (ownNames d)) (membersOf ds + k)
+      → Within (membersTable (ds ++ d ∷ [])) (length ds)
+      (length (nameBytesOf ds) + length (ownNames d)) (membersOf ds + k)
   own-within k l =
       let e : length (nameBytesOf ds) + length (ownNames d)
       ≡ length (nameBytesOf ds) + length (d .name) + length (namesOf (d .parts)) =
@@ -245,12 +248,13 @@ map-same : {B : Type 0} (f : ℕ → B) (g : Def → B) (ds : List Def)
     → ((k : ℕ) → k < length ds → f k ≡ g (getD ds k noDef)) → listFrom f 0 (length ds) ≡ map g ds
 map-same f g ds h = list-map f g ds noDef 0 (λ k l. rw zero-add (h k l))
 
--- a row's name, id and size are the type's
+-- the name in a row is the type's
 pub name-same : (ds : List Def) (i : ℕ) (d : Def) → Row ds i d
     → rowName (typesTable ds) (namesTable ds) i ≡ d .name
 unfolding defOf
 name-same ds i d r = rw (r .head) (ap (λ (x : Def). x .name) (r .def))
 
+-- the size in a row is the type's
 pub sizes-same : (ds : List Def) → Shown ds → (k : ℕ) → k < length ds
     → sizesIn (typesTable ds) k ≡ getD ds k noDef .size
 sizes-same ds s k l = ap (λ (h : StructDef). h .size) (s .rows k l .head)
@@ -280,7 +284,8 @@ names-inside ds s = record { few = s .few; inside = inside }
 pub ids-small : (ds : List Def) → Shown ds → (k : ℕ) → k < length ds → idWord (typesTable ds) k < 65536
 ids-small ds s k l = rw (s .rows k l .word) (omega (arith, s .rows k l .id))
 
-pub ids-fit : (ds : List Def) → Shown ds → (n : ℕ) → n < 200 → typeAt (typesTable ds) n .id < 0x1000
+-- the id in each of the 200 rows is below 0x1000
+pub ids-fit : (ds : List Def) → Shown ds → (n : ℕ) → n < mostTypes → typeAt (typesTable ds) n .id < 0x1000
 ids-fit ds s n l = go (decLt n (length ds))
   where
     go : Dec (n < length ds) → typeAt (typesTable ds) n .id < 0x1000

@@ -27,6 +27,7 @@ use Rattle.types.proofs.atomics.AtomicLaws.{at-num, num-below}
 
 -- ---- words
 
+-- a type is read back from its word
 pub ty-back : (t : Ty) → tyOf (tyWord t) ≡ t
 unfolding tyOf
 ty-back (atomic a) = simp (lt-ltb (numOf a) 0x8000 (omega (arith, num-below a)), at-num a)
@@ -34,6 +35,7 @@ ty-back (Struct n) =
     let e : 0x8000 + n - 0x8000 ≡ n = omega arith in
     simp (le-ltb (0x8000 + n) 0x8000 (omega arith), e)
 
+-- the word of an atomic, or of a structure below 200, has 16 bits
 pub word-below : (t : Ty) → TyFits t → tyWord t < 65536
 word-below (atomic a) f = omega (arith, num-below a)
 word-below (Struct n) f = omega arith
@@ -50,18 +52,21 @@ bit-back (At k) h =
     let e : (k + 1 - 1) % 8 ≡ k = omega arith in
     simp (ne-eqb (k + 1) 0 (λ q. omega arith), e)
 
+-- whether a member is hidden is read back from its flags
 pub hidden-back : (h l : Bool) → eqb (flagsOf h l % 2) 1 ≡ h
 hidden-back true true = refl
 hidden-back true false = refl
 hidden-back false true = refl
 hidden-back false false = refl
 
+-- whether a member is local is read back from its flags
 pub local-back : (h l : Bool) → eqb (flagsOf h l / 2 % 2) 1 ≡ l
 local-back true true = refl
 local-back true false = refl
 local-back false true = refl
 local-back false false = refl
 
+-- a structure's kind is read back from its word
 pub kind-back : (k : StructKind) → kindOf (kindWord k) ≡ k
 unfolding kindOf
 kind-back Udt = refl
@@ -137,10 +142,11 @@ member-back t i n m h s =
       a,
     )
 
-pub name-back : (t : List ℕ) (i : ℕ) (n : Span) (m : Member) → 8 * i + 8 ≤ length t
+-- the place and the length of a stored member's name are read back
+pub name-back : (t : List ℕ) (i : ℕ) {n : Span} (m : Member) → 8 * i + 8 ≤ length t
     → nameAt (sets t (8 * i) (memberRow n m)) i ≡ n
 unfolding nameAt
-name-back t i n m h =
+name-back t i {n} m h =
     let w = member-words t i n m h in
     simp (w .w0, w .w1)
 
@@ -158,10 +164,10 @@ unfolding typeRow
 type-words t i d h = stored t i _ _ _ _ _ _ _ _ h
 
 -- a stored structure is read back
-pub type-back : (t : List ℕ) (i : ℕ) (d : StructDef) → 8 * i + 8 ≤ length t → TypeStorable d
+pub type-back : (t : List ℕ) (i : ℕ) {d : StructDef} → 8 * i + 8 ≤ length t → TypeStorable d
     → typeAt (sets t (8 * i) (typeRow d)) i ≡ d
 unfolding typeAt
-type-back t i d h s =
+type-back t i {d} h s =
     let w = type-words t i d h in
     let a : d .id % 65536 ≡ d .id = omega (arith, s .id) in
     let b : d .handle % 65536 ≡ d .handle = omega (arith, s .handle) in

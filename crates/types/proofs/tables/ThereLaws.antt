@@ -10,19 +10,20 @@ use Rattle.words.proofs.TestLaws.{and-left, and-right}
 use Rattle.types.specs.listing.Lines.{hasMember}
 use Rattle.types.specs.tables.Kept.{Kept}
 use Rattle.types.specs.tables.Lent.{typeAt}
+use Rattle.types.specs.tables.Limits.{mostTypes}
 use Rattle.types.specs.templates.Template.{hasTemplate}
 use Rattle.types.specs.declared.tables.member.Ty.the-variants.{Struct}
 use Rattle.types.proofs.tables.KeptLaws.{TypeRow, kept-used}
 
 -- a structure that is there is a row of the table
-pub there-below : (types : List ℕ) (n : ℕ) → hasTemplate types (Struct n) ≡ true → n < 200
-there-below types n e = ltb-true _ _ (and-left (ltb n 200) (not (eqb (typeAt types n .id) 0)) e)
+pub there-below : (types : List ℕ) (n : ℕ) → hasTemplate types (Struct n) ≡ true → n < mostTypes
+there-below types n e = ltb-true _ _ (and-left (ltb n mostTypes) (not (eqb (typeAt types n .id) 0)) e)
 
 -- and holds a type
 pub kept-there : {types members names : List ℕ} → Kept types members names → (n : ℕ)
     → hasTemplate types (Struct n) ≡ true → TypeRow types members names n
 kept-there {types} k n e =
-    let used = and-right (ltb n 200) (not (eqb (typeAt types n .id) 0)) e in
+    let used = and-right (ltb n mostTypes) (not (eqb (typeAt types n .id) 0)) e in
     kept-used k n (λ z. true≢false (sym used ∙ ap not (eq-eqb _ _ z)))
 
 -- a member that is there is one of its type's

@@ -29,8 +29,8 @@ use Rattle.types.specs.declared.atomics.lookup.FoundTy.the-variants.{Is}
 use Rattle.types.specs.declared.layout.predefined.PredefinedIds.{PredefinedIds}
 use Rattle.types.specs.declared.tables.member.Ty.the-variants.{Struct}
 use Rattle.types.proofs.adding.AddLaws.{every-nth}
-use Rattle.types.proofs.layout.PredefinedLaws.{same-1, same-2, same-3, same-4, same-5, same-6, ids-differ}
-use Rattle.types.proofs.layout.PredefinedLaws.{ids-allowed}
+use Rattle.types.proofs.layout.PredefinedIds.{same-1, same-2, same-3, same-4, same-5, same-6, ids-differ}
+use Rattle.types.proofs.layout.PredefinedIds.{ids-allowed}
 use Rattle.types.proofs.tables.RegistryLaws.{length-snoc}
 use Rattle.types.proofs.tables.ShownLaws.{noDef}
 
@@ -43,9 +43,11 @@ pub record Differs (d x : Def) : Type 0 where
 abbrev pub Unlike : List Def → Type 0
 Unlike ds = (i j : ℕ) → i < j → j < length ds → Differs (getD ds j noDef) (getD ds i noDef)
 
+-- in a registry of no types it is so
 pub unlike-none : Unlike []
 unlike-none i j l h = absurd (let z : ⊥ = omega arith in z)
 
+-- it stays so with one type more that differs from each of them
 pub unlike-more : (ds : List Def) (d : Def) → Unlike ds → Every (Differs d) ds → Unlike (ds ++ d ∷ [])
 unlike-more ds d u n i j l h = go (decLt j (length ds))
   where
@@ -135,6 +137,7 @@ module _ (ids : PredefinedIds) (good : predefinedIds ids ≡ true) where
       unlike-more (withCounter ids) _ counter-unlike
       (record { id = timer-control; name = refl }, (record { id = counter-control; name = refl }, tt))
 
+  -- under good ids no two predefined types hold the same id or have the same name
   pub predefined-unlike : Unlike (predefined ids)
   unfolding withTimer withCounter withControl predefined newDef Every sameName lowerOf
   predefined-unlike =

@@ -1,13 +1,13 @@
 -- Every type of a registry is laid out well (document 01, "Layout"; what values may count on), and stays so when types
 -- are added: a layout depends on the sizes of earlier types only.
-use Prim.Native.Nat.{ℕ, _+_, _*_, _^_, _<_, _≤_}
+use Prim.Native.Nat.{ℕ, _+_, _*_, _<_, _≤_}
 use native.Mathlib.Omega.{arith}
 use mathlib.Core.Path.{_≡_, refl, sym, ap, _∙_}
 use mathlib.Core.List.{List, [], _∷_, _++_, map, map-append}
 use mathlib.Core.Logic.{inl, inr, ⊎-elim}
 use lib.ListN.{length, getD, length-map, List·getD-append}
 use Rattle.types.specs.layout.Laid.{Earlier, Apart, Clear, Rising, Laid, Every}
-use Rattle.types.specs.layout.Placing.{times}
+use Rattle.types.specs.layout.Placing.{mostSize, times}
 use Rattle.types.specs.tables.Defs.{Part, Def}
 use Rattle.types.specs.tables.Sizes.{bitsOf}
 use Rattle.types.specs.declared.tables.member.Bit.{Bit}
@@ -49,6 +49,7 @@ module _ (f g : ℕ → ℕ) (i : ℕ) (same : (k : ℕ) → k < i → f k ≡ g
   rising-same m (p ∷ ps) e (r, rs) =
       (λ v w. omega (arith, r v w, bits-same m (m .bit) e), rising-same m ps e rs)
 
+  -- parts laid out well by some sizes are so by any that agree with them for the earlier types
   pub laid-same : (size : ℕ) (ps : List Part) → Laid f i size ps → Laid g i size ps
   unfolding Laid
   laid-same size [] l = tt
@@ -67,12 +68,14 @@ module _ (f g : ℕ → ℕ) (i : ℕ) (same : (k : ℕ) → k < i → f k ≡ g
 -- type i is laid out well, is not too large, and is a string where its kind says so
 pub record WellMade (sizes : ℕ → ℕ) (i : ℕ) (d : Def) : Type 0 where
   pub laid : Laid sizes i (d .size) (d .parts)
-  pub most : d .size ≤ 2 ^ 26 + 224
+  pub most : d .size ≤ mostSize + 224
   pub string : d .kind ≡ Str → IsString (d .size) (d .parts)
 
+-- the size of the n-th type of a registry, 0 past its end
 abbrev pub sizesOf : List Def → ℕ → ℕ
 sizesOf ds n = getD (map (λ (x : Def). x .size) ds) n 0
 
+-- each type of a registry is well made
 abbrev pub Well : List Def → Type 0
 Well ds = (i : ℕ) → i < length ds → WellMade (sizesOf ds) i (getD ds i noDef)
 
@@ -82,9 +85,11 @@ sizes-stay ds d k l =
     sym (ap (λ (s : List ℕ). getD s k 0) (map-append (λ (x : Def). x .size) ds (d ∷ []))
     ∙ List·getD-append (map (λ (x : Def). x .size) ds) _ 0 k (omega (arith, n)))
 
+-- each of no types is well made
 pub well-none : Well []
 well-none i l = absurd (let z : ⊥ = omega arith in z)
 
+-- one well-made type more leaves all of them well made
 pub well-more : (ds : List Def) (d : Def) → Well ds → WellMade (sizesOf ds) (length ds) d → Well (ds ++ d ∷ [])
 well-more ds d w n =
     each-more (WellMade (sizesOf (ds ++ d ∷ []))) ds d

@@ -13,6 +13,7 @@ use Rattle.types.specs.templates.Handle.{foldFrom}
 use Rattle.types.specs.declared.templates.sink.Sink.{Sink}
 use Rattle.types.proofs.templates.HandleLaws.{fold-append}
 
+-- a sink that writes took the bytes that were stored at its place and folded
 pub wrote : (s : List ℕ) (k : Sink) (out : List ℕ) (fold : ℕ) → k .writes ≡ true → fold ≡ foldFrom (k .fold) s
     → Emitted s k out (record { at = k .at + length s; fold = fold; writes = true }) (sets out (k .at) s)
 wrote s k out fold w f = record { at = refl; fold = f; writes = sym w; bytes = rw w }
@@ -58,6 +59,7 @@ pub record Left (whole : List ℕ) (k : Sink) (out rest : List ℕ) (m : Sink) (
   pub room : Room rest m left
   pub then : (r : Sink) (last : List ℕ) → Emitted rest m left r last → Emitted whole k out r last
 
+-- before the first piece comes the whole is left
 pub left-all : {s : List ℕ} {k : Sink} {out : List ℕ} → Room s k out → Left s k out s k out
 left-all h = record { long = refl; room = h; then = λ r last e. e }
 
@@ -95,6 +97,7 @@ pub record Turn (whole : List ℕ) (rests : ℕ → List ℕ) (n : ℕ) (k : Sin
   pub inside : i ≤ n
   pub rest : Left whole k out (rests i) m left
 
+-- before the first turn the whole is left
 pub turn-first : {whole : List ℕ} {k : Sink} {out : List ℕ} (rests : ℕ → List ℕ) (n : ℕ) → whole ≡ rests 0
     → Room whole k out → Turn whole rests n k out 0 k out
 turn-first {whole} {k} {out} rests n e h = record { inside = omega arith; rest = rw (← e) (left-all h) }

@@ -1,6 +1,6 @@
 -- Adding one type of the book (document 01, "Refusal numbers"): 2, 3, 4, 5, 6, 7; per member 2, 8, 9; layout per member
 -- 11, 12; then 13; else the new type.
-use Prim.Native.Nat.{ℕ, _+_, _^_, _-_}
+use Prim.Native.Nat.{ℕ, _+_, _-_}
 use mathlib.Core.Bool.{Bool, cond, not, _&&_}
 use mathlib.Core.List.{List, []}
 use lib.Dec.{eqb, leb, ltb}
@@ -10,11 +10,13 @@ use Rattle.types.specs.adding.Ids.{idFor}
 use Rattle.types.specs.atomics.Lookup.{typeAmong}
 use Rattle.types.specs.book.Contents.{isAoi, isString, hasId, typeEntry}
 use Rattle.types.specs.book.Names.{goodName}
+use Rattle.types.specs.layout.Placing.{mostSize}
 use Rattle.types.specs.layout.Structs.{namedIn, LaidOut, laid, stopped, roundedSize, layoutOf, laidKind}
 use Rattle.types.specs.layout.Structs.{stringParts, stringSize}
 use Rattle.types.specs.refusals.Said.{Why}
 use Rattle.types.specs.rounds.Resolve.{isFound}
 use Rattle.types.specs.tables.Defs.{Part, Def, nameIn}
+use Rattle.types.specs.tables.Limits.{mostTypes, mostMembers, mostNames}
 use Rattle.types.specs.tables.Registry.{View, idAt, ownNames}
 use Rattle.types.specs.templates.Handle.{handleOf}
 use Rattle.types.specs.templates.Template.{templateOf}
@@ -28,16 +30,19 @@ use Rattle.types.specs.declared.layout.placing.Decl.{Decl}
 use Rattle.types.specs.declared.tables.member.StructKind.{StructKind}
 use Rattle.types.specs.declared.tables.member.StructKind.the-variants.{Str}
 
--- a refusal, or the new type
+-- the verdict on one type
 pub data Verdict : Type 0 where
+  -- it is refused
   no : Why → Verdict
+  -- the new type
   yes : Def → Verdict
 
 -- ---- 13, or the new type
 
 -- the tables hold 200 types, 2,000 members and 32,768 bytes of names; so much is used, and so much is asked for
 unfoldable pub hasRoom : Used → ℕ → ℕ → Bool
-hasRoom u members bytes = ltb (u .types) 200 && leb (u .members + members) 2000 && leb (u .bytes + bytes) 32768
+hasRoom u members bytes =
+    ltb (u .types) mostTypes && leb (u .members + members) mostMembers && leb (u .bytes + bytes) mostNames
 
 abbrev pub usedIn : View → Used
 usedIn v = record { types = length (v .names); members = v .members; bytes = v .bytes }
@@ -88,7 +93,7 @@ addMembers v book i at n aoi name id ds =
 
 -- a string has a length from 1 to 2^26 - 4, no members, and is no AOI
 unfoldable pub stringOk : TypeEntry → Bool
-stringOk e = leb 1 (e .string) && leb (e .string) (2 ^ 26 - 4) && eqb (e .count) 0 && not (isAoi e)
+stringOk e = leb 1 (e .string) && leb (e .string) (mostSize - 4) && eqb (e .count) 0 && not (isAoi e)
 
 unfoldable pub addString : View → ℕ → TypeEntry → List ℕ → ℕ → Verdict
 addString v i e name id =

@@ -53,11 +53,21 @@ bodiesAt s = 4 + 16 * typesIn s + 16 * membersIn s
 unfoldable pub inBodies : ℕ → ℕ → Span → Bool
 inBodies start end s = leb start (s .at) && leb (s .at + s .long) end
 
--- flags 1 AOI, 2 string, 4 id given; other flag bits are 0; an unset flag needs 0 in its field
+-- flags: 1 AOI, 2 string, 4 id given
+abbrev pub isAoi : TypeEntry → Bool
+isAoi e = eqb (e .flags % 2) 1
+
+abbrev pub isString : TypeEntry → Bool
+isString e = eqb (e .flags / 2 % 2) 1
+
+abbrev pub hasId : TypeEntry → Bool
+hasId e = leb 4 (e .flags)
+
+-- other flag bits are 0; an unset flag needs 0 in its field
 unfoldable pub typeOk : ℕ → ℕ → TypeEntry → Bool
 typeOk start end e =
-    leb (e .flags) 7 && eqb (e .zero) 0 && (leb 4 (e .flags) || eqb (e .id) 0)
-    && (eqb (e .flags / 2 % 2) 1 || eqb (e .string) 0) && inBodies start end (e .name)
+    leb (e .flags) 7 && eqb (e .zero) 0 && (hasId e || eqb (e .id) 0)
+    && (isString e || eqb (e .string) 0) && inBodies start end (e .name)
 
 -- local 0 or 1
 unfoldable pub memberOk : ℕ → ℕ → MemberEntry → Bool
@@ -87,15 +97,3 @@ unfoldable pub bookOk : List ℕ → Bool
 bookOk s =
     leb 4 (length s) && leb (bodiesAt s) (length s) && every (typeOk (bodiesAt s) (length s)) (typeEntries s)
     && eqb (sumCounts (typeEntries s)) (membersIn s) && every (memberOk (bodiesAt s) (length s)) (memberEntries s)
-
--- ---- per member 2, 8, 9
-
--- flags: 1 AOI, 2 string, 4 id given
-abbrev pub isAoi : TypeEntry → Bool
-isAoi e = eqb (e .flags % 2) 1
-
-abbrev pub isString : TypeEntry → Bool
-isString e = eqb (e .flags / 2 % 2) 1
-
-abbrev pub hasId : TypeEntry → Bool
-hasId e = leb 4 (e .flags)

@@ -1,5 +1,5 @@
 -- Layout (document 01, "Layout"): where a declared member goes, as a step from a cursor to what lies where and the next
--- cursor. The UDT paragraph is `place`; an AOI differs only in that its BOOLs share the hosts at its start.
+-- cursor. The UDT paragraph is `placed`; an AOI differs only in that its BOOLs share the hosts at its start.
 use Prim.Native.Nat.{ℕ, _+_, _-_, _*_, _/_, _%_}
 use mathlib.Core.Bool.{Bool, true, false, cond, _||_}
 use lib.Dec.{eqb, leb, ltb}
@@ -24,12 +24,12 @@ unfoldable pub times : ℕ → ℕ
 times n = cond (eqb n 0) 1 n
 
 -- a member must end at or below 2^26
-abbrev pub most : ℕ
-most = 67108864
+abbrev pub mostSize : ℕ
+mostSize = 67108864
 
 unfoldable pub memberEnd : ℕ → ℕ → ℕ → Said ℕ
 memberEnd offset size count =
-    cond (leb (offset + size * times count) most) (done (offset + size * times count)) (refused 12 0)
+    cond (leb (offset + size * times count) mostSize) (done (offset + size * times count)) (refused 12 0)
 
 -- what an answer says
 abbrev pub saidBy : End → Said ℕ

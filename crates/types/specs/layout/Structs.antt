@@ -40,9 +40,11 @@ named n m = record { name = n; member = m }
 abbrev pub namedIn : List ℕ → Decl → List ℕ
 namedIn book d = nameIn book (d .name)
 
--- what is laid out: the parts, and how far they came; or the first refusal's number
+-- what is laid out
 pub data LaidOut : Type 0 where
+  -- the parts, and how far they came
   laid : List Part → Cursor → LaidOut
+  -- the first refusal's number
   stopped : ℕ → LaidOut
 
 -- after some parts

@@ -3,8 +3,11 @@ use Prim.Native.Nat.{ℕ}
 use Rattle.types.specs.refusals.Refusal.{numberOf, placeOf}
 use Rattle.types.specs.declared.refusals.refusal.Refusal.{Refusal}
 
+-- what is said
 pub data Said (A : Type 0) : Type 0 where
+  -- a value
   done : A → Said A
+  -- a refusal: its number, its place
   refused : ℕ → ℕ → Said A
 
 -- a refusal says its number and its place

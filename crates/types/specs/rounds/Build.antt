@@ -17,8 +17,6 @@ use Rattle.types.specs.declared.layout.predefined.PredefinedIds.{Predefi
 use Rattle.types.specs.declared.rounds.build.Built.{Built}
 use Rattle.types.specs.declared.rounds.build.Built.the-variants.{Types, Refused}
 
--- ---- the whole
-
 unfoldable pub buildOf : PredefinedIds → List ℕ → Answer (List Def) Why
 buildOf ids book =
     cond (predefinedIds ids)

@@ -7,19 +7,25 @@ use mathlib.Core.List.{List, [], _∷_}
 use lib.Dec.{eqb}
 use lib.ListN.{length, getD}
 
--- adding one type: a refusal, or the state with it
+-- what adding one type gives
 pub data Step (S R : Type 0) : Type 0 where
+  -- a refusal
   no : R → Step S R
+  -- the state with it
   ok : S → Step S R
 
--- one round: a refusal, or the state after it and the types that still wait
+-- what one round gives
 pub data Out (S R : Type 0) : Type 0 where
+  -- a refusal
   stop : R → Out S R
+  -- the state after it, and the types that still wait
   went : S → List ℕ → Out S R
 
--- all rounds: a refusal, or the state with all the types
+-- what all rounds give
 pub data Answer (S R : Type 0) : Type 0 where
+  -- a refusal
   refused : R → Answer S R
+  -- the state with all the types
   accepted : S → Answer S R
 
 module _ {S R : Type 0} where

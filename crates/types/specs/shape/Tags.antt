@@ -5,7 +5,7 @@ use mathlib.Core.Bool.{Bool, true, cond, not, _&&_}
 use mathlib.Core.List.{List, [], _∷_}
 use lib.Dec.{eqb, leb, ltb}
 use lib.ListN.{length, getD}
-use Rattle.types.specs.layout.Placing.{most, isBool, alignUp}
+use Rattle.types.specs.layout.Placing.{mostSize, isBool, alignUp}
 use Rattle.types.specs.refusals.Fit.{fitSays}
 use Rattle.types.specs.refusals.Said.{Said, done, why}
 use Rattle.types.specs.refusals.Said as say
@@ -63,7 +63,7 @@ three ns = getD ns 0 0 ∷ getD ns 1 0 ∷ getD ns 2 0 ∷ []
 -- n elements of a stored type, not above 2^26 bytes
 unfoldable pub within : (ℕ → ℕ) → Ty → List ℕ → ℕ → ℕ → ShapeSaid
 within sizes ty lengths used n =
-    cond (leb (sizeIn sizes ty * n) most)
+    cond (leb (sizeIn sizes ty * n) mostSize)
     (given (record { ty = ty; lengths = lengths; used = used; elements = n; bytes = sizeIn sizes ty * n }))
     (refusedShape 24 0)
 

@@ -10,9 +10,11 @@ use Rattle.types.specs.tables.Defs.{Def}
 use Rattle.types.specs.tables.Registry.{typesTable, membersTable, namesTable}
 use Rattle.types.specs.declared.layout.predefined.PredefinedIds.{PredefinedIds}
 
--- a registry that a build can leave: none yet, or one that it accepted
+-- a registry that our own calls can leave
 pub data Made (ds : List Def) : Type 0 where
+  -- no types yet, or none after a refusal
   none : ds ≡ [] → Made ds
+  -- what a build accepted, of some ids and some book
   built : (ids : PredefinedIds) (book : List ℕ) → Bytes book → buildOf ids book ≡ accepted ds → Made ds
 
 pub record Kept (types members names : List ℕ) : Type 0 where

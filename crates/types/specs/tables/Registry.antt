@@ -11,6 +11,7 @@ use Rattle.types.specs.adding.Ids.{idWord}
 use Rattle.types.specs.layout.Structs.{namesOf, rowsOf}
 use Rattle.types.specs.tables.Defs.{Def}
 use Rattle.types.specs.tables.Lent.{typeRow}
+use Rattle.types.specs.tables.Limits.{mostTypes, mostNames, typeWords, memberWords}
 use Rattle.types.specs.declared.tables.member.StructDef.{StructDef}
 
 -- what adding a type asks of those before it: their names, ids and sizes by their numbers, and how many members and
@@ -77,13 +78,13 @@ memberRows at (d ∷ ds) = rowsOf (at + length (d .name)) (d .parts) ++ memberRo
 
 -- tables of zeros
 unfoldable pub noTypes : List ℕ
-noTypes = replicate 1600 0
+noTypes = replicate typeWords 0
 
 unfoldable pub noMembers : List ℕ
-noMembers = replicate 16000 0
+noMembers = replicate memberWords 0
 
 unfoldable pub noNames : List ℕ
-noNames = replicate 32768 0
+noNames = replicate mostNames 0
 
 unfoldable pub typesTable : List Def → List ℕ
 typesTable ds = sets noTypes 0 (typeRows 0 0 ds)
@@ -101,4 +102,4 @@ countFrom ids i zero = 0
 countFrom ids i (suc n) = cond (eqb (ids i) 0) 0 (suc (countFrom ids (i + 1) n))
 
 unfoldable pub typeCount : List ℕ → ℕ
-typeCount types = countFrom (idWord types) 0 200
+typeCount types = countFrom (idWord types) 0 mostTypes

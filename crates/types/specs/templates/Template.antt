@@ -9,6 +9,7 @@ use Rattle.words.specs.Words.{bytesOf}
 use Rattle.types.specs.refusals.Said.{Said, done, refused}
 use Rattle.types.specs.tables.Defs.{Part, Def, defOf}
 use Rattle.types.specs.tables.Lent.{typeAt}
+use Rattle.types.specs.tables.Limits.{mostTypes}
 use Rattle.types.specs.tables.TypeWord.{typeIn, idsIn}
 use Rattle.types.specs.declared.tables.member.Bit.{Bit}
 use Rattle.types.specs.declared.tables.member.Bit.the-variants.{None, At}
@@ -85,7 +86,7 @@ objectSize n = (n + 23 + 3) / 4
 -- a structure of the table has a template; an atomic has none
 abbrev pub hasTemplate : List ℕ → Ty → Bool
 hasTemplate types (Atomic a) = false
-hasTemplate types (Struct n) = ltb n 200 && not (eqb (typeAt types n .id) 0)
+hasTemplate types (Struct n) = ltb n mostTypes && not (eqb (typeAt types n .id) 0)
 
 abbrev pub templateFor : List ℕ → List ℕ → List ℕ → Ty → List ℕ
 templateFor types members names (Atomic a) = []

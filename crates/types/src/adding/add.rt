@@ -3,7 +3,6 @@
 ghost use mathlib.Core.Path.{_≡_};
 ghost use Prim.Native.Nat.{_<_};
 ghost use Rattle.types.specs.adding.Add.{addMembers, addNamed, addEntry, stringOk};
-ghost use Rattle.types.specs.book.Contents.{isAoi, isString, hasId};
 ghost use Rattle.types.specs.inside.adding.Add.{Took, Addable, AddableEntry};
 ghost use Rattle.types.specs.inside.book.Decls.{declsFrom};
 ghost use Rattle.types.specs.inside.tables.Registry.{viewIn};
@@ -20,30 +19,14 @@ use crate::atomics::lookup::FoundTy;
 use crate::atomics::lookup::lookup;
 use crate::book::contents::TypeEntry;
 use crate::book::contents::count_of;
+use crate::book::contents::has_id;
+use crate::book::contents::is_aoi;
+use crate::book::contents::is_string;
 use crate::book::names::good_name;
 use crate::refusals::refusal::Refusal;
 use crate::tables::lent::MemberTable;
 use crate::tables::lent::NameTable;
 use crate::tables::lent::TypeTable;
-
-// Flags: 1 AOI, 2 string, 4 id given.
-fn is_aoi(e: TypeEntry) -> bool
-    ensures { λ r. ⌜ r ≡ isAoi e ⌝ }
-{
-    e.flags % 2 == 1
-}
-
-fn is_string(e: TypeEntry) -> bool
-    ensures { λ r. ⌜ r ≡ isString e ⌝ }
-{
-    e.flags / 2 % 2 == 1
-}
-
-fn has_id(e: TypeEntry) -> bool
-    ensures { λ r. ⌜ r ≡ hasId e ⌝ }
-{
-    4 <= e.flags
-}
 
 // A string has a length from 1 to 2^26 - 4, no members, and is no AOI.
 fn string_ok(e: TypeEntry) -> bool
@@ -137,8 +120,7 @@ fn add_named(
         used,
     };
     if string {
-        let ok = string_ok(w.entry);
-        if ok {
+        if string_ok(w.entry) {
             return add_string(new, w.entry.string, name, types, members, names);
         }
         return Progress::Refused(Refusal::StringWrong(w.number));
@@ -164,8 +146,7 @@ pub fn add_entry(
         (now (types .entry)) (now (members .entry)) (now (names .entry))
         (now (types .exit)) (now (members .exit)) (now (names .exit)) r ⌝ }
 {
-    let good = good_name(name);
-    if good {
+    if good_name(name) {
         let found = lookup(types, names, w.used.types, name);
         match found {
             FoundTy::Is(_) => {

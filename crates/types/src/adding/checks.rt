@@ -50,8 +50,7 @@ fn among_first(book: &[u8], at: usize, j: usize, name: &[u8]) -> bool
         let span = e.name;
         let start = wide(span.at);
         let end = start + wide(span.long);
-        let same = same_name(&book[start..end], name);
-        if same {
+        if same_name(&book[start..end], name) {
             return true;
         }
     }
@@ -83,12 +82,10 @@ fn check_one(book: &[u8], at: usize, j: usize, aoi: bool, seen: &mut Seen) -> Ch
     let local = e.local;
     let start = wide(span.at);
     let end = start + wide(span.long);
-    let good = good_name(&book[start..end]);
-    if !good {
+    if !good_name(&book[start..end]) {
         return Checked::NameWrong;
     }
-    let known = look(book, at, j, &book[start..end], seen);
-    if known {
+    if look(book, at, j, &book[start..end], seen) {
         return Checked::Twice;
     }
     if local != 1 {

@@ -5,6 +5,7 @@ ghost use Prim.Native.Nat.{_≤_};
 ghost use Rattle.types.specs.adding.Ids.{idWord, inUse, idFor};
 ghost use Rattle.types.specs.book.Contents.{listFrom};
 ghost use Rattle.types.specs.inside.adding.Ids.{Lowest};
+ghost use Rattle.types.specs.tables.Limits.{mostTypes};
 use crate::tables::lent::TYPE_WORDS;
 use crate::tables::lent::TypeTable;
 use words::wide16;
@@ -19,7 +20,7 @@ pub enum Picked {
 
 // The lowest id that none of the first n types holds; 0xF00 where each is held.
 pub fn free_id(types: &TypeTable, n: usize) -> u32
-    requires { ⌜ n ≤ 200 ⌝ }
+    requires { ⌜ n ≤ mostTypes ⌝ }
     ensures { λ r. ⌜ Lowest (now (types .entry)) n r ⌝ }
 {
     let mut id: u32 = 0x100;
@@ -41,7 +42,7 @@ pub fn free_id(types: &TypeTable, n: usize) -> u32
 
 // One of the first n types holds an id.
 fn in_use(types: &TypeTable, n: usize, id: u32) -> bool
-    requires { ⌜ n ≤ 200 ⌝ }
+    requires { ⌜ n ≤ mostTypes ⌝ }
     ensures { λ r. ⌜ r ≡ inUse id (listFrom (idWord (now (types .entry))) 0 n) ⌝ }
 {
     let mut i: usize = 0;
@@ -56,7 +57,7 @@ fn in_use(types: &TypeTable, n: usize, id: u32) -> bool
 
 // The id of the next type: the given one, or the lowest that is free.
 pub fn pick_id(types: &TypeTable, n: usize, given: bool, id: u16) -> Picked
-    requires { ⌜ n ≤ 200 ⌝ }
+    requires { ⌜ n ≤ mostTypes ⌝ }
     ensures { λ r. ⌜ r ≡ idFor (listFrom (idWord (now (types .entry))) 0 n) given id ⌝ }
 {
     if given {
@@ -66,8 +67,7 @@ pub fn pick_id(types: &TypeTable, n: usize, given: bool, id: u16) -> Picked
         if 0xEFF < id {
             return Picked::OutsideRange;
         }
-        let used = in_use(types, n, wide16(id));
-        if used {
+        if in_use(types, n, wide16(id)) {
             return Picked::InUse;
         }
         return Picked::Free(id);

@@ -6,6 +6,7 @@ ghost use lib.Seq.{sets};
 ghost use Rattle.types.specs.inside.tables.Defs.{Readable};
 ghost use Rattle.types.specs.inside.tables.Registry.{withHandle, bareHead};
 ghost use Rattle.types.specs.tables.Lent.{typeRow};
+ghost use Rattle.types.specs.tables.Limits.{mostTypes, mostMembers, mostNames};
 ghost use Rattle.types.specs.templates.Handle.{handleOf};
 ghost use Rattle.types.specs.templates.Template.{templateIn};
 use crate::adding::used::Used;
@@ -26,7 +27,7 @@ pub fn enter(
     i: usize,
     head: StructDef,
 )
-    requires { ⌜ (i < 200) × Readable (now members) head ⌝ }
+    requires { ⌜ (i < mostTypes) × Readable (now members) head ⌝ }
     ensures { λ _. ⌜ now (types .exit) ≡ sets (now (types .entry)) (8 * i) (typeRow (withHandle head
         (handleOf (templateIn (now (types .entry)) (now (members .entry)) (now (names .entry)) head)))) ⌝ }
 {
@@ -57,7 +58,7 @@ pub fn bare_head(
     kind: StructKind,
     count: u32,
 ) -> StructDef
-    requires { ⌜ (u .members ≤ 2000) × ((u .bytes ≤ 32768) × (long ≤ 32768)) ⌝ }
+    requires { ⌜ (u .members ≤ mostMembers) × ((u .bytes ≤ mostNames) × (long ≤ mostNames)) ⌝ }
     ensures { λ r. ⌜ r ≡ bareHead u long id size kind count ⌝ }
 {
     StructDef {

@@ -1,17 +1,18 @@
 // New types of the book, laid out (document 01, "Refusal numbers": layout per member 11, 12; then 13): a UDT, an
 // AOI, a string. Nothing is stored before all is known.
 ghost use mathlib.Core.Path.{_≡_};
-ghost use Prim.Native.Nat.{_+_, _*_, _^_, _-_, _≤_};
+ghost use Prim.Native.Nat.{_+_, _*_, _-_, _≤_};
 ghost use lib.ListN.{length};
 ghost use lib.Seq.{sets};
 ghost use Rattle.types.specs.adding.Add.{addLaid, newDef, fitted, yes};
+ghost use Rattle.types.specs.declared.adding.progress.Progress.the-variants.{Added};
+ghost use Rattle.types.specs.declared.tables.member.StructKind.the-variants.{Str};
 ghost use Rattle.types.specs.inside.adding.Add.{Took, Ready, Addable, AddableString};
 ghost use Rattle.types.specs.inside.book.Decls.{declsFrom, Found};
 ghost use Rattle.types.specs.inside.layout.Passes.{partsOf, measuredOf, StorableType};
 ghost use Rattle.types.specs.inside.tables.Registry.{viewIn};
+ghost use Rattle.types.specs.layout.Placing.{mostSize};
 ghost use Rattle.types.specs.layout.Structs.{namesOf, rowsOf, namedIn, laidKind, stringParts, stringSize};
-ghost use Rattle.types.specs.declared.adding.progress.Progress.the-variants.{Added};
-ghost use Rattle.types.specs.declared.tables.member.StructKind.the-variants.{Str};
 use crate::adding::new_row::bare_head;
 use crate::adding::new_row::enter;
 use crate::adding::progress::Progress;
@@ -127,10 +128,9 @@ pub fn add_laid(
         Measured::TooFar => {
             return Progress::Refused(Refusal::MemberTooFar(new.number));
         }
-        Measured::Laid(c, long) => {
+        Measured::Came(c, long) => {
             let bytes = name.len() + wide(long);
-            let room = has_room(new.used, wide(c.members), bytes);
-            if room {
+            if has_room(new.used, wide(c.members), bytes) {
                 let size = rounded_size(c);
                 let kind = laid_kind(new.aoi);
                 put_bytes(names, new.used.bytes, name);
@@ -156,7 +156,7 @@ pub fn store_string(
     name: &[u8],
     capacity: u32,
 ) -> Used
-    requires { ⌜ Ready (now types) (now members) (now names) u 2 (length (now name) + 7) × (capacity ≤ 2 ^ 26 - 4) ⌝ }
+    requires { ⌜ Ready (now types) (now members) (now names) u 2 (length (now name) + 7) × (capacity ≤ mostSize - 4) ⌝ }
     ensures { λ r. ⌜ Took (yes (newDef (viewIn (now (types .entry)) (now (names .entry)) u)
         (now (name .entry)) id (stringSize capacity) Str (stringParts capacity))) u
         (now (types .entry)) (now (members .entry)) (now (names .entry))
@@ -181,15 +181,14 @@ pub fn add_string(
     names: &mut NameTable,
 ) -> Progress
     requires { ⌜ AddableString (now types) (now members) (now names) (now name) (new .used) ⌝ }
-    requires { ⌜ capacity ≤ 2 ^ 26 - 4 ⌝ }
+    requires { ⌜ capacity ≤ mostSize - 4 ⌝ }
     ensures { λ r. ⌜ Took (fitted (viewIn (now (types .entry)) (now (names .entry)) (new .used)) (new .number)
         (newDef (viewIn (now (types .entry)) (now (names .entry)) (new .used)) (now (name .entry)) (new .id)
         (stringSize capacity) Str (stringParts capacity))) (new .used)
         (now (types .entry)) (now (members .entry)) (now (names .entry))
         (now (types .exit)) (now (members .exit)) (now (names .exit)) r ⌝ }
 {
-    let room = has_room(new.used, 2, name.len() + 7);
-    if room {
+    if has_room(new.used, 2, name.len() + 7) {
         let more = store_string(types, members, names, new.used, new.id, name, capacity);
         return Progress::Added(more);
     }

@@ -3,6 +3,7 @@ ghost use mathlib.Core.Path.{_≡_};
 ghost use Prim.Native.Nat.{_+_, _<_, _≤_, _^_};
 ghost use Rattle.types.specs.adding.Add.{hasRoom};
 ghost use Rattle.types.specs.inside.tables.Registry.{usedWith};
+ghost use Rattle.types.specs.tables.Limits.{mostTypes, mostMembers, mostNames};
 use crate::tables::lent::MEMBERS;
 use crate::tables::lent::NAME_BYTES;
 use crate::tables::lent::TYPES;
@@ -30,7 +31,7 @@ pub fn has_room(u: Used, members: usize, bytes: usize) -> bool
 
 // How much is used with one type more.
 pub fn used_more(u: Used, members: usize, bytes: usize) -> Used
-    requires { ⌜ (u .types < 200) × ((u .members + members ≤ 2000) × (u .bytes + bytes ≤ 32768)) ⌝ }
+    requires { ⌜ (u .types < mostTypes) × ((u .members + members ≤ mostMembers) × (u .bytes + bytes ≤ mostNames)) ⌝ }
     ensures { λ r. ⌜ r ≡ usedWith u members bytes ⌝ }
 {
     Used {

@@ -159,8 +159,7 @@ impl Atomic {
             let row = rows[i];
             let bytes = row.3;
             let long = row.2 as usize;
-            let same = same_name(&bytes[..long], name);
-            if same {
+            if same_name(&bytes[..long], name) {
                 return FoundAtomic::Is(Atomic::at(i));
             }
             i += 1;

@@ -53,8 +53,7 @@ fn header_in(types: &TypeTable, ty: Ty) -> Header
 pub fn type_header(types: &TypeTable, ty: Ty) -> Headed
     ensures { λ r. ⌜ saidBy r ≡ headedOf (now (types .entry)) ty ⌝ }
 {
-    let there = is_there(types, ty);
-    if there {
+    if is_there(types, ty) {
         let header = header_in(types, ty);
         return Headed {
             fit: Fit::Fits,

@@ -1,15 +1,16 @@
 // Types by their names (document 01, "Atomic types": names compare without ASCII case): an atomic first, then the types
 // in order.
 ghost use mathlib.Core.Path.{_≡_};
-ghost use Rattle.types.specs.atomics.Lookup.{rowNames, saidBy, wordAmong, rowName, namedAmong};
-ghost use Rattle.types.specs.tables.Kept.{KeptNames};
-ghost use Rattle.types.specs.tables.Registry.{typeCount};
 ghost use Prim.Native.Nat.{_+_, _-_, _<_, _≤_};
 ghost use lib.ListN.{length};
+ghost use Rattle.types.specs.atomics.Lookup.{rowNames, saidBy, wordAmong, rowName, namedAmong};
 ghost use Rattle.types.specs.book.Contents.{listFrom};
 ghost use Rattle.types.specs.book.Names.{sameName};
 ghost use Rattle.types.specs.inside.atomics.Lookup.{NamesInside, typeOf};
+ghost use Rattle.types.specs.tables.Kept.{KeptNames};
 ghost use Rattle.types.specs.tables.Lent.{typeAt};
+ghost use Rattle.types.specs.tables.Limits.{mostTypes};
+ghost use Rattle.types.specs.tables.Registry.{typeCount};
 use crate::atomics::atomic::Atomic;
 use crate::atomics::atomic::FoundAtomic;
 use crate::book::names::same_name;
@@ -20,16 +21,6 @@ use crate::tables::lent::TypeTable;
 use crate::tables::member::Ty;
 use words::wide;
 
-// The type of a name: an atomic, else the first structure of the tables.
-pub fn find(types: &TypeTable, names: &NameTable, name: &[u8]) -> FoundTy
-    requires { ⌜ KeptNames (now types) (now names) ⌝ }
-    ensures { λ r. ⌜ saidBy r ≡ wordAmong
-        (rowNames (now (types .entry)) (now (names .entry)) (typeCount (now (types .entry)))) (now (name .entry)) ⌝ }
-{
-    let n = type_count(types);
-    lookup(types, names, n, name)
-}
-
 // A type, where one was found.
 pub enum FoundTy {
     Is(Ty),
@@ -38,7 +29,7 @@ pub enum FoundTy {
 
 // The structure in a row has a name. A name of another length is told apart without being read.
 fn row_named(types: &TypeTable, names: &[u8], i: usize, name: &[u8]) -> bool
-    requires { ⌜ (i < 200)
+    requires { ⌜ (i < mostTypes)
         × (typeAt (now types) i .name .at + typeAt (now types) i .name .long ≤ length (now names)) ⌝ }
     ensures { λ r. ⌜ r ≡ sameName (rowName (now (types .entry)) (now (names .entry)) i) (now (name .entry)) ⌝ }
 {
@@ -59,8 +50,7 @@ pub fn find_type(types: &TypeTable, names: &[u8], from: usize, n: usize, name: &
 {
     let mut i = from;
     while i < n {
-        let same = row_named(types, names, i, name);
-        if same {
+        if row_named(types, names, i, name) {
             return FoundTy::Is(Ty::Struct(i));
         }
         i += 1;
@@ -78,4 +68,14 @@ pub fn lookup(types: &TypeTable, names: &[u8], n: usize, name: &[u8]) -> FoundTy
         FoundAtomic::Is(a) => FoundTy::Is(Ty::Atomic(a)),
         FoundAtomic::Nothing => find_type(types, names, 0, n, name),
     }
+}
+
+// The type of a name: an atomic, else the first structure of the tables.
+pub fn find(types: &TypeTable, names: &NameTable, name: &[u8]) -> FoundTy
+    requires { ⌜ KeptNames (now types) (now names) ⌝ }
+    ensures { λ r. ⌜ saidBy r ≡ wordAmong
+        (rowNames (now (types .entry)) (now (names .entry)) (typeCount (now (types .entry)))) (now (name .entry)) ⌝ }
+{
+    let n = type_count(types);
+    lookup(types, names, n, name)
 }

@@ -4,8 +4,8 @@ ghost use mathlib.Core.Path.{_≡_};
 ghost use Prim.Native.Nat.{_+_, _*_, _<_, _≤_};
 ghost use mathlib.Core.Bool.{_||_};
 ghost use lib.ListN.{length};
-ghost use Rattle.types.specs.book.Contents.{typeEntry, entryAt, memberEntry, inBodies, typeOk, memberOk, every};
-ghost use Rattle.types.specs.book.Contents.{listFrom, bookOk};
+ghost use Rattle.types.specs.book.Contents.{isAoi, isString, hasId, typeEntry, entryAt, memberEntry, inBodies};
+ghost use Rattle.types.specs.book.Contents.{typeOk, memberOk, every, listFrom, bookOk};
 ghost use Rattle.types.specs.inside.book.Contents.{CountsSum};
 use crate::tables::member::Span;
 use words::load8;
@@ -107,6 +107,25 @@ fn in_bodies(start: usize, end: usize, s: Span) -> bool
     at + long <= end
 }
 
+// Flags: 1 AOI, 2 string, 4 id given.
+pub fn is_aoi(e: TypeEntry) -> bool
+    ensures { λ r. ⌜ r ≡ isAoi e ⌝ }
+{
+    e.flags % 2 == 1
+}
+
+pub fn is_string(e: TypeEntry) -> bool
+    ensures { λ r. ⌜ r ≡ isString e ⌝ }
+{
+    e.flags / 2 % 2 == 1
+}
+
+pub fn has_id(e: TypeEntry) -> bool
+    ensures { λ r. ⌜ r ≡ hasId e ⌝ }
+{
+    4 <= e.flags
+}
+
 // An unset flag needs 0 in its field.
 fn set_or_zero(set: bool, zero: bool) -> bool
     ensures { λ r. ⌜ r ≡ (set || zero) ⌝ }
@@ -127,10 +146,8 @@ fn type_ok(start: usize, end: usize, e: TypeEntry) -> bool
     if e.zero != 0 {
         return false;
     }
-    let id = set_or_zero(4 <= flags, e.id == 0);
-    if id {
-        let string = set_or_zero(flags / 2 % 2 == 1, e.string == 0);
-        if string {
+    if set_or_zero(4 <= flags, e.id == 0) {
+        if set_or_zero(flags / 2 % 2 == 1, e.string == 0) {
             let name = e.name;
             return in_bodies(start, end, name);
         }
@@ -146,8 +163,7 @@ fn member_ok(start: usize, end: usize, e: MemberEntry) -> bool
         return false;
     }
     let name = e.name;
-    let named = in_bodies(start, end, name);
-    if named {
+    if in_bodies(start, end, name) {
         let ty = e.ty;
         return in_bodies(start, end, ty);
     }
@@ -164,8 +180,7 @@ fn types_ok(book: &[u8], n: usize, start: usize) -> bool
     let mut i: usize = 0;
     while i < n {
         let e = type_entry(book, i);
-        let ok = type_ok(start, end, e);
-        if !ok {
+        if !type_ok(start, end, e) {
             return false;
         }
         i += 1;
@@ -198,8 +213,7 @@ fn members_ok(book: &[u8], t: usize, n: usize, start: usize) -> bool
     let mut i: usize = 0;
     while i < n {
         let e = member_entry(book, t, i);
-        let ok = member_ok(start, end, e);
-        if !ok {
+        if !member_ok(start, end, e) {
             return false;
         }
         i += 1;
@@ -220,8 +234,7 @@ pub fn book_ok(book: &[u8]) -> bool
     if book.len() < start {
         return false;
     }
-    let types = types_ok(book, t, start);
-    if types {
+    if types_ok(book, t, start) {
         let sum = sum_counts(book, t);
         if sum == m {
             return members_ok(book, t, m, start);

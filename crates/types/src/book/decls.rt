@@ -66,8 +66,7 @@ fn resolved(types: &TypeTable, ty: Ty, dim: u32, name: Span, local: bool, access
     requires { ⌜ TyFits ty ⌝ }
     ensures { λ r. ⌜ r ≡ resolvedOf (sizesIn (now (types .entry))) ty dim name local access ⌝ }
 {
-    let bool = is_bool(ty);
-    if bool {
+    if is_bool(ty) {
         if dim == 0 {
             return plain(types, ty, dim, name, local, access);
         }

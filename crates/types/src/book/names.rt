@@ -61,8 +61,7 @@ pub fn good_name(s: &[u8]) -> bool
     }
     let mut i: usize = 0;
     while i < s.len() {
-        let good = name_byte(s[i]);
-        if !good {
+        if !name_byte(s[i]) {
             return false;
         }
         i += 1;

@@ -10,6 +10,7 @@ ghost use Rattle.types.specs.inside.layout.Passes.{measuredAoi, BitHostL
 ghost use Rattle.types.specs.layout.HostNames.{bitHostName};
 ghost use Rattle.types.specs.layout.Structs.{namesOf, rowsOf, bools, hostParts, enableAt, enableParts, aoiStart};
 ghost use Rattle.types.specs.layout.Structs.{namedIn};
+ghost use Rattle.types.specs.tables.Limits.{mostMembers, mostNames};
 use crate::atomics::atomic::Atomic;
 use crate::book::decls::decl_at;
 use crate::layout::host_names::two_digits;
@@ -73,7 +74,7 @@ fn put_bit_host(
     at: usize,
     i: u32,
 ) -> usize
-    requires { ⌜ (row < 2000) × ((i < 1000000) × (at + length (bitHostName i) ≤ 32768)) ⌝ }
+    requires { ⌜ (row < mostMembers) × ((i < 1000000) × (at + length (bitHostName i) ≤ mostNames)) ⌝ }
     ensures { λ r. ⌜ HostPut i row at (now (members .entry)) (now (names .entry))
         (now (members .exit)) (now (names .exit)) r ⌝ }
 {
@@ -110,7 +111,7 @@ fn put_hosts(
     place: usize,
     h: u32,
 ) -> usize
-    requires { ⌜ (row + h ≤ 2000) × (place + length (namesOf (hostParts 0 h)) ≤ 32768) ⌝ }
+    requires { ⌜ (row + h ≤ mostMembers) × (place + length (namesOf (hostParts 0 h)) ≤ mostNames) ⌝ }
     ensures { λ r. ⌜ Put (hostParts 0 h) row place (now (members .entry)) (now (names .entry))
         (now (members .exit)) (now (names .exit)) r ⌝ }
 {
@@ -142,7 +143,7 @@ fn enable(bit: u8) -> Member
 
 // Their rows and names; answers the place after their names.
 fn put_enables(members: &mut MemberTable, row: usize, names: &mut NameTable, place: usize) -> usize
-    requires { ⌜ (row + 2 ≤ 2000) × (place + 17 ≤ 32768) ⌝ }
+    requires { ⌜ (row + 2 ≤ mostMembers) × (place + 17 ≤ mostNames) ⌝ }
     ensures { λ r. ⌜ Put enableParts row place (now (members .entry)) (now (names .entry))
         (now (members .exit)) (now (names .exit)) r ⌝ }
 {

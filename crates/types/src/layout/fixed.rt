@@ -7,6 +7,7 @@ ghost use lib.Seq.{sets};
 ghost use Rattle.types.specs.inside.layout.Structs.{controlOf, pairs, BitsFit, ControlFits};
 ghost use Rattle.types.specs.layout.Structs.{namesOf, rowsOf, dintAt, dataOf, stringParts, stringSize, ctlAt};
 ghost use Rattle.types.specs.layout.Structs.{statusAt, statusParts};
+ghost use Rattle.types.specs.tables.Limits.{mostMembers, mostNames};
 use crate::atomics::atomic::Atomic;
 use crate::layout::store::put_part;
 use crate::tables::lent::MemberTable;
@@ -53,7 +54,7 @@ pub fn put_string(
     place: usize,
     capacity: u32,
 )
-    requires { ⌜ (row + 2 ≤ 2000) × (place + 7 ≤ 32768) ⌝ }
+    requires { ⌜ (row + 2 ≤ mostMembers) × (place + 7 ≤ mostNames) ⌝ }
     ensures rows { λ _. ⌜ now (members .exit) ≡ sets (now (members .entry)) (8 * row)
         (rowsOf place (stringParts capacity)) ⌝ }
     ensures names { λ _. ⌜ now (names .exit) ≡ sets (now (names .entry)) place (namesOf (stringParts capacity)) ⌝ }

@@ -6,6 +6,7 @@ ghost use lib.ListN.{length};
 ghost use lib.Seq.{sets};
 ghost use Rattle.types.specs.inside.layout.HostNames.{Spelled, HostLong, TwoDigits};
 ghost use Rattle.types.specs.layout.HostNames.{hostName};
+ghost use Rattle.types.specs.tables.Limits.{mostNames};
 use crate::tables::lent::NameTable;
 use crate::tables::lent::put_bytes;
 
@@ -90,7 +91,7 @@ pub fn host_long(name: &[u8], k: u32) -> u32
 
 // A UDT's host's name: ten Z, the type name's first 10 bytes, and the count of members so far.
 pub fn put_host_name(names: &mut NameTable, at: usize, name: &[u8], k: u32)
-    requires { ⌜ (k < 1000000) × (at + length (hostName (now name) k) ≤ 32768) ⌝ }
+    requires { ⌜ (k < 1000000) × (at + length (hostName (now name) k) ≤ mostNames) ⌝ }
     ensures { λ _. ⌜ now (names .exit) ≡ sets (now (names .entry)) at (hostName (now (name .entry)) k) ⌝ }
 {
     let n = at_most_ten(name.len());

@@ -15,7 +15,7 @@ use crate::tables::lent::TypeTable;
 
 // How far a layout came, and how many bytes its names have; or which of the two refusals it meets first.
 pub enum Measured {
-    Laid(Cursor, u32),
+    Came(Cursor, u32),
     AccessWrong,
     TooFar,
 }
@@ -30,9 +30,9 @@ fn measure_one(name: &[u8], c: Cursor, names: u32, d: Decl) -> Measured
     match p {
         Placed::Hosted(_, _, next) => {
             let host = host_long(name, c.members);
-            Measured::Laid(next, names + host + long)
+            Measured::Came(next, names + host + long)
         }
-        Placed::One(_, next) => Measured::Laid(next, names + long),
+        Placed::One(_, next) => Measured::Came(next, names + long),
         Placed::AccessWrong => Measured::AccessWrong,
         Placed::TooFar => Measured::TooFar,
     }
@@ -61,7 +61,7 @@ pub fn measure(
         let d = decl_at(types, book, tys, at, j);
         let one = measure_one(name, c, long, d);
         match one {
-            Measured::Laid(next, more) => {
+            Measured::Came(next, more) => {
                 c = next;
                 long = more;
             }
@@ -74,5 +74,5 @@ pub fn measure(
         }
         j += 1;
     }
-    Measured::Laid(c, long)
+    Measured::Came(c, long)
 }

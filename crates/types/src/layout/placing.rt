@@ -12,7 +12,7 @@ use crate::tables::member::Ty;
 use words::wide64;
 
 // The most bytes of a member's end.
-const MOST: u64 = 67108864;
+pub const MOST_SIZE: u64 = 67108864;
 
 pub enum End {
     At(u32),
@@ -70,7 +70,7 @@ pub fn member_end(offset: u32, size: u32, count: u32) -> End
     ensures { λ r. ⌜ saidBy r ≡ memberEnd offset size count ⌝ }
 {
     let end = wide64(offset) + wide64(size) * elements(count);
-    if end <= MOST {
+    if end <= MOST_SIZE {
         return End::At(end as u32);
     }
     End::Over
@@ -231,11 +231,9 @@ pub fn place(c: Cursor, d: Decl) -> Placed
     requires { ⌜ Able c d ⌝ }
     ensures { λ r. ⌜ r ≡ placed c d ⌝ }
 {
-    let ok = access_ok(d.access);
-    if ok {
+    if access_ok(d.access) {
         let ty = d.ty;
-        let bool = is_bool(ty);
-        if bool {
+        if is_bool(ty) {
             return place_bool(c, d);
         }
         return place_other(c, d);

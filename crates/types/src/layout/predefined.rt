@@ -3,14 +3,14 @@
 ghost use mathlib.Core.Path.{_≡_};
 ghost use mathlib.Core.Bool.{true};
 ghost use Rattle.types.specs.adding.Add.{yes, newDef};
+ghost use Rattle.types.specs.declared.adding.progress.Progress.the-variants.{Added};
+ghost use Rattle.types.specs.declared.tables.member.StructKind.the-variants.{Predefined};
 ghost use Rattle.types.specs.inside.adding.Add.{Took};
 ghost use Rattle.types.specs.inside.layout.Predefined.{ControlReady};
 ghost use Rattle.types.specs.inside.layout.Structs.{controlOf};
 ghost use Rattle.types.specs.inside.tables.Registry.{viewIn, Stands};
 ghost use Rattle.types.specs.layout.Predefined.{predefinedId, distinct, predefinedIds, predefined};
 ghost use Rattle.types.specs.tables.Registry.{noTypes, noMembers, noNames};
-ghost use Rattle.types.specs.declared.adding.progress.Progress.the-variants.{Added};
-ghost use Rattle.types.specs.declared.tables.member.StructKind.the-variants.{Predefined};
 use crate::adding::new_row::bare_head;
 use crate::adding::new_row::enter;
 use crate::adding::new_types::store_string;
@@ -76,20 +76,16 @@ fn all_differ(ids: PredefinedIds) -> bool
 pub fn ids_ok(ids: PredefinedIds) -> bool
     ensures { λ r. ⌜ r ≡ predefinedIds ids ⌝ }
 {
-    let one = id_ok(ids.timer);
-    if !one {
+    if !id_ok(ids.timer) {
         return false;
     }
-    let two = id_ok(ids.counter);
-    if !two {
+    if !id_ok(ids.counter) {
         return false;
     }
-    let three = id_ok(ids.control);
-    if !three {
+    if !id_ok(ids.control) {
         return false;
     }
-    let four = id_ok(ids.string);
-    if !four {
+    if !id_ok(ids.string) {
         return false;
     }
     all_differ(ids)

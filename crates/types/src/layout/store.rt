@@ -9,6 +9,7 @@ ghost use Rattle.types.specs.inside.layout.Passes.{oneParts, storedOne, 
 ghost use Rattle.types.specs.inside.tables.Lent.{TyFits};
 ghost use Rattle.types.specs.layout.HostNames.{hostName};
 ghost use Rattle.types.specs.layout.Structs.{namesOf, rowsOf, named, namedIn};
+ghost use Rattle.types.specs.tables.Limits.{mostMembers, mostNames};
 use crate::book::decls::decl_at;
 use crate::layout::host_names::host_long;
 use crate::layout::host_names::put_host_name;
@@ -34,7 +35,7 @@ pub fn put_part(
     name: &[u8],
     m: Member,
 )
-    requires { ⌜ (row < 2000) × ((at + length (now name) ≤ 32768) × TyFits (m .ty)) ⌝ }
+    requires { ⌜ (row < mostMembers) × ((at + length (now name) ≤ mostNames) × TyFits (m .ty)) ⌝ }
     ensures rows { λ _. ⌜ now (members .exit) ≡ sets (now (members .entry)) (8 * row)
         (rowsOf at (named (now (name .entry)) m ∷ [])) ⌝ }
     ensures names { λ _. ⌜ now (names .exit) ≡ sets (now (names .entry)) at
@@ -63,7 +64,8 @@ fn put_host(
     k: u32,
     m: Member,
 ) -> usize
-    requires { ⌜ (row < 2000) × ((k < 1000000) × ((at + length (hostName (now name) k) ≤ 32768) × TyFits (m .ty))) ⌝ }
+    requires { ⌜ (row < mostMembers) × ((k < 1000000) × ((at + length (hostName (now name) k) ≤ mostNames)
+        × TyFits (m .ty))) ⌝ }
     ensures long { λ r. ⌜ r ≡ length (hostName (now (name .entry)) k) ⌝ }
     ensures rows { λ _. ⌜ now (members .exit) ≡ sets (now (members .entry)) (8 * row)
         (rowsOf at (named (hostName (now (name .entry)) k) m ∷ [])) ⌝ }

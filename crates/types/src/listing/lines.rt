@@ -14,6 +14,7 @@ ghost use Rattle.types.specs.refusals.Given.{Given};
 ghost use Rattle.types.specs.tables.Defs.{nameIn};
 ghost use Rattle.types.specs.tables.Kept.{Kept};
 ghost use Rattle.types.specs.tables.Lent.{typeAt};
+ghost use Rattle.types.specs.tables.Limits.{mostTypes, mostNames};
 ghost use Rattle.types.specs.templates.Template.{hasTemplate};
 use crate::atomics::atomic::Atomic;
 use crate::refusals::given::Wrote;
@@ -142,7 +143,7 @@ fn put_atomic(out: &mut [u8], at: usize, a: Atomic) -> usize
 
 // A member's stored type.
 fn put_type_name(types: &TypeTable, names: &[u8], ty: Ty, out: &mut [u8], at: usize) -> usize
-    requires { ⌜ TypeNamed (now types) ty × ((length (now names) ≡ 32768)
+    requires { ⌜ TypeNamed (now types) ty × ((length (now names) ≡ mostNames)
         × FieldFits (ended (printedType (structNames (now types) (now names)) ty) 32) at (now out)) ⌝ }
     ensures { λ r. ⌜ FieldPut (ended (printedType (structNames (now (types .entry)) (now (names .entry))) ty) 32) at
         (now (out .entry)) r (now (out .exit)) ⌝ }
@@ -209,7 +210,8 @@ fn type_line(
     i: usize,
     out: &mut [u8],
 ) -> usize
-    requires { ⌜ (i < 200) × (Listable (now types) (now members) (typeAt (now types) i) × (512 ≤ length (now out))) ⌝ }
+    requires { ⌜ (i < mostTypes) × (Listable (now types) (now members) (typeAt (now types) i)
+        × (512 ≤ length (now out))) ⌝ }
     ensures { λ r. ⌜ Lined (typeLineIn (now (types .entry)) (now (members .entry)) (now (names .entry))
         (typeAt (now (types .entry)) i)) (now (out .entry)) r (now (out .exit)) ⌝ }
 {
@@ -246,7 +248,7 @@ fn member_line(
     k: usize,
     out: &mut [u8],
 ) -> usize
-    requires { ⌜ (i < 200) × (Listable (now types) (now members) (typeAt (now types) i)
+    requires { ⌜ (i < mostTypes) × (Listable (now types) (now members) (typeAt (now types) i)
         × ((k < typeAt (now types) i .count) × (512 ≤ length (now out)))) ⌝ }
     ensures { λ r. ⌜ Lined (memberLineIn (now (types .entry)) (now (members .entry)) (now (names .entry))
         (typeAt (now (types .entry)) i .first + k) k) (now (out .entry)) r (now (out .exit)) ⌝ }
@@ -288,8 +290,7 @@ pub fn put_type_line(
         (typeLineIn (now (types .entry)) (now (members .entry)) (now (names .entry)) (typeAt (now (types .entry)) i))
         (now (out .entry)) r (now (out .exit)) ⌝ }
 {
-    let there = is_there(types, Ty::Struct(i));
-    if there {
+    if is_there(types, Ty::Struct(i)) {
         let mut text = [0u8; LINE];
         let n = type_line(types, members, names, i, &mut text);
         return give(&text[..n], out);
@@ -301,8 +302,7 @@ pub fn put_type_line(
 fn has_member(types: &TypeTable, i: usize, k: usize) -> bool
     ensures { λ r. ⌜ r ≡ hasMember (now (types .entry)) i k ⌝ }
 {
-    let there = is_there(types, Ty::Struct(i));
-    if there {
+    if is_there(types, Ty::Struct(i)) {
         let d = type_row(types, i);
         return k < wide(d.count);
     }
@@ -323,8 +323,7 @@ pub fn put_member_line(
         (memberLineIn (now (types .entry)) (now (members .entry)) (now (names .entry))
         (typeAt (now (types .entry)) i .first + k) k) (now (out .entry)) r (now (out .exit)) ⌝ }
 {
-    let there = has_member(types, i, k);
-    if there {
+    if has_member(types, i, k) {
         let mut text = [0u8; LINE];
         let n = member_line(types, members, names, i, k, &mut text);
         return give(&text[..n], out);

@@ -1,8 +1,8 @@
 // Building a registry from a declaration book (document 01, "Order of building"): the four predefined types, then
 // rounds over the types that wait. A refusal leaves all three tables zero.
 ghost use mathlib.Core.Path.{_≡_};
-ghost use mathlib.Core.Bool.{true};
 ghost use Prim.Native.Nat.{_<_, _≤_};
+ghost use mathlib.Core.Bool.{true};
 ghost use lib.ListN.{length};
 ghost use Rattle.types.specs.inside.rounds.Build.{FirstWaits, Cleared, AtMost, Scratch, RunIn};
 ghost use Rattle.types.specs.layout.Predefined.{predefined};
@@ -126,12 +126,10 @@ fn build_with(
         (now (types .exit)) (now (members .exit)) (now (names .exit)) r ⌝ }
 {
     clear(types, members, names);
-    let allowed = ids_ok(ids);
-    if !allowed {
+    if !ids_ok(ids) {
         return Built::Refused(Refusal::PredefinedIds);
     }
-    let ok = book_ok(book);
-    if !ok {
+    if !book_ok(book) {
         return Built::Refused(Refusal::BookMalformed);
     }
     let t = count_of(load16(book, 0));
@@ -194,8 +192,7 @@ pub fn build(
     ensures { λ r. ⌜ Ended (buildOf ids (now (book .entry)))
         (now (types .exit)) (now (members .exit)) (now (names .exit)) r ⌝ }
 {
-    let small = is_small(book);
-    if small {
+    if is_small(book) {
         return build_small(book, ids, types, members, names);
     }
     let mut tys = [0u16; 65536];

@@ -16,7 +16,7 @@ pub enum Round {
     Went(Used, usize),
 }
 
-// The one_round of the types that wait, in book order: of the t types of a good book so many, with so much of the tables
+// The turns of the types that wait, in book order: of the t types of a good book so many, with so much of the tables
 // used.
 pub fn one_round(
     book: &[u8],

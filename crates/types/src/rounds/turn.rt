@@ -51,8 +51,7 @@ pub fn take_turn(
     let known = u.types;
     let k = count_of(stuck[i]);
     let from = wide(wide8(tried[i]));
-    let still = waits_still(types, names, book, at, k, from, known);
-    if still {
+    if waits_still(types, names, book, at, k, from, known) {
         tried[i] = known as u8;
         return Progress::Waits;
     }

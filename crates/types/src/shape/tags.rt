@@ -14,6 +14,7 @@ ghost use Rattle.types.specs.shape.Tags.{symbolSays, saidBy};
 ghost use Rattle.types.specs.tables.Kept.{KeptTypes};
 ghost use Rattle.types.specs.tables.Sizes.{sizesIn};
 use crate::atomics::atomic::Atomic;
+use crate::layout::placing::MOST_SIZE;
 use crate::layout::placing::is_bool;
 use crate::refusals::fit::Fit;
 use crate::refusals::refusal::Refusal;
@@ -23,9 +24,6 @@ use crate::tables::sizes::size_in;
 use crate::tables::there::is_there;
 use crate::tables::type_word::type_in;
 use words::wide64;
-
-// The most bytes of a tag.
-const MOST: u64 = 67108864;
 
 // The most elements.
 const MOST_ELEMENTS: u64 = 18446744073709551615;
@@ -83,8 +81,7 @@ fn refused(why: Refusal) -> Shaped
 fn most_lengths(ty: Ty) -> usize
     ensures { λ r. ⌜ r ≡ mostLengths ty ⌝ }
 {
-    let bool = is_bool(ty);
-    if bool {
+    if is_bool(ty) {
         return 1;
     }
     MOST_LENGTHS
@@ -117,8 +114,7 @@ fn lengths_ok(ty: Ty, lengths: &[u32]) -> bool
 fn bool_tag(ty: Ty, lengths: &[u32]) -> bool
     ensures { λ r. ⌜ r ≡ boolTag ty (now (lengths .entry)) ⌝ }
 {
-    let bool = is_bool(ty);
-    if bool {
+    if is_bool(ty) {
         return 0 < lengths.len();
     }
     false
@@ -163,8 +159,7 @@ fn multiplied(lengths: &[u32]) -> Product
     let mut i: usize = 0;
     while i < lengths.len() {
         let x = wide64(lengths[i]);
-        let fits = product_fits(n, x, MOST_ELEMENTS);
-        if !fits {
+        if !product_fits(n, x, MOST_ELEMENTS) {
             return Product::Over;
         }
         n *= x;
@@ -179,8 +174,7 @@ fn tag_within(types: &TypeTable, ty: Ty, lengths: [u32; 3], used: usize, n: u64)
     ensures { λ r. ⌜ saidBy r ≡ within (sizesIn (now (types .entry))) ty lengths used n ⌝ }
 {
     let size = size_in(types, ty);
-    let fits = product_fits(size, n, MOST);
-    if fits {
+    if product_fits(size, n, MOST_SIZE) {
         let shape = Shape {
             ty,
             lengths,
@@ -229,12 +223,9 @@ fn plain_shape(types: &TypeTable, ty: Ty, lengths: &[u32]) -> Shaped
 pub fn tag_shape(types: &TypeTable, ty: Ty, lengths: &[u32]) -> Shaped
     ensures { λ r. ⌜ saidBy r ≡ shapeOf (now (types .entry)) ty (now (lengths .entry)) ⌝ }
 {
-    let there = is_there(types, ty);
-    if there {
-        let ok = lengths_ok(ty, lengths);
-        if ok {
-            let bools = bool_tag(ty, lengths);
-            if bools {
+    if is_there(types, ty) {
+        if lengths_ok(ty, lengths) {
+            if bool_tag(ty, lengths) {
                 let n = length_at(lengths, 0);
                 return bool_shape(types, n);
             }
@@ -253,8 +244,7 @@ pub fn symbol_type(types: &TypeTable, s: Shape) -> Symbol
 {
     let ty = s.ty;
     let used = s.used;
-    let there = is_there(types, ty);
-    if there {
+    if is_there(types, ty) {
         if MOST_LENGTHS < used {
             return Symbol::Refused(Refusal::LengthsWrong);
         }

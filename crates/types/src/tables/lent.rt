@@ -8,6 +8,7 @@ ghost use lib.Seq.{sets};
 ghost use Rattle.types.specs.inside.tables.Lent.{TyFits};
 ghost use Rattle.types.specs.tables.Lent.{tyWord, tyOf, bitWord, bitOf, flagsOf, kindWord, kindOf, memberRow};
 ghost use Rattle.types.specs.tables.Lent.{memberAt, nameAt, typeRow, typeAt};
+ghost use Rattle.types.specs.tables.Limits.{mostTypes, mostMembers, mostNames};
 ghost use Rattle.types.specs.tables.Registry.{noTypes, noMembers, noNames};
 use crate::atomics::atomic::Atomic;
 use crate::tables::member::Bit;
@@ -19,14 +20,7 @@ use crate::tables::member::Ty;
 use words::copy;
 use words::wide;
 
-// Bytes among the names, from a place on; the other bytes stay.
-pub fn put_bytes(names: &mut NameTable, at: usize, s: &[u8])
-    requires { ⌜ at + length (now s) ≤ 32768 ⌝ }
-    ensures { λ _. ⌜ now (names .exit) ≡ sets (now (names .entry)) at (now (s .entry)) ⌝ }
-{
-    copy(names, at, s);
-}
-
+// How many types, members and bytes of names the tables hold; a row is eight words.
 pub const TYPES: usize = 200;
 
 pub const TYPE_WORDS: usize = 8;
@@ -162,7 +156,7 @@ pub fn low16(x: u32) -> u16
 
 // The member that a row holds.
 pub fn member_row(members: &MemberTable, row: usize) -> Member
-    requires { ⌜ row < 2000 ⌝ }
+    requires { ⌜ row < mostMembers ⌝ }
     ensures { λ r. ⌜ r ≡ memberAt (now (members .entry)) row ⌝ }
 {
     let at = MEMBER_WORDS * row;
@@ -183,7 +177,7 @@ pub fn member_row(members: &MemberTable, row: usize) -> Member
 
 // Where the name of the member in a row stands.
 pub fn name_row(members: &MemberTable, row: usize) -> Span
-    requires { ⌜ row < 2000 ⌝ }
+    requires { ⌜ row < mostMembers ⌝ }
     ensures { λ r. ⌜ r ≡ nameAt (now (members .entry)) row ⌝ }
 {
     let at = MEMBER_WORDS * row;
@@ -195,7 +189,7 @@ pub fn name_row(members: &MemberTable, row: usize) -> Span
 
 // Stores a member's row; the other rows stay.
 pub fn put_member(members: &mut MemberTable, row: usize, name: Span, m: Member)
-    requires { ⌜ (row < 2000) × TyFits (m .ty) ⌝ }
+    requires { ⌜ (row < mostMembers) × TyFits (m .ty) ⌝ }
     ensures { λ _. ⌜ now (members .exit) ≡ sets (now (members .entry)) (8 * row) (memberRow name m) ⌝ }
 {
     let at = MEMBER_WORDS * row;
@@ -213,7 +207,7 @@ pub fn put_member(members: &mut MemberTable, row: usize, name: Span, m: Member)
 
 // The structure that a row holds.
 pub fn type_row(types: &TypeTable, i: usize) -> StructDef
-    requires { ⌜ i < 200 ⌝ }
+    requires { ⌜ i < mostTypes ⌝ }
     ensures { λ r. ⌜ r ≡ typeAt (now (types .entry)) i ⌝ }
 {
     let at = TYPE_WORDS * i;
@@ -237,7 +231,7 @@ pub fn type_row(types: &TypeTable, i: usize) -> StructDef
 
 // Stores a structure's row; the other rows stay.
 pub fn put_type(types: &mut TypeTable, i: usize, d: StructDef)
-    requires { ⌜ i < 200 ⌝ }
+    requires { ⌜ i < mostTypes ⌝ }
     ensures { λ _. ⌜ now (types .exit) ≡ sets (now (types .entry)) (8 * i) (typeRow d) ⌝ }
 {
     let at = TYPE_WORDS * i;
@@ -251,4 +245,12 @@ pub fn put_type(types: &mut TypeTable, i: usize, d: StructDef)
     types[at + 5] = kind_word(kind);
     types[at + 6] = d.first;
     types[at + 7] = d.count;
+}
+
+// Bytes among the names, from a place on; the other bytes stay.
+pub fn put_bytes(names: &mut NameTable, at: usize, s: &[u8])
+    requires { ⌜ at + length (now s) ≤ mostNames ⌝ }
+    ensures { λ _. ⌜ now (names .exit) ≡ sets (now (names .entry)) at (now (s .entry)) ⌝ }
+{
+    copy(names, at, s);
 }

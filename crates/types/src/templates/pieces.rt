@@ -10,6 +10,7 @@ ghost use Rattle.types.specs.inside.templates.Pieces.{infosIn, shownIn, 
 ghost use Rattle.types.specs.inside.templates.Sink.{Room, Emitted};
 ghost use Rattle.types.specs.tables.Defs.{nameIn};
 ghost use Rattle.types.specs.tables.Lent.{memberAt};
+ghost use Rattle.types.specs.tables.Limits.{mostMembers};
 ghost use Rattle.types.specs.tables.TypeWord.{idsIn};
 ghost use Rattle.types.specs.templates.Template.{infoOf, infoBytes, userId, semicolonN, padding, memberIds};
 use crate::tables::lent::MemberTable;
@@ -38,7 +39,7 @@ fn info_of(bit: Bit, count: u32) -> u16
 
 // The eight bytes of the member in a row.
 fn info(types: &TypeTable, members: &MemberTable, row: usize) -> [u8; 8]
-    requires { ⌜ (row < 2000) × TyFits (memberAt (now members) row .ty) ⌝ }
+    requires { ⌜ (row < mostMembers) × TyFits (memberAt (now members) row .ty) ⌝ }
     ensures { λ r. ⌜ r ≡ infoBytes (idsIn (now (types .entry))) (memberAt (now (members .entry)) row) ⌝ }
 {
     let m = member_row(members, row);
@@ -121,8 +122,7 @@ pub fn emit_shown(names: &[u8], d: StructDef, sink: Sink, out: &mut [u8]) -> Sin
             return emit_name(names, name, sink, out);
         }
         StructKind::Str => {
-            let user = user_id(d.id);
-            if user {
+            if user_id(d.id) {
                 return emit_name_n(names, name, sink, out);
             }
             return emit(b"ASCIISTRING82", sink, out);
@@ -171,7 +171,7 @@ pub fn emit_padding(sink: Sink, out: &mut [u8]) -> Sink
 
 // The ids of n members.
 pub fn emit_ids(n: u32, sink: Sink, out: &mut [u8]) -> Sink
-    requires { ⌜ (n ≤ 2000) × Room (memberIds 0 n) sink (now out) ⌝ }
+    requires { ⌜ (n ≤ mostMembers) × Room (memberIds 0 n) sink (now out) ⌝ }
     ensures { λ r. ⌜ Emitted (memberIds 0 n) sink (now (out .entry)) r (now (out .exit)) ⌝ }
 {
     let mut k = sink;

@@ -68,8 +68,7 @@ fn walk(
         sink (now (out .entry)) r (now (out .exit)) ⌝ }
 {
     let k1 = emit_front(types, members, names, d, sink, out);
-    let user = user_id(d.id);
-    if user {
+    if user_id(d.id) {
         let k2 = emit_padding(k1, out);
         return emit_ids(d.count, k2, out);
     }
@@ -144,8 +143,7 @@ pub fn template_len(types: &TypeTable, members: &MemberTable, names: &NameTable,
     requires { ⌜ Kept (now types) (now members) (now names) ⌝ }
     ensures { λ r. ⌜ saidBy r ≡ templateLength (now (types .entry)) (now (members .entry)) (now (names .entry)) n ⌝ }
 {
-    let there = is_there(types, Ty::Struct(n));
-    if there {
+    if is_there(types, Ty::Struct(n)) {
         let d = type_row(types, n);
         let long = template_bytes(types, members, names, d);
         return Wrote::Length(long);
@@ -178,8 +176,7 @@ pub fn template(
             return Wrote::Refused(Refusal::NoSuchType);
         }
         Ty::Struct(n) => {
-            let there = is_there(types, Ty::Struct(n));
-            if there {
+            if is_there(types, Ty::Struct(n)) {
                 let d = type_row(types, n);
                 let long = template_bytes(types, members, names, d);
                 if out.len() < long as usize {

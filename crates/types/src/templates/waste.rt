@@ -76,8 +76,7 @@ pub fn waste(types: &TypeTable, members: &MemberTable, n: usize) -> Wasted
     requires { ⌜ KeptRows (now types) (now members) ⌝ }
     ensures { λ r. ⌜ ((names : List ℕ) → saidBy r ≡ wasteAt (now (types .entry)) (now (members .entry)) names n) ⌝ }
 {
-    let there = is_there(types, Ty::Struct(n));
-    if there {
+    if is_there(types, Ty::Struct(n)) {
         let d = type_row(types, n);
         let bits = lost_bits(types, members, d);
         return Wasted::Bits(bits);

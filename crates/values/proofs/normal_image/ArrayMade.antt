@@ -7,15 +7,15 @@ use mathlib.Core.Bool.{Bool, true, false, cond}
 use mathlib.Core.List.{List}
 use Rattle.words.specs.Bits.{Bits, inside}
 use Rattle.words.proofs.BitLaws.{Lies, among, beside, lies}
+use Rattle.words.proofs.StampLaws.{yes-inside, not-inside}
+use Rattle.words.proofs.TestLaws.{not-true}
 use Rattle.values.specs.inside.normal_image.InPlace.{eachMade, made}
 use Rattle.values.specs.inside.normal_image.Placed.{Placed}
 use Rattle.values.specs.normal_image.Normal.{held, normal}
 use Rattle.values.specs.reading.Tree.{Item, Tree, array, each, items, span}
 use Rattle.values.proofs.normal_image.MadeLaws.{made-beside, made-inside, normal-around, normal-first}
-use Rattle.values.proofs.normal_image.MadeLaws.{normal-local}
-use Rattle.values.proofs.normal_image.MadeLaws.{normal-second}
-use Rattle.values.proofs.normal_image.PlacedLaws.{each-between, not-true, tree-between, yes-inside}
-use Rattle.values.proofs.writing.OnlyHeld.{not-inside}
+use Rattle.values.proofs.normal_image.MadeLaws.{normal-local, normal-second}
+use Rattle.values.proofs.normal_image.PlacedLaws.{each-between, tree-between}
 
 module _ (t : Tree) (placed : Placed t) where
   abbrev w : ℕ
@@ -75,6 +75,7 @@ module _ (t : Tree) (placed : Placed t) where
   elements-made zero p x k = rw (not-inside p (0 * w) k (λ a b. let z : 0 * w ≡ 0 = zero-mul w in omega arith)) refl
   elements-made (suc n) p x k = elements-made n (p + w) (made t p x) k ∙ more n p x k
 
+-- elements made normal one after another are the array made normal
 pub array-made : (n : ℕ) (t : Tree) (p : ℕ) (x : Bits) → Placed t
     → eachMade n (made t) (span t) p x ≡ made (array n t) p x
 unfolding made items span

@@ -13,11 +13,13 @@ use Rattle.words.specs.Bits.{Bits, bitOf, flat, from, val}
 use Rattle.words.proofs.BitLaws.{bit-none, bit-val, val-ext}
 use Rattle.values.specs.reading.Leaf.{chars}
 
+-- bits made into n bytes are n bytes long
 pub length-chars : (n : ℕ) (b : Bits) → length (chars n b) ≡ n
 unfolding chars
 length-chars zero b = refl
 length-chars (suc n) b = ap suc (length-chars n (from 8 b))
 
+-- the same bits make the same bytes
 pub chars-ext : (n : ℕ) (b c : Bits) → ((k : ℕ) → k < 8 * n → b k ≡ c k) → chars n b ≡ chars n c
 unfolding chars
 chars-ext zero b c h = refl
@@ -64,6 +66,7 @@ chars-out zero b i l = refl
 chars-out (suc n) b zero l = absurd (let z : ⊥ = omega arith in z)
 chars-out (suc n) b (suc i) l = chars-out n (from 8 b) i (omega arith)
 
+-- bits made into bytes are these bits again, where none is set past the bytes
 pub flat-chars : (n : ℕ) (b : Bits) → ((k : ℕ) → 8 * n ≤ k → b k ≡ false) → flat (chars n b) ≡ b
 unfolding flat
 flat-chars n b none = fun-ext (λ k. go k (decLt k (8 * n)))

@@ -8,6 +8,7 @@ use lib.Dec.{eqb}
 use Rattle.types.specs.atomics.Atomic.{bitString, sizeOf}
 use Rattle.types.specs.inside.tables.Lent.{TyFits}
 use Rattle.types.specs.layout.Laid.{Earlier}
+use Rattle.types.specs.tables.Limits.{mostTypes}
 use Rattle.types.specs.declared.atomics.atomic.Atomic.{Atomic}
 use Rattle.types.specs.declared.atomics.atomic.Atomic.the-variants as atomic
 use Rattle.types.specs.declared.tables.member.Bit.{Bit}
@@ -61,6 +62,7 @@ module _ (trees : ℕ → Tree) (i : ℕ) (placed : (s : ℕ) → s < i → Plac
   value-placed (ty.Atomic a) n l = atomics-placed a n
   value-placed (ty.Struct s) n l = structs-placed s n l
 
+  -- the tree of a member whose type is earlier has branches that share no bit
   pub member-placed : (b : Bit) (t : Ty) (n : ℕ) → Earlier i t → Placed (bitTree b (valueTree trees t n))
   member-placed None t n l = value-placed t n l
   member-placed (At k) t n l = unfold Placed in tt
@@ -70,4 +72,4 @@ pub disjoint-value : {types members : List ℕ} → Disjoint types members → (
     → Placed (treeOfValue (knownIn types members) t n)
 unfolding treeOfValue
 disjoint-value {types} {members} d (ty.Atomic a) n l = atomics-placed a n
-disjoint-value {types} {members} d (ty.Struct s) n l = structs-placed (treeIn types members) 200 (d .placed) s n l
+disjoint-value {types} {members} d (ty.Struct s) n l = structs-placed (treeIn types members) mostTypes (d .placed) s n l

@@ -10,6 +10,7 @@ use mathlib.Core.List.{List}
 use lib.ListN.{length}
 use Rattle.words.specs.Bits.{Bits, flat, from, inside, stamp}
 use Rattle.words.proofs.BitLaws.{Lies, among, beside, lies}
+use Rattle.words.proofs.StampLaws.{stamp-ext}
 use Rattle.types.specs.layout.Laid.{firstBit}
 use Rattle.types.specs.tables.Lent.{memberAt}
 use Rattle.types.specs.declared.tables.member.Bit.the-variants.{None, At}
@@ -18,18 +19,20 @@ use Rattle.values.specs.inside.normal_image.InPlace.{RowsHere, flagged, 
 use Rattle.values.specs.inside.writing.Rows.{MemberHere}
 use Rattle.values.specs.reading.Trees.{membersAt}
 use Rattle.values.proofs.reading.LeafLaws.{row-bit}
-use Rattle.values.proofs.writing.StampLaws.{stamp-ext}
 
 -- ---- plain rows
 
+-- a hidden member is not plain
 pub plain-hidden : {m n : Member} → m ≡ n → m .hidden ≡ true → false ≡ isPlain n
 unfolding isPlain
 plain-hidden e h = rw (← e, h)
 
+-- a visible BOOL of a host is not plain
 pub plain-bit : {m n : Member} {k : ℕ} → m ≡ n → m .hidden ≡ false → m .bit ≡ At k → false ≡ isPlain n
 unfolding isPlain
 plain-bit e h b = rw (← e, h, b)
 
+-- a visible member without a bit of its own is plain
 pub plain-whole : {m n : Member} → m ≡ n → m .hidden ≡ false → m .bit ≡ None → true ≡ isPlain n
 unfolding isPlain
 plain-whole e h b = rw (← e, h, b)
@@ -41,6 +44,7 @@ pub unflagged-hidden : {m n : Member} (x y : Bits) → m ≡ n → m .hidden ≡
 unfolding isFlag
 unflagged-hidden x y e h = rw (← e, h) refl
 
+-- a visible member without a bit of its own: nothing is done
 pub unflagged-whole : {m n : Member} (x y : Bits) → m ≡ n → m .hidden ≡ false → m .bit ≡ None
     → y ≡ cond (isFlag n) x y
 unfolding isFlag
@@ -65,6 +69,7 @@ module _ {members : List ℕ} {row base : ℕ} {image : List ℕ} {m : Member} {
   member-here : MemberHere (w .here .sizes) (memberAt members row) base image
   member-here = rw add-zero at (w .here .each 0 (omega arith))
 
+  -- its byte lies in the image, and its bit in that byte
   pub flag-inside : (base + start < length image) × (b < 8)
   flag-inside =
       let h : 8 * base + (8 * m .offset + b + 1) ≤ 8 * length image = rw (← w .is, w .bit) at (member-here .inside) in
@@ -116,9 +121,10 @@ pub record Keeping (members : List ℕ) (first base : ℕ) (image kept : List �
   pub each : (i : ℕ) → i < k → isFlag (memberAt members (first + i)) ≡ true
       → flat new i ≡ flat image (8 * base + firstBit (memberAt members (first + i)))
 
-pub keeping-none : (members : List ℕ) (first base : ℕ) (image kept : List ℕ) (k : ℕ) → k ≡ 0
+-- before the first row there is nothing to be kept
+pub keeping-none : {members : List ℕ} {first base : ℕ} {image kept : List ℕ} {k : ℕ} → k ≡ 0
     → Keeping members first base image kept k kept
-keeping-none members first base image kept k e =
+keeping-none {members} {first} {base} {image} {kept} {k} e =
     record { long = refl; each = λ i l. absurd (let z : ⊥ = omega arith in z) }
 
 -- a row changes no bit but its own
@@ -139,12 +145,13 @@ row-own c k i q b z e h = rw h (go (lies k 1 i))
     go (among m n f) = let g : q + (i - k) ≡ q = omega arith in rw f (ap b g)
     go (beside f g) = absurd (f (omega arith) (omega arith))
 
-pub keeping-more : {members : List ℕ} {first base : ℕ} {image kept : List ℕ} {k : ℕ} {new : List ℕ} (newer : List ℕ)
+-- one row more, its BOOL kept where it has one
+pub keeping-more : {members : List ℕ} {first base : ℕ} {image kept : List ℕ} {k : ℕ} {new : List ℕ} {newer : List ℕ}
     → Keeping members first base image kept k new → length newer ≡ length new
     → flat newer ≡ cond (isFlag (memberAt members (first + k)))
     (stamp k 1 (from (8 * base + firstBit (memberAt members (first + k))) (flat image)) (flat new)) (flat new)
     → Keeping members first base image kept (k + 1) newer
-keeping-more {members} {first} {base} {image} {kept} {k} {new} newer a long e =
+keeping-more {members} {first} {base} {image} {kept} {k} {new} {newer} a long e =
     record { long = long ∙ a .long; each = λ i l h. ap (λ (x : Bits). x i) e ∙ go i l h (decLt i k) }
   where
     go : (i : ℕ) → i < k + 1 → isFlag (memberAt members (first + i)) ≡ true → Dec (i < k)
@@ -167,9 +174,10 @@ pub record Putting (members : List ℕ) (first n : ℕ) (b : Bits) (p : ℕ) (im
   pub left : flagged b p k (membersAt members (first + k) (n - k)) (flat new)
       ≡ flagged b p 0 (membersAt members first n) (flat image)
 
-pub putting-none : (members : List ℕ) (first n : ℕ) (b : Bits) (p : ℕ) (image : List ℕ) (k : ℕ) → k ≡ 0
+-- before the first row the whole is still to be put back
+pub putting-none : {members : List ℕ} {first n : ℕ} {b : Bits} {p : ℕ} {image : List ℕ} {k : ℕ} → k ≡ 0
     → Putting members first n b p image k image
-putting-none members first n b p image k e =
+putting-none {members} {first} {n} {b} {p} {image} {k} e =
     let f : first + k ≡ first = omega arith in
     let g : n - k ≡ n = omega arith in
     record { long = refl; left = rw (f, g, e) refl }
@@ -181,12 +189,13 @@ flagged-first : (b : Bits) (p k : ℕ) (members : List ℕ) (row n : ℕ) (x : B
 unfolding membersAt flagged
 flagged-first b p k members row n x = let e : k + 1 ≡ suc k = omega arith in rw e refl
 
+-- one row more, its BOOL put back where it has one
 pub putting-more : {members : List ℕ} {first n : ℕ} {b : Bits} {p : ℕ} {image : List ℕ} {k : ℕ} {new : List ℕ}
-    (newer : List ℕ) → Putting members first n b p image k new → k < n → length newer ≡ length new
+    {newer : List ℕ} → Putting members first n b p image k new → k < n → length newer ≡ length new
     → flat newer ≡ cond (isFlag (memberAt members (first + k)))
     (stamp (p + firstBit (memberAt members (first + k))) 1 (from k b) (flat new)) (flat new)
     → Putting members first n b p image (k + 1) newer
-putting-more {members} {first} {n} {b} {p} {image} {k} {new} newer a l long e =
+putting-more {members} {first} {n} {b} {p} {image} {k} {new} {newer} a l long e =
     let f : suc (n - (k + 1)) ≡ n - k = omega arith in
     let g : first + k + 1 ≡ first + (k + 1) = omega arith in
     record {
@@ -196,6 +205,7 @@ putting-more {members} {first} {n} {b} {p} {image} {k} {new} newer a l long e =
           ∙ a .left;
     }
 
+-- after the last row every BOOL is put back
 pub putting-all : {members : List ℕ} {first n : ℕ} {b : Bits} {p : ℕ} {image : List ℕ} {k : ℕ} {new : List ℕ}
     → Putting members first n b p image k new → k ≡ n
     → flat new ≡ flagged b p 0 (membersAt members first n) (flat image)

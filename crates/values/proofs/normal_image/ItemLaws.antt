@@ -24,6 +24,7 @@ Apart [] = Unit {0}
 Apart (say e ∷ is) = Apart is
 Apart (at p l ∷ is) = Free p (width l) is × Apart is
 
+-- each leaf is one that types have
 abbrev pub AllGood : List Item → Type 0
 AllGood [] = Unit {0}
 AllGood (say e ∷ is) = AllGood is
@@ -103,6 +104,7 @@ module _ (is : List Item) (apart : Apart is) (good : AllGood is) where
   pub same-normal : (x y : Bits) → read is x ≡ read is y → normal is x ≡ normal is y
   same-normal x y e = fun-ext (λ k. read-tells is good x y e k)
 
+  -- the same normal bits give the same reading
   pub same-read : (x y : Bits) → normal is x ≡ normal is y → read is x ≡ read is y
   same-read x y e = sym (read-of-normal x) ∙ ap (read is) e ∙ read-of-normal y
 

@@ -5,12 +5,12 @@ use native.Mathlib.Omega.{arith}
 use mathlib.Core.Path.{_≡_, refl}
 use mathlib.Core.Bool.{Bool, true, false, cond}
 use mathlib.Core.List.{List, [], _∷_}
-use mathlib.Core.Logic.{_⊎_, inl, inr, ⊎-elim}
-use Rattle.types.specs.layout.Laid.{Earlier, firstBit, Laid}
-use Rattle.types.specs.layout.Laid.{Clear as ClearOf}
+use mathlib.Core.Logic.{inl, inr, ⊎-elim}
+use Rattle.types.specs.layout.Laid.{Earlier, firstBit, Laid, Clear as ClearOf}
 use Rattle.types.specs.tables.Defs.{partAt, partsAt}
 use Rattle.types.specs.tables.Kept.{Kept}
 use Rattle.types.specs.tables.Lent.{memberAt, typeAt}
+use Rattle.types.specs.tables.Limits.{mostTypes}
 use Rattle.types.specs.tables.Sizes.{bitsOf, sizesIn}
 use Rattle.types.specs.declared.tables.member.Member.{Member}
 use Rattle.types.proofs.Face.{RowIs, holds, empty, kept-row}
@@ -18,8 +18,7 @@ use Rattle.values.specs.inside.normal_image.Placed.{AllPlaced, Clear, Di
 use Rattle.values.specs.reading.Leaf.{str}
 use Rattle.values.specs.reading.Tree.{Tree, leaf, struct, span}
 use Rattle.values.specs.reading.Trees.{bitTree, branchesFrom, isString, knownIn, membersAt, secondCount, seen}
-use Rattle.values.specs.reading.Trees.{structTree}
-use Rattle.values.specs.reading.Trees.{treeOf, treeWithin, valueTree}
+use Rattle.values.specs.reading.Trees.{structTree, treeOf, treeWithin, valueTree}
 use Rattle.values.proofs.normal_image.DisjointLaws.{member-placed}
 use Rattle.values.proofs.reading.KeptWalkable.{kept-walkable}
 use Rattle.values.proofs.reading.SpanLaws.{Sized, sound-below, sound-within, bit-span}
@@ -119,6 +118,7 @@ module _ (types members names : List ℕ) (trees : ℕ → Tree) (i : ℕ) (soun
 -- ---- tables as our own calls left them
 
 module _ {types members names : List ℕ} (k : Kept types members names) where
+  -- the rows of every type are laid out as a layout promises
   pub laid-all : (i : ℕ) → Laid (sizesIn types) i (typeAt types i .size)
       (partsAt members names (typeAt types i .first) (typeAt types i .count))
   laid-all i = go (kept-row k i)
@@ -128,7 +128,7 @@ module _ {types members names : List ℕ} (k : Kept types members names) where
       go (holds r) = r .laid
       go (empty e) = rw e (unfold partsAt Laid in tt)
 
-  within-placed : (f i : ℕ) → f ≤ 200 → i < f → Placed (treeWithin (knownIn types members) f i)
+  within-placed : (f i : ℕ) → f ≤ mostTypes → i < f → Placed (treeWithin (knownIn types members) f i)
   unfolding treeWithin
   within-placed zero i h l = absurd (let z : ⊥ = omega arith in z)
   within-placed (suc f) i h l =
@@ -139,4 +139,4 @@ module _ {types members names : List ℕ} (k : Kept types members names) where
   -- tables as our own calls left them have members that share no bit
   pub kept-disjoint : Disjoint types members
   unfolding treeOf
-  kept-disjoint = record { walkable = kept-walkable k; placed = λ i l. within-placed 200 i (omega arith) l }
+  kept-disjoint = record { walkable = kept-walkable k; placed = λ i l. within-placed mostTypes i (omega arith) l }

@@ -7,14 +7,14 @@ use mathlib.Core.Bool.{true, false, cond, or-true}
 use mathlib.Core.List.{List, [], _∷_, _++_}
 use Rattle.words.specs.Bits.{Bits, bitOf, digit, from, inside}
 use Rattle.words.proofs.BitLaws.{Lies, among, beside, lies, val-ext}
+use Rattle.words.proofs.StampLaws.{yes-inside}
+use Rattle.words.proofs.TestLaws.{or-first, or-second}
 use Rattle.values.specs.inside.normal_image.InPlace.{made}
 use Rattle.values.specs.normal_image.Normal.{held, norm, normal}
 use Rattle.values.specs.reading.Leaf.{Leaf, flag, byte, int, word, str, isTrue, width}
 use Rattle.values.specs.reading.Tree.{Item, say, at, Tree, between, items, span}
 use Rattle.values.specs.stream.Stream.{mark}
 use Rattle.values.proofs.normal_image.ItemLaws.{normal-unheld}
-use Rattle.values.proofs.normal_image.PlacedLaws.{yes-inside}
-use Rattle.values.proofs.writing.OnlyHeld.{or-first, or-second}
 
 -- ---- locality
 
@@ -26,6 +26,7 @@ norm-local (int n) b c h k l = h k l
 norm-local (word kind n) b c h k l = h k l
 norm-local (str m) b c h k l = rw (val-ext 32 b c (λ j q. h j (omega arith)), h k l) refl
 
+-- the normal bits of some items depend on the bits that they hold only
 pub normal-local : (is : List Item) (x y : Bits) → ((k : ℕ) → held is k ≡ true → x k ≡ y k) → (k : ℕ)
     → normal is x k ≡ normal is y k
 unfolding held normal
@@ -62,6 +63,7 @@ normal-second (at p l ∷ a) b x k h =
     rw (or-first (inside p (width l) k) (held a k) h)
     (normal-second a b x k (or-second (inside p (width l) k) (held a k) h))
 
+-- brackets around some items change no normal bit
 pub normal-around : (start stop : ℕ) (is : List Item) (x : Bits) (k : ℕ)
     → normal (between start stop is) x k ≡ normal is x k
 unfolding held normal
@@ -69,11 +71,13 @@ normal-around start stop is x k = normal-first is (say (mark stop) ∷ []) x k r
 
 -- ---- a tree
 
+-- a bit of the tree becomes its normal bit
 pub made-inside : (t : Tree) (p : ℕ) (x : Bits) (k : ℕ) → inside p (span t) k ≡ true
     → made t p x k ≡ normal (items t p) x k
 unfolding made
 made-inside t p x k e = rw e refl
 
+-- a bit beside the tree stands
 pub made-beside : (t : Tree) (p : ℕ) (x : Bits) (k : ℕ) → inside p (span t) k ≡ false → made t p x k ≡ x k
 unfolding made
 made-beside t p x k e = rw e refl

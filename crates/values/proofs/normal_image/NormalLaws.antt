@@ -45,6 +45,7 @@ clip-same c b d h =
     ∙ val-bit 32 (clipped c b) small in
     omega arith
 
+-- a leaf's normal bits give the same entry as its bits do
 pub emit-norm : (l : Leaf) (b d : Bits) → ((k : ℕ) → k < width l → d k ≡ norm l b k) → emit l d ≡ emit l b
 emit-norm flag b d h = ap bool (h 0 (omega arith))
 emit-norm byte b d h =
@@ -83,8 +84,8 @@ signed-tells n x y a b p q e =
 number-tells : {k x y : ℕ} → number k x ≡ number k y → x ≡ y
 number-tells e = cc
 
-bool-tells : {x y : Bool} → bool x ≡ bool y → x ≡ y
-bool-tells e = cc
+bool-tells : (x y : Bool) → bool x ≡ bool y → x ≡ y
+bool-tells x y e = sym (truth-digit x) ∙ ap isTrue (number-tells e) ∙ truth-digit y
 
 text-tells : {xs ys : List ℕ} → text xs ≡ text ys → xs ≡ ys
 text-tells e = cc
@@ -92,10 +93,11 @@ text-tells e = cc
 bits-tell : (n : ℕ) (b c : Bits) → val n b ≡ val n c → (k : ℕ) → k < n → b k ≡ c k
 bits-tell n b c e k l = sym (bit-val n b k l) ∙ ap (λ (x : ℕ). bitOf x k) e ∙ bit-val n c k l
 
+-- bits that give the same entry of a leaf have the same normal bits
 pub emit-tells : (l : Leaf) → Good l → (b c : Bits) → emit l b ≡ emit l c → (k : ℕ) → k < width l
     → norm l b k ≡ norm l c k
-emit-tells flag g b c e k l = let z : k ≡ 0 = omega arith in rw z (bool-tells e)
-emit-tells byte g b c e k l = ap (λ (t : Bool). bitOf (digit t) k) (bool-tells e)
+emit-tells flag g b c e k l = let z : k ≡ 0 = omega arith in rw z (bool-tells (b 0) (c 0) e)
+emit-tells byte g b c e k l = ap (λ (t : Bool). bitOf (digit t) k) (bool-tells (isTrue (val 8 b)) (isTrue (val 8 c)) e)
 emit-tells (int n) (u, v) b c e k l =
     bits-tell n b c (signed-tells n (val n b) (val n c) u v (val-below n b) (val-below n c) (number-tells e)) k l
 emit-tells (word kind n) g b c e k l = bits-tell n b c (number-tells e) k l

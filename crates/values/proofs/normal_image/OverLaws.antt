@@ -8,11 +8,11 @@ use mathlib.Core.Bool.{Bool, true, false, cond, _||_}
 use mathlib.Core.List.{List, [], _∷_, _++_}
 use Rattle.words.specs.Bits.{Bits, from, inside, stamp}
 use Rattle.words.proofs.BitLaws.{Lies, among, beside, lies}
+use Rattle.words.proofs.StampLaws.{stamp-none, stamp-two}
 use Rattle.values.specs.normal_image.Normal.{norm, held, normal}
 use Rattle.values.specs.reading.Leaf.{width}
 use Rattle.values.specs.reading.Tree.{Item, say, at, each, oneFlag}
 use Rattle.values.proofs.normal_image.ItemLaws.{Apart}
-use Rattle.values.proofs.writing.StampLaws.{stamp-none, stamp-two}
 
 -- what stands at the end where the leaves' normal bits in x are put over z
 unfoldable pub over : List Item → Bits → Bits → Bits
@@ -20,6 +20,7 @@ over [] x z = z
 over (say e ∷ is) x z = over is x z
 over (at p l ∷ is) x z = over is x (stamp p (width l) (norm l (from p x)) z)
 
+-- putting over the leaves of two lists is putting over the first and then the second
 pub over-append : (a b : List Item) (x z : Bits) → over (a ++ b) x z ≡ over b x (over a x z)
 unfolding over
 over-append [] b x z = refl
@@ -61,6 +62,7 @@ stamp-again p n b c z = fun-ext (λ k. go k (inside p n k))
     go k true = refl
     go k false = refl
 
+-- a run of bits put over an image hides what was put there before
 pub flags-hide : (n p : ℕ) (x b z : Bits)
     → over (each n oneFlag 1 p) x (stamp p n b z) ≡ over (each n oneFlag 1 p) x z
 flags-hide n p x b z =

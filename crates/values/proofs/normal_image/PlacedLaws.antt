@@ -3,18 +3,19 @@
 use Prim.Native.Nat.{ℕ, zero, suc, _+_, _*_, _<_, _≤_}
 use native.Mathlib.Nat.{mul-one, suc-mul}
 use native.Mathlib.Omega.{arith}
-use mathlib.Core.Path.{_≡_, refl, sym, ap, _∙_}
 use mathlib.Core.Bool.{Bool, true, false, _||_, or-assoc, or-false, or-true, true≢false}
 use mathlib.Core.List.{List, [], _∷_, _++_}
 use mathlib.Core.Logic.{_⊎_, inl, inr}
+use mathlib.Core.Path.{_≡_, refl, sym, ap, _∙_}
 use Rattle.words.specs.Bits.{inside}
 use Rattle.words.proofs.BitLaws.{Lies, among, beside, lies}
+use Rattle.words.proofs.StampLaws.{yes-inside}
+use Rattle.words.proofs.TestLaws.{not-true}
 use Rattle.values.specs.inside.normal_image.Placed.{AllPlaced, Clear, Placed}
 use Rattle.values.specs.normal_image.Normal.{held}
 use Rattle.values.specs.reading.Leaf.{Leaf, flag, width}
 use Rattle.values.specs.reading.Tree.{Tree, leaf, bits, array, struct, Branches, none, branch, room, allBits}
-use Rattle.values.specs.reading.Tree.{span}
-use Rattle.values.specs.reading.Tree.{Item, say, at, each, between, oneFlag, items, branchItems}
+use Rattle.values.specs.reading.Tree.{span, Item, say, at, each, between, oneFlag, items, branchItems}
 use Rattle.values.specs.stream.Stream.{mark}
 use Rattle.values.proofs.normal_image.ItemLaws.{Apart, AllGood}
 use Rattle.values.proofs.reading.TreeLaws.{width-room}
@@ -25,6 +26,7 @@ use Rattle.values.proofs.reading.TreeLaws.{width-room}
 abbrev pub Between : ℕ → ℕ → List Item → Type 0
 Between lo hi is = (k : ℕ) → held is k ≡ true → (lo ≤ k) × (k < hi)
 
+-- two lists of items together hold a bit where the first or the second holds it
 pub held-append : (a b : List Item) (k : ℕ) → held (a ++ b) k ≡ (held a k || held b k)
 unfolding held
 held-append [] b k = refl
@@ -32,6 +34,7 @@ held-append (say e ∷ a) b k = held-append a b k
 held-append (at p l ∷ a) b k =
     ap (inside p (width l) k ||_) (held-append a b k) ∙ sym (or-assoc (inside p (width l) k) (held a k) (held b k))
 
+-- one of two tests is true
 pub data Or (a b : Bool) : Type 0 where
   left : a ≡ true → Or a b
   right : b ≡ true → Or a b
@@ -40,12 +43,9 @@ either-true : (a b : Bool) → (a || b) ≡ true → Or a b
 either-true true b e = left refl
 either-true false b e = right e
 
+-- a bit that two lists together hold is held by the first or by the second
 pub held-or : (a b : List Item) (k : ℕ) → held (a ++ b) k ≡ true → Or (held a k) (held b k)
 held-or a b k e = either-true (held a k) (held b k) (sym (held-append a b k) ∙ e)
-
-pub not-true : (b : Bool) → (b ≡ true → ⊥) → b ≡ false
-not-true true h = absurd (h refl)
-not-true false h = refl
 
 never : {A : Type 0} → _≡_ {A = Bool} false true → A
 never e = absurd (true≢false (sym e))
@@ -59,13 +59,6 @@ between-append lo hi a b f g k e = go (held-or a b k e)
 
 between-wide : (lo hi low high : ℕ) (a : List Item) → low ≤ lo → hi ≤ high → Between lo hi a → Between low high a
 between-wide lo hi low high a p q f k e = let w : (lo ≤ k) × (k < hi) = f k e in (omega arith, omega arith)
-
-pub yes-inside : (p n k : ℕ) → p ≤ k → k < p + n → inside p n k ≡ true
-yes-inside p n k u v = go (lies p n k)
-  where
-    go : Lies p n k → inside p n k ≡ true
-    go (among x y e) = e
-    go (beside q e) = absurd (q u v)
 
 apart-append : (a b : List Item) → Apart a → Apart b → ((k : ℕ) → held a k ≡ true → held b k ≡ false) → Apart (a ++ b)
 unfolding held
@@ -95,6 +88,7 @@ at-apart : (p : ℕ) (l : Leaf) → Apart (at p l ∷ [])
 unfolding held
 at-apart p l = ((λ k u v. refl), tt)
 
+-- the bits of n elements, each inside its own width, lie inside n widths
 pub each-between : (n : ℕ) (f : ℕ → List Item) (w p : ℕ) → ((q : ℕ) → Between q (q + w) (f q))
     → Between p (p + n * w) (each n f w p)
 unfolding each held
@@ -140,6 +134,7 @@ around-good stop is a = good-append is (say (mark stop) ∷ []) a tt
 mutual
   unfolding items Placed span held
 
+  -- the bits that a tree holds lie among those that it takes
   pub tree-between : (t : Tree) (p : ℕ) → Placed t → Between p (p + span t) (items t p)
   tree-between (leaf l) p a =
       between-wide p (p + width l) p (p + room l) (at p l ∷ []) (omega arith) (omega (arith, width-room l))
@@ -181,6 +176,7 @@ branches-clear (branch j q r bs) size o n p a c k t u v =
 mutual
   unfolding items Placed span
 
+  -- no two leaves of a tree share a bit, where its branches share none
   pub tree-apart : (t : Tree) (p : ℕ) → Placed t → Apart (items t p)
   tree-apart (leaf l) p a = at-apart p l
   tree-apart (bits w n) p a =
@@ -203,6 +199,7 @@ mutual
 mutual
   unfolding items Placed
 
+  -- the leaves of such a tree are those that types have
   pub tree-good : (t : Tree) (p : ℕ) → Placed t → AllGood (items t p)
   tree-good (leaf l) p a = (a, tt)
   tree-good (bits w n) p a =

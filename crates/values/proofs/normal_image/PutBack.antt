@@ -14,6 +14,7 @@ use borrow.Author.Tests.{eq-eqb, ne-eqb, le-leb, lt-leb, lt-ltb, le-ltb, ltb-tru
 use Rattle.words.specs.Bits.{Bits, from, bitOf, digit, flat, val}
 use Rattle.words.specs.Words.{bytesOf}
 use Rattle.words.proofs.BitLaws.{bit-val, val-below}
+use Rattle.words.proofs.StampLaws.{flat-bytes}
 use Rattle.words.proofs.WordLaws.{length-bytes}
 use Rattle.values.specs.inside.normal_image.Placed.{Good}
 use Rattle.values.specs.normal_image.Normal.{norm}
@@ -21,8 +22,8 @@ use Rattle.values.specs.reading.Leaf.{Leaf, flag, byte, int, word, str, 
 use Rattle.values.specs.stream.Stream.{number, text, kindOf}
 use Rattle.values.specs.writing.Effects.{put, ofKind, inRange, whole, textBits, asText, taken}
 use Rattle.values.proofs.normal_image.CharLaws.{chars-ext, flat-chars, length-chars}
-use Rattle.values.proofs.writing.StampLaws.{flat-bytes}
 
+-- a leaf takes the entry that it gives, and the bits set are its normal bits
 pub record PutBack (l : Leaf) (b : Bits) : Type 0 where
   pub bits : Bits
   pub takes : taken l (emit l b) ≡ put bits
@@ -174,6 +175,7 @@ unfolding bitOf
 digit-bit true = refl
 digit-bit false = refl
 
+-- each leaf that types have takes back what it gives
 pub put-back : (l : Leaf) → Good l → (b : Bits) → PutBack l b
 unfolding ofKind
 put-back flag g b =

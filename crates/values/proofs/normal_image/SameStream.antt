@@ -91,9 +91,11 @@ module _ {types members : List ℕ} (d : Disjoint types members) (t : Ty) (n : �
           reading-back types members walkable t n x (v .fits)
           (rw (stream-is types members walkable t n x v b) at room)
 
+      -- the form of a value's stream is good
       pub stream-ok : streamOk (valueStream types members t n x) ≡ true
       stream-ok = ap streamOk (stream-is types members walkable t n x v b) ∙ said .ok
 
+      -- the entries that a value's stream says are the reading of its tree
       pub tokens-are : tokensIn (valueStream types members t n x) ≡ read is (flat x)
       tokens-are = ap tokensIn (stream-is types members walkable t n x v b) ∙ said .tokens ∙ entries-are
 

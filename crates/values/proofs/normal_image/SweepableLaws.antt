@@ -7,6 +7,7 @@ use mathlib.Core.Bool.{Bool, true, false, cond, not, true≢false}
 use mathlib.Core.List.{List}
 use Rattle.types.specs.layout.Laid.{Plain, hasBit}
 use Rattle.types.specs.tables.Lent.{typeAt}
+use Rattle.types.specs.tables.Limits.{mostTypes}
 use Rattle.types.specs.tables.Sizes.{sizesIn}
 use Rattle.types.specs.declared.tables.member.Bit.{Bit}
 use Rattle.types.specs.declared.tables.member.Bit.the-variants.{None, At}
@@ -33,7 +34,7 @@ module _ {types members : List ℕ} (s : Sweepable types members) where
   pub sweepable-walkable : Walkable types members
   sweepable-walkable = s .disjoint .walkable
 
-  module _ (i : ℕ) (low : i < 200) where
+  module _ (i : ℕ) (low : i < mostTypes) where
     -- a structure that is no string has branches that share no bit
     pub sweepable-branches : isString (typeAt types i .kind) ≡ false
         → AllPlaced (8 * sizesIn types i) (branchesIn types members i)

@@ -8,6 +8,7 @@ use mathlib.Core.List.{List, [], _∷_, _++_, append-assoc}
 use lib.ListN.{length, length-append}
 use borrow.Author.Tests.{eq-eqb, ne-eqb}
 use Rattle.words.specs.Bits.{Bits, from, stamp}
+use Rattle.words.proofs.StampLaws.{stamp-ext}
 use Rattle.values.specs.inside.normal_image.Placed.{AllPlaced, Good, Numbered, Placed}
 use Rattle.values.specs.normal_image.Normal.{norm}
 use Rattle.values.specs.reading.Leaf.{Leaf, flag, width, emit}
@@ -15,14 +16,13 @@ use Rattle.values.specs.reading.Tree.{Tree, leaf, bits, array, struct, B
 use Rattle.values.specs.reading.Tree.{Item, say, at, each, between, oneFlag, items, branchItems, read}
 use Rattle.values.specs.stream.Stream.{Token, member, mark, kindOf}
 use Rattle.values.specs.writing.Effects.{Effect, put, orNull, taken}
-use Rattle.values.specs.writing.Writing.{Outcome, ok, writeOne, opened, elements, membersIn}
-use Rattle.values.specs.writing.Writing.{boolsIn, wholesIn, firstIs, noBits, writeBits, write, writeBranch}
+use Rattle.values.specs.writing.Writing.{Outcome, ok, writeOne, opened, elements, membersIn, boolsIn, wholesIn}
+use Rattle.values.specs.writing.Writing.{firstIs, noBits, writeBits, write, writeBranch}
 use Rattle.values.proofs.normal_image.OverLaws.{over, over-append, flags-hide}
 use Rattle.values.proofs.normal_image.PutBack.{PutBack, emit-value, put-back}
 use Rattle.values.proofs.reading.TreeLaws.{read-append}
 use Rattle.values.proofs.writing.FitLaws.{not-null}
 use Rattle.values.proofs.writing.OutcomeLaws.{elements-next}
-use Rattle.values.proofs.writing.StampLaws.{stamp-ext}
 
 -- the entries of some items are taken, and more are left
 abbrev pub Back : (List Token → Bits → Outcome) → List Item → Bits → Type 0
@@ -192,6 +192,7 @@ members-step j a b x one n h rest (suc most) l z more =
 mutual
   unfolding items write Placed count
 
+  -- what was read of a tree is all taken, and the image gets the leaves' normal bits
   pub tree-back : (t : Tree) (p : ℕ) (x : Bits) → Placed t → Back (write t p) (items t p) x
   tree-back (leaf l) p x a = leaf-back l a p x
   tree-back (bits w n) p x a = bits-back w n p x

@@ -13,9 +13,7 @@ use Rattle.types.specs.declared.tables.member.Member.{Member}
 use Rattle.types.specs.declared.tables.member.StructDef.{StructDef}
 use Rattle.types.specs.declared.tables.member.StructKind.{StructKind}
 use Rattle.types.specs.declared.tables.member.StructKind.the-variants.{Udt, Predefined, Str, Aoi}
-use Rattle.types.proofs.Face.{row-lies}
-use Rattle.types.proofs.Face.{TypeRow, RowIs, holds, empty, kept-row}
-use Rattle.types.proofs.Face.{StringRow}
+use Rattle.types.proofs.Face.{row-lies, TypeRow, RowIs, holds, empty, kept-row, StringRow}
 use Rattle.values.specs.inside.reading.Walkable.{Within, IsString, WalkableType, Walkable}
 use Rattle.values.specs.reading.Trees.{isString}
 
@@ -64,5 +62,6 @@ module _ {types members names : List ℕ} where
   row-walkable i (holds r) = used-walkable i r
   row-walkable i (empty e) = unused-walkable i e
 
+-- tables as our own calls left them are walkable
 pub kept-walkable : {types members names : List ℕ} → Kept types members names → Walkable types members
 kept-walkable k = record { each = λ i l. row-walkable i (kept-row k i) }

@@ -17,6 +17,7 @@ use Rattle.types.specs.inside.tables.Lent.{TyFits}
 use Rattle.types.specs.layout.Laid.{Earlier, firstIn, firstBit}
 use Rattle.types.specs.layout.Placing.{times}
 use Rattle.types.specs.tables.Lent.{memberAt, typeAt}
+use Rattle.types.specs.tables.Limits.{mostTypes}
 use Rattle.types.specs.tables.Sizes.{bitsOf, sizeIn, sizesIn}
 use Rattle.types.specs.declared.atomics.atomic.Atomic.{Atomic}
 use Rattle.types.specs.declared.tables.member.Bit.{Bit}
@@ -25,9 +26,8 @@ use Rattle.types.specs.declared.tables.member.Member.{Member}
 use Rattle.types.specs.declared.tables.member.Ty.{Ty}
 use Rattle.types.specs.declared.tables.member.Ty.the-variants as ty
 use Rattle.values.specs.inside.reading.Walk.{upTo, wrap, bitToken, bitsOut, numberOut, elementOut, numbersOut}
-use Rattle.values.specs.inside.reading.Walk.{atomicsOut}
-use Rattle.values.specs.inside.reading.Walk.{textOut, bitOut, elementBy, elementsBy, structsBy, valueBy}
-use Rattle.values.specs.inside.reading.Walk.{bytesBy, memberBy, rowBy, membersBy, structBy, structWithin}
+use Rattle.values.specs.inside.reading.Walk.{atomicsOut, textOut, bitOut, elementBy, elementsBy, structsBy}
+use Rattle.values.specs.inside.reading.Walk.{valueBy, bytesBy, memberBy, rowBy, membersBy, structBy, structWithin}
 use Rattle.values.specs.inside.reading.Walk.{structOut, valueOut}
 use Rattle.values.specs.inside.reading.Walkable.{Within, IsString, WalkableType, Walkable}
 use Rattle.values.specs.reading.Leaf.{Leaf, flag, str, leafOf, emit, clipped}
@@ -35,12 +35,12 @@ use Rattle.values.specs.reading.Texts.{capacityAt}
 use Rattle.values.specs.reading.Tree.{Tree, leaf, bits, array, struct, Branches, allBits, span, each, oneFlag}
 use Rattle.values.specs.reading.Tree.{items, branchItems, read}
 use Rattle.values.specs.reading.Trees.{membersAt, knownIn, secondCount, isString, atomicsTree, bitTree, seen}
-use Rattle.values.specs.reading.Trees.{structsTree}
-use Rattle.values.specs.reading.Trees.{valueTree, branchesFrom, structTree, treeWithin, treeOf, treeOfValue}
+use Rattle.values.specs.reading.Trees.{structsTree, valueTree, branchesFrom, structTree, treeWithin, treeOf}
+use Rattle.values.specs.reading.Trees.{treeOfValue}
 use Rattle.values.specs.stream.Stream.{Token, bool, text, member}
 use Rattle.values.proofs.reading.SpanLaws.{Many, one, some, many, leaf-room, all-bits, Sized, value-span}
-use Rattle.values.proofs.reading.SpanLaws.{value-inside}
-use Rattle.values.proofs.reading.SpanLaws.{sound-below, capacity-is, earlier, sound-within, sound-all}
+use Rattle.values.proofs.reading.SpanLaws.{value-inside, sound-below, capacity-is, earlier, sound-within}
+use Rattle.values.proofs.reading.SpanLaws.{sound-all}
 use Rattle.values.proofs.reading.TreeLaws.{Inside, read-append, read-between, part-read, chars-part, each-up}
 use Rattle.values.proofs.reading.UpLaws.{up-cons, up-ext}
 
@@ -264,7 +264,7 @@ module _ (types members : List ℕ) (trees : ℕ → Tree) (i : ℕ) (sound : Si
 -- ---- all structures
 
 module _ (types members : List ℕ) (w : Walkable types members) where
-  within-read : (f i : ℕ) (image : List ℕ) → f ≤ 200 → i < f → length image ≡ sizesIn types i → Bytes image
+  within-read : (f i : ℕ) (image : List ℕ) → f ≤ mostTypes → i < f → length image ≡ sizesIn types i → Bytes image
       → structWithin types members f i image ≡ read (items (treeWithin (knownIn types members) f i) 0) (flat image)
   unfolding structWithin treeWithin
   within-read zero i image h l e b = absurd (let z : ⊥ = omega arith in z)
@@ -274,10 +274,10 @@ module _ (types members : List ℕ) (w : Walkable types members) where
       (λ s part k d c. within-read f s part (omega arith) (omega arith) d c) (w .each i (omega arith)) image e b
 
   -- a structure
-  struct-meaning : (i : ℕ) (image : List ℕ) → i < 200 → length image ≡ sizesIn types i → Bytes image
+  struct-meaning : (i : ℕ) (image : List ℕ) → i < mostTypes → length image ≡ sizesIn types i → Bytes image
       → structOut types members i image ≡ read (items (treeOf (knownIn types members) i) 0) (flat image)
   unfolding structOut treeOf
-  struct-meaning i image l e b = within-read 200 i image (omega arith) l e b
+  struct-meaning i image l e b = within-read mostTypes i image (omega arith) l e b
 
   -- a value
   pub meaning : (t : Ty) (n : ℕ) (image : List ℕ) → TyFits t → length image ≡ sizeIn (sizesIn types) t * times n
@@ -285,5 +285,5 @@ module _ (types members : List ℕ) (w : Walkable types members) where
       → valueOut types members t n image ≡ read (items (treeOfValue (knownIn types members) t n) 0) (flat image)
   unfolding valueOut treeOfValue
   meaning t n image l e b =
-      value-read types members (treeOf (knownIn types members)) 200 (sound-all types members w)
+      value-read types members (treeOf (knownIn types members)) mostTypes (sound-all types members w)
       (structOut types members) struct-meaning t n image (earlier t l) e b

@@ -10,6 +10,7 @@ use Rattle.words.specs.Words.{part}
 use Rattle.words.proofs.TestLaws.{clash}
 use Rattle.types.specs.layout.Placing.{times}
 use Rattle.types.specs.tables.Lent.{memberAt, typeAt}
+use Rattle.types.specs.tables.Limits.{mostTypes}
 use Rattle.types.specs.tables.Sizes.{sizeIn, sizesIn}
 use Rattle.types.specs.declared.atomics.atomic.Atomic.{Atomic}
 use Rattle.types.specs.declared.tables.member.Bit.{Bit}
@@ -35,9 +36,11 @@ module _ (m : Member) (nested : isNested m ≡ true) where
   unfolding isNested
   parts = nested-parts (m .hidden) (m .bit) (m .ty) nested
 
+  -- a member that is a nested structure is visible
   pub nested-shown : m .hidden ≡ false
   nested-shown = parts .0
 
+  -- a member that is a nested structure has no bit
   pub nested-whole : m .bit ≡ None
   nested-whole = parts .1 .0
 
@@ -76,7 +79,7 @@ module _ (types members : List ℕ) (rec : ℕ → List ℕ → List Token) (j :
 
 module _ {types members : List ℕ} where
   -- row k of structure i
-  pub row-of : {i k first n : ℕ} → Walkable types members → i < 200 → first ≡ typeAt types i .first
+  pub row-of : {i k first n : ℕ} → Walkable types members → i < mostTypes → first ≡ typeAt types i .first
       → n ≡ typeAt types i .count → k < n → RowOf types members i (first + k)
   row-of {i} {k} w l p q h =
       rw p (record {
@@ -85,6 +88,7 @@ module _ {types members : List ℕ} where
         within = w .each i l .each k (omega arith);
       })
 
+  -- a row of structure i whose member is a nested structure is a nested row
   pub nested-row : {i row : ℕ} → RowOf types members i row → isNested (memberAt members row) ≡ true
       → NestedRow types members i row
   nested-row r e = record { row-of = r; nested = e }

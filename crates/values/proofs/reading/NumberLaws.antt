@@ -118,5 +118,6 @@ fill-room atomic.Word = omega arith
 fill-room atomic.DWord = omega arith
 fill-room atomic.LWord = omega arith
 
+-- a number, and what its form puts above it, fit into 64 bits
 pub fill-fits : (a : Atomic) (s : List ℕ) (at : ℕ) → Bytes s → wordAt (sizeOf a) s at + formOf a .fill < 2 ^ 64
 fill-fits a s at b = omega (arith, fill-room a, word-below (sizeOf a) s at b)

@@ -10,6 +10,7 @@ use lib.ListN.{length, take, drop, length-take, length-drop}
 use Rattle.words.specs.Words.{part}
 use Rattle.types.specs.layout.Placing.{times}
 use Rattle.types.specs.tables.Lent.{memberAt}
+use Rattle.types.specs.tables.Limits.{mostTypes}
 use Rattle.types.specs.tables.Sizes.{sizesIn}
 use Rattle.types.specs.declared.tables.member.Ty.the-variants as ty
 use Rattle.values.specs.inside.reading.Walk.{elementBy, elementsBy, structsBy, memberBy}
@@ -21,10 +22,12 @@ use Rattle.values.proofs.reading.MemberLaws.{nested-whole, nested-earli
 abbrev pub lent : List ℕ → ℕ → ℕ → List ℕ
 lent s start stop = take (stop - start) (drop start s)
 
+-- the bytes from a start to an end n bytes later are the part of n bytes there
 pub lent-part : (s : List ℕ) (at n : ℕ) → lent s at (at + n) ≡ part s at n
 unfolding part
 lent-part s at n = ap (λ (k : ℕ). take k (drop at s)) (add-sub-cancel-left at n)
 
+-- a part that lies in the list has as many bytes as were asked for
 pub lent-long : (s : List ℕ) (at n : ℕ) → at + n ≤ length s → length (lent s at (at + n)) ≡ n
 lent-long s at n h = simp (length-take, length-drop) (omega arith)
 
@@ -35,14 +38,17 @@ module _ {types image : List ℕ} {i n size : ℕ} (w : ImagesOf types i n image
   all-long : size * n ≡ length image
   all-long = ap (_* n) e ∙ sym (w .long)
 
+  -- each element of an array of structures lies in the image
   pub element-fits : (k : ℕ) → k < n → size * k + size ≤ length image
   element-fits k l =
       let h : size * k + size ≤ size * n = subst (_≤ size * n) (mul-suc size k) (mul-le-mul-left size l) in
       omega (arith, all-long)
 
+  -- the bytes of an element are an image of its structure
   pub element-image : (k : ℕ) → k < n → ImageOf types i (lent image (size * k) (size * k + size))
   element-image k l = record { low = w .low; long = lent-long image (size * k) size (element-fits k l) ∙ e }
 
+  -- what the bytes of an element give is what the walk gives for that element
   pub element-is : (members : List ℕ) (rec : ℕ → List ℕ → List Token) (k : ℕ)
       → rec i (lent image (size * k) (size * k + size)) ≡ elementBy types members rec i image k
   element-is members rec k =
@@ -69,10 +75,11 @@ pub record Held (types members : List ℕ) (i row : ℕ) (image : List ℕ) (s s
 
 module _ {types members : List ℕ} {i row : ℕ} {image : List ℕ} {s start n size : ℕ}
     (w : Held types members i row image s start n size) where
+  -- the structure that a row holds is an earlier one
   pub held-earlier : s < i
   held-earlier = nested-earlier (w .nested) (w .struct)
 
-  held-low : s < 200
+  held-low : s < mostTypes
   held-low = omega (arith, held-earlier, w .nested .row-of .low)
 
   -- it lies inside the image
@@ -94,12 +101,15 @@ module _ {types members : List ℕ} {i row : ℕ} {image : List ℕ} {s start n 
     one : size * times n ≡ size
     one = ap (size *_) (times-one n none) ∙ mul-one size
 
+    -- one structure in a row: its bytes lie in the image
     pub one-fits : start + size ≤ length image
     one-fits = omega (arith, one, held-fits)
 
+    -- one structure in a row: its bytes are an image of it
     pub one-image : ImageOf types s (lent image start (start + size))
     one-image = record { low = held-low; long = lent-long image start size one-fits ∙ w .long }
 
+    -- one structure in a row: the number and what its bytes give are what the member gives
     pub one-is : (rec : ℕ → List ℕ → List Token) (j : ℕ)
         → member j ∷ rec s (lent image start (start + size)) ≡ memberBy types members rec j (memberAt members row) image
     unfolding structsBy
@@ -109,13 +119,16 @@ module _ {types members : List ℕ} {i row : ℕ} {image : List ℕ} {s start n 
     all : size * times n ≡ size * n
     all = ap (size *_) (times-some n some)
 
+    -- an array of structures in a row: its bytes lie in the image
     pub some-fits : start + size * n ≤ length image
     some-fits = omega (arith, all, held-fits)
 
+    -- an array of structures in a row: its bytes are an image of so many of them
     pub some-images : ImagesOf types s n (lent image start (start + size * n))
     some-images =
         record { low = held-low; long = lent-long image start (size * n) some-fits ∙ ap (_* n) (w .long) }
 
+    -- an array of structures in a row: the number and its elements are what the member gives
     pub some-is : (rec : ℕ → List ℕ → List Token) (j : ℕ)
         → member j ∷ elementsBy types members rec s n (lent image start (start + size * n))
         ≡ memberBy types members rec j (memberAt members row) image

@@ -21,8 +21,7 @@ use Rattle.types.specs.declared.atomics.atomic.Atomic.{Atomic}
 use Rattle.types.specs.declared.refusals.refusal.Refusal.the-variants.{ImageLength, NoSuchType, NoRoom}
 use Rattle.types.specs.declared.tables.member.Ty.{Ty}
 use Rattle.types.specs.declared.tables.member.Ty.the-variants as ty
-use Rattle.types.proofs.Face.{times-one, times-same}
-use Rattle.types.proofs.Face.{there-fits}
+use Rattle.types.proofs.Face.{times-one, times-same, there-fits}
 use Rattle.values.specs.inside.reading.Read.{StreamWritten}
 use Rattle.values.specs.inside.reading.Walk.{atomicsOut, elementsBy, structOut, structsBy, valueOut}
 use Rattle.values.specs.inside.reading.Walkable.{ImageOf, ImagesOf, ValueImage, Walkable}
@@ -42,20 +41,24 @@ use Rattle.values.proofs.stream.StreamLaws.{stream-long, stream-laid}
 -- ---- one way out each
 
 module _ (types members : List ℕ) (t : Ty) (n : ℕ) (image out : List ℕ) where
+  -- the way out with 15: no such type, and nothing is written
   pub no-type : isThere types t ≡ false → Answered types members t n image out (Refused NoSuchType) out
   unfolding readAnswer
   no-type e = record { answer = rw e refl; leaves = rw e refl }
 
+  -- the way out with 14: the image has the wrong length, and nothing is written
   pub no-image : isThere types t ≡ true → imageFits types t n image ≡ false
       → Answered types members t n image out (Refused ImageLength) out
   unfolding readAnswer
   no-image e f = record { answer = rw (e, f) refl; leaves = rw (e, f) refl }
 
+  -- the type is there and the image fits: the answer is the one about the stream
   pub answered : {r : Streamed} {new : List ℕ} → isThere types t ≡ true → imageFits types t n image ≡ true
       → StreamWritten types members t n image out r new → Answered types members t n image out r new
   unfolding readAnswer
   answered e f w = record { answer = rw (e, f) (w .answer); leaves = rw (e, f) (w .leaves) }
 
+  -- the way out with 16: the stream has no room, and nothing is written
   pub no-room : hasRoom (valueStream types members t n image) (length out) ≡ false
       → StreamWritten types members t n image out (Refused NoRoom) out
   unfolding streamAnswer
@@ -69,6 +72,7 @@ module _ (types members : List ℕ) (t : Ty) (n : ℕ) (image out : List ℕ) wh
 
 -- ---- a product that is compared without being made
 
+-- a size of 0: a length is the product where it is 0
 pub product-none : (long size n : ℕ) → size ≡ 0 → eqb long 0 ≡ eqb long (size * n)
 product-none long size n e = ap (eqb long) (sym (ap (λ (s : ℕ). s * n) e ∙ zero-mul n))
 
@@ -80,9 +84,11 @@ module _ (long size n : ℕ) (some : size ≡ 0 → ⊥) where
         ap (λ (k : ℕ). k / size) p ∙ digits-div n (omega (arith, some)),
       )
 
+  -- a length that the size does not divide is not the product
   pub product-not : (long % size ≡ 0 → ⊥) → false ≡ eqb long (size * n)
   product-not r = sym (ne-eqb long (size * n) (λ e. r (exact e .0)))
 
+  -- a length that the size divides is the product where the quotient is the count
   pub product-is : long % size ≡ 0 → eqb (long / size) n ≡ eqb long (size * n)
   product-is r = go (eqb (long / size) n) refl
     where
@@ -96,33 +102,39 @@ module _ (long size n : ℕ) (some : size ≡ 0 → ⊥) where
 -- ---- a value is an atomic or a structure, one or an array
 
 module _ (types : List ℕ) (i n : ℕ) (image : List ℕ) (v : ImagesOf types i (times n) image) where
+  -- with a count of 0 the image is that of one structure
   pub image-one : n ≡ 0 → ImageOf types i image
   image-one e =
       record { low = v .low; long = v .long ∙ ap (λ (k : ℕ). sizesIn types i * k) (sym (times-one n e)) ∙ mul-one _ }
 
+  -- with any other count the image is that of so many structures
   pub image-some : (n ≡ 0 → ⊥) → ImagesOf types i n image
   image-some e = record { low = v .low; long = v .long ∙ ap (λ (k : ℕ). sizesIn types i * k) (sym (times-same n e)) }
 
 -- the image of a value of a structure
-pub images : (types : List ℕ) (t : Ty) (i n : ℕ) (image : List ℕ) → t ≡ ty.Struct i → ValueImage types t n image
+pub images : (types : List ℕ) (t : Ty) {i : ℕ} (n : ℕ) (image : List ℕ) → t ≡ ty.Struct i → ValueImage types t n image
     → ImagesOf types i (times n) image
-images types t i n image e v = let w = rw e at v in record { low = w .fits; long = w .long }
+images types t {i} n image e v = let w = rw e at v in record { low = w .fits; long = w .long }
 
 module _ (types members : List ℕ) (n : ℕ) (image : List ℕ) where
+  -- a value of an atomic type gives that atomic, or so many of them
   pub value-atomic : (t : Ty) (a : Atomic) → t ≡ ty.Atomic a → valueOut types members t n image ≡ atomicsOut a n image
   unfolding valueOut
   value-atomic t a e = rw e refl
 
+  -- a value of a structure type gives that structure, or so many of them
   pub value-struct : (t : Ty) (i : ℕ) → t ≡ ty.Struct i
       → valueOut types members t n image ≡ structsBy types members (structOut types members) i n image
   unfolding valueOut
   value-struct t i e = rw e refl
 
+  -- a structure with a count of 0 gives what one structure gives
   pub value-one : (i : ℕ) → n ≡ 0
       → valueOut types members (ty.Struct i) n image ≡ structOut types members i image
   unfolding valueOut structsBy
   value-one i e = rw e refl
 
+  -- a structure with any other count gives its elements in brackets
   pub value-some : (i : ℕ) → (n ≡ 0 → ⊥)
       → valueOut types members (ty.Struct i) n image
       ≡ elementsBy types members (structOut types members) i n image
@@ -140,6 +152,7 @@ no-texts e =
 
 -- ---- the stream of a value is that of the walk's entries
 
+-- the stream of a value is the stream of the entries that the walk gives
 pub stream-is : (types members : List ℕ) → Walkable types members → (t : Ty) (n : ℕ) (image : List ℕ)
     → ValueImage types t n image → Bytes image
     → valueStream types members t n image ≡ streamBytes (valueOut types members t n image)
@@ -151,13 +164,14 @@ stream-is types members w t n image v b =
 
 module _ (types members : List ℕ) (t : Ty) (n : ℕ) (image out : List ℕ) (room : ℕ)
     (same : valueStream types members t n image ≡ streamBytes (valueOut types members t n image))
-    (space : room + 4 ≡ min (length out) 2147483648) where
+    (space : room + 4 ≡ min (length out) mostBytes) where
   abbrev ts : List Token
   ts = valueOut types members t n image
 
   long : length (valueStream types members t n image) ≡ 4 + 12 * length ts + length (bodies ts)
   long = ap length same ∙ stream-long ts
 
+  -- entries and texts that pass the room: the stream has no room in the buffer
   pub over-room : room < 12 * length ts + length (bodies ts)
       → hasRoom (valueStream types members t n image) (length out) ≡ false
   over-room l =
@@ -179,8 +193,8 @@ module _ (types members : List ℕ) (t : Ty) (n : ℕ) (image out : List ℕ) (r
       ∙ ap (λ (k : ℕ). laidIn (sets out 0 (bytesOf 4 k)) (4 + 12 * k) 4 0 ts) e
       ∙ stream-laid out ts ∙ ap (sets out 0) (sym same))
 
--- an empty buffer has no room for any stream
-pub no-start : (types members : List ℕ) (t : Ty) (n : ℕ) (image out : List ℕ) → min (length out) 2147483648 < 4
+-- a buffer of fewer than four bytes has no room for any stream
+pub no-start : (types members : List ℕ) (t : Ty) (n : ℕ) (image out : List ℕ) → min (length out) mostBytes < 4
     → hasRoom (valueStream types members t n image) (length out) ≡ false
 unfolding streamOf
 no-start types members t n image out l =

@@ -12,6 +12,7 @@ use Rattle.types.specs.inside.tables.Lent.{TyFits}
 use Rattle.types.specs.layout.Laid.{Earlier, firstBit}
 use Rattle.types.specs.layout.Placing.{times}
 use Rattle.types.specs.tables.Lent.{memberAt, typeAt}
+use Rattle.types.specs.tables.Limits.{mostTypes}
 use Rattle.types.specs.tables.Sizes.{bitsOf, sizeIn, sizesIn}
 use Rattle.types.specs.declared.atomics.atomic.Atomic.{Atomic}
 use Rattle.types.specs.declared.atomics.atomic.Atomic.the-variants as atomic
@@ -35,6 +36,7 @@ pub data Many (n : ℕ) : Type 0 where
   one : eqb n 0 ≡ true → times n ≡ 1 → Many n
   some : eqb n 0 ≡ false → times n ≡ n → Many n
 
+-- each count is 0, for one value, or that of an array
 pub many : (n : ℕ) → Many n
 unfolding times
 many n = go (eqb n 0) refl
@@ -45,6 +47,7 @@ many n = go (eqb n 0) refl
 
 -- ---- atomics
 
+-- the leaf of an atomic takes the bits of its bytes
 pub leaf-room : (a : Atomic) → room (leafOf a) ≡ 8 * sizeOf a
 unfolding sizeOf
 leaf-room atomic.Bool = refl
@@ -74,6 +77,7 @@ all-bits w (suc n) =
 array-bits : (n w k : ℕ) → k ≡ 8 * w → n * k ≡ 8 * (w * n)
 array-bits n w k e = ap (n *_) e ∙ mul-comm n (8 * w) ∙ mul-assoc 8 w n
 
+-- the tree of an atomic, or of so many, takes the bits of all their bytes
 pub atomics-span : (a : Atomic) (n : ℕ) → span (atomicsTree a n) ≡ 8 * (sizeOf a * times n)
 unfolding atomicsTree span
 atomics-span a n = go (bitString a) (many n)
@@ -124,11 +128,13 @@ module _ (types members : List ℕ) (trees : ℕ → Tree) (i : ℕ) (sound : Si
       go true = sound .insides s l
       go false = sound .insides s l
 
+  -- the tree of a value whose type is earlier takes the bits of all its bytes
   pub value-span : (t : Ty) (n : ℕ) → Earlier i t
       → span (valueTree trees t n) ≡ 8 * (sizeIn (sizesIn types) t * times n)
   value-span (ty.Atomic a) n l = atomics-span a n
   value-span (ty.Struct s) n l = structs-span s n l
 
+  -- in the tree of a value whose type is earlier all branches lie inside
   pub value-inside : (t : Ty) (n : ℕ) → Earlier i t → Inside (valueTree trees t n)
   value-inside (ty.Atomic a) n l = atomics-inside a n
   value-inside (ty.Struct s) n l = structs-inside s n l
@@ -205,13 +211,13 @@ struct-span types members trees i w = go (isString (typeAt types i .kind)) refl
 -- ---- all structures
 
 -- the structures that a value's type may name
-pub earlier : (t : Ty) → TyFits t → Earlier 200 t
+pub earlier : (t : Ty) → TyFits t → Earlier mostTypes t
 earlier (ty.Atomic a) l = tt
 earlier (ty.Struct s) l = l
 
 module _ (types members : List ℕ) (w : Walkable types members) where
   -- nested so deep, the first so many are sound
-  pub sound-within : (f : ℕ) → f ≤ 200 → Sized types (treeWithin (knownIn types members) f) f
+  pub sound-within : (f : ℕ) → f ≤ mostTypes → Sized types (treeWithin (knownIn types members) f) f
   unfolding treeWithin
   sound-within zero h =
       record {
@@ -227,14 +233,18 @@ module _ (types members : List ℕ) (w : Walkable types members) where
             (w .each s (omega arith));
       }
 
-  pub sound-all : Sized types (treeOf (knownIn types members)) 200
+  -- the trees of all structures have their sizes, and their branches lie inside
+  pub sound-all : Sized types (treeOf (knownIn types members)) mostTypes
   unfolding treeOf
-  sound-all = sound-within 200 (omega arith)
+  sound-all = sound-within mostTypes (omega arith)
 
-  pub tree-span : (i : ℕ) → i < 200 → span (treeOf (knownIn types members) i) ≡ 8 * sizesIn types i
+  -- the tree of a structure takes the bits of its size
+  pub tree-span : (i : ℕ) → i < mostTypes → span (treeOf (knownIn types members) i) ≡ 8 * sizesIn types i
   tree-span i l = sound-all .spans i l
 
+  -- the tree of a value takes the bits of its type's size times max(count, 1)
   pub tree-value-span : (t : Ty) (n : ℕ) → TyFits t
       → span (treeOfValue (knownIn types members) t n) ≡ 8 * (sizeIn (sizesIn types) t * times n)
   unfolding treeOfValue
-  tree-value-span t n l = value-span types members (treeOf (knownIn types members)) 200 sound-all t n (earlier t l)
+  tree-value-span t n l = value-span types members (treeOf (knownIn types members)) mostTypes sound-all t n
+      (earlier t l)

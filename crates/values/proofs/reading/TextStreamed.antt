@@ -15,8 +15,7 @@ use Rattle.types.proofs.Face.{times-one}
 use Rattle.values.specs.inside.reading.Walk.{structBy, structOut, structWithin, textOut}
 use Rattle.values.specs.inside.reading.Walkable.{ValueImage}
 use Rattle.values.specs.reading.Read.{valueStream}
-use Rattle.values.specs.reading.Texts.{Address, Stored, capacityOf, textNumber, textPart}
-use Rattle.values.specs.reading.Texts.{capacityAt, textIn}
+use Rattle.values.specs.reading.Texts.{Address, Stored, capacityOf, textNumber, textPart, capacityAt, textIn}
 use Rattle.values.specs.reading.Trees.{isString}
 use Rattle.values.specs.stream.Stream.{streamBytes, text}
 use Rattle.values.proofs.reading.KeptWalkable.{kept-walkable}

@@ -14,8 +14,7 @@ use Rattle.values.specs.inside.reading.Walk.{upTo, wrap}
 use Rattle.values.specs.reading.Leaf.{Leaf, flag, byte, int, word, str, width, signed, isTrue, chars, clipped}
 use Rattle.values.specs.reading.Leaf.{emit}
 use Rattle.values.specs.reading.Tree.{Tree, leaf, bits, array, struct, Branches, none, branch, room, allBits}
-use Rattle.values.specs.reading.Tree.{span}
-use Rattle.values.specs.reading.Tree.{Item, say, at, each, between, oneFlag, items, branchItems, read}
+use Rattle.values.specs.reading.Tree.{span, Item, say, at, each, between, oneFlag, items, branchItems, read}
 use Rattle.values.specs.stream.Stream.{Token, bool, number, text, member, mark}
 use Rattle.values.proofs.normal_image.CharLaws.{chars-ext}
 use Rattle.values.proofs.reading.NumberLaws.{flat-part}
@@ -23,12 +22,14 @@ use Rattle.values.proofs.reading.UpLaws.{up-cons}
 
 -- ---- reading some items
 
+-- some items and others after them are read one after the other
 pub read-append : (a b : List Item) (x : Bits) → read (a ++ b) x ≡ read a x ++ read b x
 unfolding read
 read-append [] b x = refl
 read-append (say e ∷ a) b x = ap (e ∷_) (read-append a b x)
 read-append (at p l ∷ a) b x = ap (emit l (from p x) ∷_) (read-append a b x)
 
+-- items in brackets are read as their entries in brackets
 pub read-between : (start stop : ℕ) (is : List Item) (x : Bits)
     → read (between start stop is) x ≡ wrap start stop (read is x)
 unfolding read
@@ -111,6 +112,7 @@ emit-ext (str capacity) b c h =
     ap (λ (v : ℕ). text (chars (min v capacity) (from 32 b))) e
     ∙ ap text (chars-ext (clipped capacity c) (from 32 b) (from 32 c) (λ k l. h (32 + k) (omega arith)))
 
+-- a leaf takes at least the bits that it holds
 pub width-room : (l : Leaf) → width l ≤ room l
 width-room flag = omega arith
 width-room byte = omega arith
@@ -118,14 +120,15 @@ width-room (int n) = omega arith
 width-room (word kind n) = omega arith
 width-room (str capacity) = omega arith
 
--- each branch of a structure lies in its size, and so on inside it
 unfoldable mutual
+  -- the branches of each structure in a tree lie inside it
   pub Inside : Tree → Type 0
   Inside (leaf l) = Unit {0}
   Inside (bits w n) = Unit {0}
   Inside (array n t) = Inside t
   Inside (struct size bs) = AllInside size bs
 
+  -- each branch of a list ends within a size, and so on inside it
   pub AllInside : ℕ → Branches → Type 0
   AllInside size none = Unit {0}
   AllInside size (branch j o t bs) = Inside t × ((o + span t ≤ size) × AllInside size bs)
@@ -191,6 +194,7 @@ chars-part (suc n) s a b h =
 
 -- ---- runs
 
+-- a run of items is read as a run of entries, each of its elements where it stands
 pub each-up : (n : ℕ) (f : ℕ → List Item) (w p : ℕ) (x : Bits)
     → read (each n f w p) x ≡ upTo (λ k. read (f (p + w * k)) x) n
 unfolding each

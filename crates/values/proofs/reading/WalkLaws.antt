@@ -10,12 +10,13 @@ use Rattle.words.specs.Bits.{flat}
 use Rattle.words.specs.Words.{part}
 use Rattle.types.specs.layout.Laid.{Earlier}
 use Rattle.types.specs.tables.Lent.{memberAt, typeAt}
+use Rattle.types.specs.tables.Limits.{mostTypes}
 use Rattle.types.specs.tables.Sizes.{sizesIn}
 use Rattle.types.specs.declared.tables.member.Member.{Member}
 use Rattle.types.specs.declared.tables.member.Ty.{Ty}
 use Rattle.types.specs.declared.tables.member.Ty.the-variants as ty
-use Rattle.values.specs.inside.reading.Walk.{wrap, textOut, bitOut, elementBy, elementsBy, structsBy}
-use Rattle.values.specs.inside.reading.Walk.{valueBy, bytesBy, memberBy, rowBy, membersBy, structBy, structWithin}
+use Rattle.values.specs.inside.reading.Walk.{wrap, textOut, bitOut, elementBy, elementsBy, structsBy, valueBy}
+use Rattle.values.specs.inside.reading.Walk.{bytesBy, memberBy, rowBy, membersBy, structBy, structWithin}
 use Rattle.values.specs.inside.reading.Walk.{structOut}
 use Rattle.values.specs.inside.reading.Walkable.{WalkableType, Walkable}
 use Rattle.values.specs.reading.Texts.{capacityAt}
@@ -65,7 +66,7 @@ module _ (types members : List ℕ) (f g : ℕ → List ℕ → List Token) (i :
 
 module _ (types members : List ℕ) (w : Walkable types members) where
   -- any depth above the structure's number is enough
-  within-same : (f g i : ℕ) (image : List ℕ) → i < 200 → i < f → i < g
+  within-same : (f g i : ℕ) (image : List ℕ) → i < mostTypes → i < f → i < g
       → structWithin types members f i image ≡ structWithin types members g i image
   unfolding structWithin
   within-same zero g i image a b c = absurd (let z : ⊥ = omega arith in z)
@@ -75,10 +76,10 @@ module _ (types members : List ℕ) (w : Walkable types members) where
       (λ s im l. within-same f g s im (omega arith) (omega arith) (omega arith)) (w .each i a) image
 
   -- a structure is what its rows say
-  pub struct-out : (i : ℕ) (image : List ℕ) → i < 200
+  pub struct-out : (i : ℕ) (image : List ℕ) → i < mostTypes
       → structOut types members i image ≡ structBy types members (structOut types members) i image
   unfolding structOut structWithin
   struct-out i image a =
       struct-same types members (structWithin types members 199) (structOut types members) i
-      (λ s im l. unfold structOut in within-same 199 200 s im (omega arith) (omega arith) (omega arith))
+      (λ s im l. unfold structOut in within-same 199 mostTypes s im (omega arith) (omega arith) (omega arith))
       (w .each i a) image

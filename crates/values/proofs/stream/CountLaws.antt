@@ -11,6 +11,7 @@ use lib.ListN.{length}
 use Rattle.words.specs.Words.{part}
 use Rattle.words.proofs.TestLaws.{clash}
 use Rattle.types.specs.tables.Lent.{typeAt}
+use Rattle.types.specs.tables.Limits.{mostTypes}
 use Rattle.types.specs.tables.Sizes.{sizesIn}
 use Rattle.values.specs.inside.reading.Walk.{upTo, wrap, textOut, elementBy, elementsBy, structsBy, membersBy}
 use Rattle.values.specs.inside.reading.Walk.{structBy, structWithin, structOut}
@@ -18,7 +19,7 @@ use Rattle.values.specs.inside.reading.Walkable.{Walkable}
 use Rattle.values.specs.inside.stream.Counting.{Counted, TextFree}
 use Rattle.values.specs.reading.Texts.{capacityAt}
 use Rattle.values.specs.reading.Trees.{isString}
-use Rattle.values.specs.stream.Stream.{Token, member, bodies}
+use Rattle.values.specs.stream.Stream.{mostBytes, Token, member, bodies}
 use Rattle.values.proofs.reading.UpLaws.{up-length, up-least, up-first, up-bodies, wrap-length, wrap-bodies}
 use Rattle.values.proofs.reading.WalkLaws.{struct-out}
 
@@ -46,7 +47,9 @@ counted-same w q =
       still = w .still;
     }
 
-pub plain-same : {f g : List ℕ → List Token} {r : ℕ} → TextFree f r → ((image : List ℕ) → f image ≡ g image) → TextFree g r
+-- the same entries are as many, and none of them is a text
+pub plain-same : {f g : List ℕ → List Token} {r : ℕ} → TextFree f r → ((image : List ℕ) → f image ≡ g image)
+    → TextFree g r
 plain-same w q =
     record {
       exact = λ image. ap length (sym (q image)) ∙ w .exact image;
@@ -56,7 +59,7 @@ plain-same w q =
 -- ---- structures
 
 -- the product of count and entries fits
-pub product-fits : {n e most : ℕ} → most ≤ 2147483648 → e ≤ most → n ≤ most → n * e ≤ 2 ^ 62
+pub product-fits : {n e most : ℕ} → most ≤ mostBytes → e ≤ most → n ≤ most → n * e ≤ 2 ^ 62
 product-fits {n} {e} h k l =
     omega (arith, mul-le-mul {n₁ = n} {m₁ = e} {n₂ = 2147483648} {m₂ = 2147483648} (omega arith) (omega arith))
 
@@ -161,7 +164,7 @@ module _ (types members : List ℕ) (s n : ℕ) where
             still = w .still;
           }
 
-module _ {types members : List ℕ} {i most from : ℕ} (w : Walkable types members) (l : i < 200) where
+module _ {types members : List ℕ} {i most from : ℕ} (w : Walkable types members) (l : i < mostTypes) where
   -- a string
   pub text-counted : {b : Bool} → isString (typeAt types i .kind) ≡ true
       → Counted most from (structOut types members i) b true (from + 1)

@@ -44,6 +44,7 @@ emit-body atomic.Word b = refl
 emit-body atomic.DWord b = refl
 emit-body atomic.LWord b = refl
 
+-- an atomic has 1 to 8 bytes
 pub size-range : (a : Atomic) → (1 ≤ sizeOf a) × (sizeOf a ≤ 8)
 unfolding sizeOf
 size-range atomic.Bool = (lit≤ tt, lit≤ tt)
@@ -93,14 +94,17 @@ numbers-plain a n =
     }
 
 module _ (a : Atomic) (n : ℕ) where
+  -- bit strings: an entry for each bit and two brackets, none of them a text
   pub atomics-bits : bitString a ≡ true → TextFree (atomicsOut a n) (2 + 8 * (sizeOf a * times n))
   atomics-bits e = plain-same (bits-plain (8 * (sizeOf a * times n))) (λ image. unfold atomicsOut in rw e)
 
+  -- one atomic that is no bit string: one entry, and no text
   pub atomics-one : bitString a ≡ false → n ≡ 0 → TextFree (atomicsOut a n) 1
   atomics-one e z =
       plain-same {f = numberOut a} (record { exact = λ image. refl; plain = number-bodies a })
       (λ image. unfold atomicsOut in rw (e, eq-eqb n 0 z))
 
+  -- an array of n atomics that are no bit strings: n entries and two brackets, none of them a text
   pub atomics-many : bitString a ≡ false → (n ≡ 0 → ⊥) → TextFree (atomicsOut a n) (2 + n)
   atomics-many e z = plain-same (numbers-plain a n) (λ image. unfold atomicsOut in rw (e, ne-eqb n 0 z))
 
@@ -169,15 +173,18 @@ module _ (a : Atomic) (n : ℕ) where
 -- ---- members that are no structures
 
 module _ (m : Member) (j : ℕ) where
+  -- a hidden member has no entries
   pub leaf-hidden : m .hidden ≡ true → TextFree (leafOut j m) 0
   unfolding leafOut bodies
   leaf-hidden e = record { exact = λ image. rw e; plain = λ image. rw e }
 
   module _ (shown : m .hidden ≡ false) where
+    -- a BOOL of a structure has two entries: its number and its bit
     pub leaf-bit : {k : ℕ} → m .bit ≡ At k → TextFree (leafOut j m) 2
     unfolding leafOut bodies
     leaf-bit b = record { exact = λ image. rw (shown, b); plain = λ image. rw (shown, b) }
 
+    -- a visible member of atomics has one entry more than they have: its number
     pub leaf-atomic : {a : Atomic} {n r : ℕ} → m .bit ≡ None → m .ty ≡ ty.Atomic a → n ≡ m .count
         → TextFree (atomicsOut a n) r → TextFree (leafOut j m) (1 + r)
     unfolding leafOut bodies
@@ -188,6 +195,7 @@ module _ (m : Member) (j : ℕ) where
           plain = λ image. rw (shown, b, t, ← q) (w .plain (part image (m .offset) (sizeOf a * times n)));
         }
 
+    -- a visible structure has one entry here: its number
     pub leaf-struct : {s : ℕ} → m .bit ≡ None → m .ty ≡ ty.Struct s → TextFree (leafOut j m) 1
     unfolding leafOut bodies
     leaf-struct b t = record { exact = λ image. rw (shown, b, t); plain = λ image. rw (shown, b, t) }

@@ -2,7 +2,7 @@
 -- again, only its bytes say an entry, and what is said of bytes tells the entry.
 use Prim.Native.Nat.{ℕ, zero, suc, _+_, _-_, _*_, _/_, _%_, _^_, _≤_, _<_}
 use native.Mathlib.Nat.{add-zero, zero-add, mod-eq-of-lt}
-use native.Mathlib.Decide.{ℕ-discrete}
+use native.Mathlib.Decide.{decLt, ℕ-discrete}
 use native.Mathlib.Omega.{arith}
 use mathlib.Core.Path.{_≡_, refl, sym, ap, ap₂, _∙_, subst}
 use mathlib.Core.Bool.{Bool, true, false, cond, _&&_}
@@ -14,15 +14,14 @@ use lib.Seq.{sets, length-sets}
 use Rattle.words.specs.Words.{bytesOf, part, wordAt, Bytes}
 use Rattle.words.proofs.Lists.{sets-append, getD-sets, part-cons}
 use Rattle.words.proofs.WordLaws.{length-bytes, word-back, bytes-back}
-use borrow.Author.Tests.{eq-eqb, ne-eqb, eqb-true, lt-ltb, le-ltb, le-leb, lt-leb, leb-true, leb-false}
-use Rattle.words.proofs.TestLaws.{and-left, and-right}
+use borrow.Author.Tests.{eq-eqb, ne-eqb, eqb-true, lt-ltb, le-ltb, ltb-true, le-leb, lt-leb, leb-true}
+use borrow.Author.Tests.{leb-false}
+use Rattle.words.proofs.TestLaws.{and-left, and-right, clash}
 use Rattle.types.specs.refusals.Said.{Said, done}
-use Rattle.values.specs.stream.Entry.{EntryFits, EntryStored, LoadedFits, bareIn, bytesOfEntry, entryAt, entryIn}
-use Rattle.values.specs.stream.Entry.{entryKind, entryOr17, entryPayload, entrySet, isEntry, kindAt, loadedOf}
-use Rattle.values.specs.stream.Entry.{lowIn}
-use Rattle.values.specs.stream.Entry.{payloadAt, payloadRight, payloadsIn, payloadsRight, saidBy, textEntry}
-use Rattle.values.specs.stream.Entry.{threeZeros}
-use Rattle.values.specs.stream.Entry.{truthIn}
+use Rattle.values.specs.inside.stream.Entry.{bareIn, entryIn, loadedOf, lowIn, payloadsIn, textEntry, truthIn}
+use Rattle.values.specs.stream.Entry.{EntryFits, EntryStored, LoadedFits, bytesOfEntry, entryAt, entryKind}
+use Rattle.values.specs.stream.Entry.{entryOr17, entryPayload, entrySet, isEntry, kindAt, payloadAt, payloadRight}
+use Rattle.values.specs.stream.Entry.{payloadsRight, saidBy, threeZeros}
 use Rattle.values.specs.stream.Stream.{entryBytes}
 use Rattle.values.specs.declared.stream.entry.Entry.{Entry}
 use Rattle.values.specs.declared.stream.entry.Entry.the-variants as entry
@@ -39,6 +38,7 @@ entry-words kind payload h =
     let b : kind / 256 ≡ 0 = omega arith in
     rw (a, b)
 
+-- an entry has twelve bytes
 pub length-entry : (kind payload : ℕ) → length (entryBytes kind payload) ≡ 12
 unfolding entryBytes
 length-entry kind payload = let e = length-bytes 8 payload in omega arith
@@ -49,6 +49,118 @@ pub entry-stored : (out : List ℕ) (at kind payload : ℕ) → kind < 256
 entry-stored out at kind payload h =
     sym (ap (sets out at) (entry-words kind payload h)
     ∙ sets-append out at (bytesOf 4 kind) (bytesOf 8 payload) ∙ rw (length-bytes 4 kind))
+
+-- ---- what was stored is an entry
+
+-- what stands in an entry's bytes
+module _ (s : List ℕ) (at kind x : ℕ) (h : at + 12 ≤ length s) where
+  byte-back : (j : ℕ) → j < 12 → getD (sets s at (entryBytes kind x)) (at + j) 0 ≡ getD (entryBytes kind x) j 0
+  byte-back j l =
+      getD-sets s at (entryBytes kind x) j 0 (omega (arith, length-entry kind x)) (omega (arith, length-entry kind x))
+
+  payload-back : kind < 256 → x < 2 ^ 64 → wordAt 8 (sets s at (entryBytes kind x)) (at + 4) ≡ x
+  payload-back k l =
+      rw (← entry-stored s at kind x k)
+      (word-back 8 (sets s at (bytesOf 4 kind)) (at + 4) x (omega (arith, length-sets s at (bytesOf 4 kind)))
+      ∙ mod-eq-of-lt l)
+
+-- a kind whose payload is right is one of the twelve
+pub kind-right : (kind x : ℕ) → payloadRight kind x ≡ true → kind < 12
+unfolding payloadRight
+kind-right kind x h = go (decLt kind 12)
+  where
+    go : Dec (kind < 12) → kind < 12
+    go (yes l) = l
+    go (no l) = clash h (List·getD-eq-default (payloadsRight x) false {n = kind} (omega arith))
+
+-- the right payload of a bool is 0 or 1
+pub bool-right : (kind x : ℕ) → kind ≡ 1 → payloadRight kind x ≡ true → x < 2
+unfolding payloadRight
+bool-right kind x e h = ltb-true x 2 (rw e at h)
+
+-- twelve bytes that are an entry of a kind and a payload
+pub record Read (s : List ℕ) (at kind x : ℕ) : Type 0 where
+  pub there : isEntry s at ≡ true
+  pub kind-is : kindAt s at ≡ kind
+  pub payload-is : payloadAt s at ≡ x
+
+-- what was stored is an entry of its kind and its payload
+pub entry-back : (s : List ℕ) (at kind x : ℕ) → payloadRight kind x ≡ true → x < 2 ^ 64 → at + 12 ≤ length s
+    → Read (sets s at (entryBytes kind x)) at kind x
+unfolding entryBytes isEntry threeZeros
+entry-back s at kind x r l h =
+    let t : List ℕ = sets s at (entryBytes kind x) in
+    let b : (j : ℕ) → j < 12 → getD t (at + j) 0 ≡ getD (entryBytes kind x) j 0 = byte-back s at kind x h in
+    let k : getD t at 0 ≡ kind = simp add-zero at (b 0 (omega arith)) in
+    let known = kind-right kind x r in
+    let p : wordAt 8 t (at + 4) ≡ x = payload-back s at kind x h (omega arith) l in
+    let long : length t ≡ length s = length-sets s at (entryBytes kind x) in
+    record {
+      there =
+          rw (
+            le-leb (at + 12) (length t) (omega arith),
+            eq-eqb (getD t (at + 1) 0) 0 (b 1 (omega arith)),
+            eq-eqb (getD t (at + 2) 0) 0 (b 2 (omega arith)),
+            eq-eqb (getD t (at + 3) 0) 0 (b 3 (omega arith)),
+            k,
+            p,
+          ) r;
+      kind-is = k;
+      payload-is = p;
+    }
+
+-- ---- the bytes of an entry are those of its kind and its payload
+
+-- the twelve bytes, one after the other
+twelve : (s : List ℕ) (at : ℕ) → Bytes s → at + 12 ≤ length s
+    → part s at 12
+    ≡ getD s at 0 ∷ getD s (at + 1) 0 ∷ getD s (at + 2) 0 ∷ getD s (at + 3) 0 ∷ bytesOf 8 (wordAt 8 s (at + 4))
+twelve s at b h =
+    let a : at + 0 ≡ at = add-zero at in
+    let p : part s at 12 ≡ getD s at 0 ∷ part s (at + 1) 11 = rw a at (part-cons s at 12 0 0 (omega arith) h) in
+    p
+    ∙ rw (
+      part-cons s at 12 1 0 (omega arith) h,
+      part-cons s at 12 2 0 (omega arith) h,
+      part-cons s at 12 3 0 (omega arith) h,
+      bytes-back 8 s (at + 4) b (omega arith),
+    )
+
+-- an entry's bytes are there, with three zeros after the kind, and its payload is right
+pub record Held (s : List ℕ) (at : ℕ) : Type 0 where
+  pub inside : at + 12 ≤ length s
+  pub first : getD s (at + 1) 0 ≡ 0
+  pub second : getD s (at + 2) 0 ≡ 0
+  pub third : getD s (at + 3) 0 ≡ 0
+  pub right : payloadRight (kindAt s at) (payloadAt s at) ≡ true
+
+-- what the test of an entry says
+pub entry-held : (s : List ℕ) (at : ℕ) → isEntry s at ≡ true → Held s at
+unfolding isEntry threeZeros
+entry-held s at e =
+    let long : Bool = leb (at + 12) (length s) in
+    let one : Bool = eqb (getD s (at + 1) 0) 0 in
+    let two : Bool = eqb (getD s (at + 2) 0) 0 in
+    let three : Bool = eqb (getD s (at + 3) 0) 0 in
+    let right : Bool = payloadRight (kindAt s at) (payloadAt s at) in
+    let front : (long && (one && two && three)) ≡ true = and-left (long && (one && two && three)) right e in
+    let zeros : (one && two && three) ≡ true = and-right long (one && two && three) front in
+    let both : (one && two) ≡ true = and-left (one && two) three zeros in
+    record {
+      inside = leb-true (at + 12) (length s) (and-left long (one && two && three) front);
+      first = eqb-true _ 0 (and-left one two both);
+      second = eqb-true _ 0 (and-right one two both);
+      third = eqb-true _ 0 (and-right (one && two) three zeros);
+      right = and-right (long && (one && two && three)) right e;
+    }
+
+-- bytes that are an entry are those of its kind and its payload
+pub entry-only : (s : List ℕ) (at : ℕ) → Bytes s → isEntry s at ≡ true
+    → part s at 12 ≡ entryBytes (kindAt s at) (payloadAt s at)
+unfolding entryBytes
+entry-only s at b e =
+    let h = entry-held s at e in
+    twelve s at b (h .inside) ∙ rw (h .first, h .second, h .third) refl
 
 -- ---- an entry by value
 
@@ -65,6 +177,7 @@ past : (i n : ℕ) → NoneBelow i n → n ≤ i
 past i zero h = omega arith
 past i (suc n) h = lt-of-le-ne (past i n (h .0)) (λ e. h .1 (sym e))
 
+-- a kind that is none of the twelve is malformed
 pub kind-above : (kind x : ℕ) → NoneBelow kind 12 → Malformed ≡ loadedOf kind x
 unfolding loadedOf
 kind-above kind x h = sym (List·getD-eq-default (payloadsIn x) Malformed (past kind 12 h))
@@ -74,21 +187,6 @@ pub zeros-read : (s : List ℕ) (at : ℕ) → getD s (at + 1) 0 ≡ 0 → getD 
     → entryIn s at ≡ loadedOf (getD s at 0) (wordAt 8 s (at + 4))
 unfolding entryIn threeZeros
 zeros-read s at a b c = simp (eq-eqb _ 0 a, eq-eqb _ 0 b, eq-eqb _ 0 c)
-
-payload-below : (e : Entry) → EntryFits e → entryPayload e < 2 ^ 64
-payload-below entry.Null h = omega arith
-payload-below (entry.Bool true) h = omega arith
-payload-below (entry.Bool false) h = omega arith
-payload-below (entry.Signed x) h = h
-payload-below (entry.Unsigned x) h = h
-payload-below (entry.Real x) h = omega arith
-payload-below (entry.LReal x) h = h
-payload-below (entry.Text place long) h = omega arith
-payload-below (entry.Member j) h = omega arith
-payload-below entry.Open h = omega arith
-payload-below entry.Close h = omega arith
-payload-below entry.ArrayOpen h = omega arith
-payload-below entry.ArrayClose h = omega arith
 
 text-back : (place long : ℕ) → place < 2 ^ 32 → textEntry (place + 2 ^ 32 * long) ≡ Is (entry.Text place long)
 text-back place long h =
@@ -104,6 +202,7 @@ low-back f x h = rw (lt-ltb x (2 ^ 32) h)
 pub low-is : (f : ℕ → Entry) {x y : ℕ} → x < 2 ^ 32 → y ≡ x % 2 ^ 32 → Is (f y) ≡ lowIn f x
 low-is f {x} {y} h e = ap (λ (z : ℕ). Is (f z)) (e ∙ mod-eq-of-lt h) ∙ sym (low-back f x h)
 
+-- a payload with more than 32 bits, where 32 are asked, is malformed
 pub low-none : (f : ℕ → Entry) {x : ℕ} → 2 ^ 32 ≤ x → Malformed ≡ lowIn f x
 unfolding lowIn
 low-none f {x} h = rw (le-ltb x (2 ^ 32) h)
@@ -125,47 +224,7 @@ loaded-back entry.Close h = refl
 loaded-back entry.ArrayOpen h = refl
 loaded-back entry.ArrayClose h = refl
 
-kind-small : (e : Entry) → entryKind e < 256
-kind-small entry.Null = omega arith
-kind-small (entry.Bool b) = omega arith
-kind-small (entry.Signed x) = omega arith
-kind-small (entry.Unsigned x) = omega arith
-kind-small (entry.Real x) = omega arith
-kind-small (entry.LReal x) = omega arith
-kind-small (entry.Text place long) = omega arith
-kind-small (entry.Member j) = omega arith
-kind-small entry.Open = omega arith
-kind-small entry.Close = omega arith
-kind-small entry.ArrayOpen = omega arith
-kind-small entry.ArrayClose = omega arith
-
--- what stands in an entry's bytes
-module _ (s : List ℕ) (at kind x : ℕ) (h : at + 12 ≤ length s) where
-  byte-back : (j : ℕ) → j < 12 → getD (sets s at (entryBytes kind x)) (at + j) 0 ≡ getD (entryBytes kind x) j 0
-  byte-back j l =
-      getD-sets s at (entryBytes kind x) j 0 (omega (arith, length-entry kind x)) (omega (arith, length-entry kind x))
-
-  payload-back : kind < 256 → x < 2 ^ 64 → wordAt 8 (sets s at (entryBytes kind x)) (at + 4) ≡ x
-  payload-back k l =
-      rw (← entry-stored s at kind x k)
-      (word-back 8 (sets s at (bytesOf 4 kind)) (at + 4) x (omega (arith, length-sets s at (bytesOf 4 kind)))
-      ∙ mod-eq-of-lt l)
-
--- what was stored is loaded again
-pub entry-back : (s : List ℕ) (at : ℕ) (e : Entry) → EntryFits e → at + 12 ≤ length s
-    → entryIn (sets s at (bytesOfEntry e)) at ≡ Is e
-unfolding entryBytes
-entry-back s at e f h =
-    let k = entryKind e in
-    let x = entryPayload e in
-    let t : List ℕ = sets s at (entryBytes k x) in
-    let b : (j : ℕ) → j < 12 → getD t (at + j) 0 ≡ getD (entryBytes k x) j 0 = byte-back s at k x h in
-    let z : getD t at 0 ≡ k = simp add-zero at (b 0 (omega arith)) in
-    let p : wordAt 8 t (at + 4) ≡ x = payload-back s at k x h (kind-small e) (payload-below e f) in
-    zeros-read t at (b 1 (omega arith)) (b 2 (omega arith)) (b 3 (omega arith))
-    ∙ rw (z, p) (loaded-back e f)
-
--- ---- bytes that say an entry are its bytes
+-- ---- what is loaded is what the bytes say
 
 bare-said : (e : Entry) (x : ℕ) → entryPayload e ≡ 0 → saidBy (bareIn e x) ≡ entryOr17 (eqb x 0) (entryKind e) x
 unfolding bareIn
@@ -267,68 +326,9 @@ loaded-same (Is e) Malformed g h q = cc
 loaded-same Malformed (Is f) g h q = cc
 loaded-same Malformed Malformed g h q = refl
 
--- the twelve bytes, one after the other
-twelve : (s : List ℕ) (at : ℕ) → Bytes s → at + 12 ≤ length s
-    → part s at 12
-    ≡ getD s at 0 ∷ getD s (at + 1) 0 ∷ getD s (at + 2) 0 ∷ getD s (at + 3) 0 ∷ bytesOf 8 (wordAt 8 s (at + 4))
-twelve s at b h =
-    let a : at + 0 ≡ at = add-zero at in
-    let p : part s at 12 ≡ getD s at 0 ∷ part s (at + 1) 11 = rw a at (part-cons s at 12 0 0 (omega arith) h) in
-    p
-    ∙ rw (
-      part-cons s at 12 1 0 (omega arith) h,
-      part-cons s at 12 2 0 (omega arith) h,
-      part-cons s at 12 3 0 (omega arith) h,
-      bytes-back 8 s (at + 4) b (omega arith),
-    )
-
--- a kind and a payload that say an entry are its kind and its payload
-loaded-is : (kind x : ℕ) (e : Entry) → loadedOf kind x ≡ Is e → (entryKind e ≡ kind) × (entryPayload e ≡ x)
-loaded-is kind x e h = go (payloadRight kind x) (sym (ap saidBy h) ∙ loaded-said kind x)
-  where
-    go : (b : Bool) → saidBy (Is e) ≡ entryOr17 b kind x → (entryKind e ≡ kind) × (entryPayload e ≡ x)
-    go true q = both-said q
-    go false q = absurd (let z : _≡_ {A = ℕ} 0 1 = cc in let y : ⊥ = omega arith in y)
-
-passed : (b : Bool) (r : Loaded) (e : Entry) → cond b r Malformed ≡ Is e → b ≡ true
-passed true r e h = refl
-passed false r e h = absurd (let z : _≡_ {A = ℕ} 0 1 = cc in let y : ⊥ = omega arith in y)
-
--- what the twelve bytes of an entry are
-pub record Read (s : List ℕ) (at : ℕ) (e : Entry) : Type 0 where
-  pub first : getD s (at + 1) 0 ≡ 0
-  pub second : getD s (at + 2) 0 ≡ 0
-  pub third : getD s (at + 3) 0 ≡ 0
-  pub loaded : loadedOf (getD s at 0) (wordAt 8 s (at + 4)) ≡ Is e
-  pub kind : entryKind e ≡ getD s at 0
-  pub payload : entryPayload e ≡ wordAt 8 s (at + 4)
-
-pub entry-read : (s : List ℕ) (at : ℕ) (e : Entry) → entryIn s at ≡ Is e → Read s at e
-unfolding entryIn threeZeros
-entry-read s at e r =
-    let x : ℕ = wordAt 8 s (at + 4) in
-    let one : Bool = eqb (getD s (at + 1) 0) 0 in
-    let two : Bool = eqb (getD s (at + 2) 0) 0 in
-    let three : Bool = eqb (getD s (at + 3) 0) 0 in
-    let t : (one && two && three) ≡ true = passed (one && two && three) (loadedOf (getD s at 0) x) e r in
-    let u : (one && two) ≡ true = and-left (one && two) three t in
-    let p : getD s (at + 1) 0 ≡ 0 = eqb-true _ 0 (and-left one two u) in
-    let q : getD s (at + 2) 0 ≡ 0 = eqb-true _ 0 (and-right one two u) in
-    let z : getD s (at + 3) 0 ≡ 0 = eqb-true _ 0 (and-right (one && two) three t) in
-    let is : loadedOf (getD s at 0) x ≡ Is e = sym (zeros-read s at p q z) ∙ r in
-    let l = loaded-is (getD s at 0) x e is in
-    record { first = p; second = q; third = z; loaded = is; kind = l .0; payload = l .1 }
-
--- bytes that say an entry are that entry's bytes
-pub entry-only : (s : List ℕ) (at : ℕ) (e : Entry) → Bytes s → at + 12 ≤ length s → entryIn s at ≡ Is e
-    → part s at 12 ≡ bytesOfEntry e
-unfolding entryBytes
-entry-only s at e b h r =
-    let l = entry-read s at e r in
-    twelve s at b h ∙ rw (l .first, l .second, l .third, l .kind, l .payload)
-
 -- ---- at any place
 
+-- in 12 bytes or more a place has room for an entry where it is at most the length less 12
 pub inside-test : (at long : ℕ) → 12 ≤ long → leb at (long - 12) ≡ leb (at + 12) long
 inside-test at long l = go (leb at (long - 12)) refl
   where
@@ -337,11 +337,13 @@ inside-test at long l = go (leb at (long - 12)) refl
     go false e = sym (lt-leb (at + 12) long (let a = leb-false at (long - 12) e in omega arith))
 
 module _ (out : List ℕ) (at : ℕ) (e : Entry) where
+  -- an entry that has room is stored, and the answer is true
   pub stored-there : {new : List ℕ} → leb (at + 12) (length out) ≡ true → new ≡ sets out at (bytesOfEntry e)
       → EntryStored out at e true new
   unfolding entrySet
   stored-there t n = record { answer = sym t; leaves = n ∙ rw t refl }
 
+  -- an entry that has no room: the answer is false, and nothing is stored
   pub stored-nowhere : leb (at + 12) (length out) ≡ false → EntryStored out at e false out
   unfolding entrySet
   stored-nowhere t = record { answer = sym t; leaves = rw t refl }

@@ -1,36 +1,35 @@
--- The form of a value stream (document 01, "Value stream"): the steps of its check, and the loop over the entries.
+-- The form of a value stream (document 01, "Value stream"): the steps of its check, the loop over the entries, and
+-- what a stream that is well formed has passed.
 use Prim.Native.Nat.{ℕ, zero, suc, _+_, _-_, _*_, _/_, _%_, _^_, _<_, _≤_}
 use native.Mathlib.Nat.{add-zero, zero-add, sub-zero}
 use native.Mathlib.Decide.{decLt, ℕ-discrete}
 use native.Mathlib.Omega.{arith}
 use mathlib.Core.Path.{_≡_, refl, sym, ap, ap₂, _∙_, subst}
-use mathlib.Core.Bool.{Bool, true, false, cond}
+use mathlib.Core.Bool.{Bool, true, false, cond, _&&_}
 use mathlib.Core.List.{List}
 use lib.Dec.{eqb, leb, ltb}
 use lib.ListN.{length, getD, List·getD-eq-default}
-use borrow.Author.Tests.{eq-eqb, ne-eqb, le-leb, lt-leb, lt-ltb, le-ltb}
+use borrow.Author.Tests.{eq-eqb, ne-eqb, eqb-true, le-leb, lt-leb, lt-ltb, le-ltb}
 use Rattle.words.specs.Words.{wordAt}
+use Rattle.words.proofs.TestLaws.{clash}
 use Rattle.words.proofs.WordLaws.{word-split}
-use Rattle.values.specs.inside.stream.Steps.{Moved, mostOf, nowhere}
-use Rattle.values.specs.stream.Entry.{bareIn, truthIn, lowIn, payloadsIn, loadedOf, threeZeros, entryIn}
-use Rattle.values.specs.stream.Form.{Step, At, Broken, textStep, entryStep, loadedStep, onStep, formed}
-use Rattle.values.specs.stream.Form.{countIn, baseIn, streamOk}
+use Rattle.values.specs.inside.stream.Steps.{Moved, mostOf, nowhere, stepOf}
+use Rattle.values.specs.stream.Entry.{isEntry, kindAt, payloadAt, payloadRight, payloadsRight, threeZeros}
+use Rattle.values.specs.stream.Form.{Step, At, Broken, textStep, entryStep, stepAt, onStep, formed, countIn}
+use Rattle.values.specs.stream.Form.{baseIn, streamOk}
 use Rattle.values.specs.stream.Stream.{mostBytes}
-use Rattle.values.specs.declared.stream.entry.Entry.{Entry}
-use Rattle.values.specs.declared.stream.entry.Entry.the-variants as entry
-use Rattle.values.specs.declared.stream.entry.Loaded.{Loaded}
-use Rattle.values.specs.declared.stream.entry.Loaded.the-variants.{Is, Malformed}
-use Rattle.values.proofs.stream.EntryLaws.{zeros-read}
 
 -- ---- one entry
 
-pub at-same : (x y : ℕ) → At x ≡ At y → x ≡ y
+-- steps that are the same go to the same place
+at-same : (x y : ℕ) → At x ≡ At y → x ≡ y
 at-same x y e = cc
 
 -- the answers of a step
 pub moved-to : {place r : ℕ} {step : Step} → step ≡ At r → r < nowhere → r ≤ place + 2 ^ 32 → Moved place step r
 moved-to e l h = record { goes = λ q. e; near = λ q. h; broken = λ q. absurd (let z : ⊥ = omega arith in z) }
 
+-- a broken step is told by the place that is nowhere
 pub moved-none : {place : ℕ} {step : Step} → step ≡ Broken → Moved place step nowhere
 moved-none e =
     record {
@@ -41,39 +40,19 @@ moved-none e =
 
 -- ---- one kind's payloads: the greatest one
 
--- the step of an entry that is no text, by a test of its payload
-abbrev Tested : ℕ → ℕ → ℕ → Loaded → Type 0
-Tested most x place l = loadedStep l place ≡ cond (leb x most) (At place) Broken
-
-bare-tested : (e : Entry) (x place : ℕ) → entryStep e place ≡ At place → Tested 0 x place (bareIn e x)
-unfolding bareIn
-bare-tested e x place a = go (ℕ-discrete x 0)
+none-most : (x : ℕ) → eqb x 0 ≡ leb x 0
+none-most x = go (ℕ-discrete x 0)
   where
-    go : Dec (x ≡ 0) → Tested 0 x place (cond (eqb x 0) (Is e) Malformed)
-    go (yes h) = rw (eq-eqb x 0 h, le-leb x 0 (omega arith)) a
-    go (no h) = rw (ne-eqb x 0 h, lt-leb x 0 (omega arith)) refl
+    go : Dec (x ≡ 0) → eqb x 0 ≡ leb x 0
+    go (yes h) = eq-eqb x 0 h ∙ sym (le-leb x 0 (omega arith))
+    go (no h) = ne-eqb x 0 h ∙ sym (lt-leb x 0 (omega arith))
 
-truth-tested : (x place : ℕ) → Tested 1 x place (truthIn x)
-unfolding truthIn
-truth-tested x place = go (ℕ-discrete x 0) (ℕ-discrete x 1)
+below-most : (x most : ℕ) → ltb x (suc most) ≡ leb x most
+below-most x most = go (decLt x (suc most))
   where
-    go : Dec (x ≡ 0) → Dec (x ≡ 1)
-        → Tested 1 x place (cond (eqb x 0) (Is (entry.Bool false)) (cond (eqb x 1) (Is (entry.Bool true)) Malformed))
-    go (yes h) d = rw (eq-eqb x 0 h, le-leb x 1 (omega arith)) refl
-    go (no h) (yes g) = rw (ne-eqb x 0 h, eq-eqb x 1 g, le-leb x 1 (omega arith)) refl
-    go (no h) (no g) = rw (ne-eqb x 0 h, ne-eqb x 1 g, lt-leb x 1 (omega arith)) refl
-
-low-tested : (f : ℕ → Entry) (x place : ℕ) → entryStep (f x) place ≡ At place → Tested (2 ^ 32 - 1) x place (lowIn f x)
-unfolding lowIn
-low-tested f x place a = go (decLt x (2 ^ 32))
-  where
-    go : Dec (x < 2 ^ 32) → Tested (2 ^ 32 - 1) x place (cond (ltb x (2 ^ 32)) (Is (f x)) Malformed)
-    go (yes h) = rw (lt-ltb x (2 ^ 32) h, le-leb x (2 ^ 32 - 1) (omega arith)) a
-    go (no h) = rw (le-ltb x (2 ^ 32) (omega arith), lt-leb x (2 ^ 32 - 1) (omega arith)) refl
-
-whole-tested : (e : Entry) (x place : ℕ) → x < 2 ^ 64 → entryStep e place ≡ At place
-    → Tested (2 ^ 64 - 1) x place (Is e)
-whole-tested e x place l a = rw (le-leb x (2 ^ 64 - 1) (omega arith)) a
+    go : Dec (x < suc most) → ltb x (suc most) ≡ leb x most
+    go (yes h) = lt-ltb x (suc most) h ∙ sym (le-leb x most (omega arith))
+    go (no h) = le-ltb x (suc most) (omega arith) ∙ sym (lt-leb x most (omega arith))
 
 -- each kind from one on
 infixr 30 _then_
@@ -88,23 +67,23 @@ each-at {P} {k} (a then b) (suc j) l =
     let e : k + suc j ≡ suc k + j = omega arith in
     rw e (each-at b j (omega arith))
 
--- THE LAW over the kinds: one that is no text goes by the greatest payload
-kind-tested : (x place : ℕ) → x < 2 ^ 64
-    → Each (λ kind. (kind ≡ 6 → ⊥) → Tested (mostOf kind) x place (loadedOf kind x)) 0 12
-unfolding loadedOf mostOf
-kind-tested x place l =
-    (λ n. bare-tested entry.Null x place refl)
-    then (λ n. truth-tested x place)
-    then (λ n. whole-tested (entry.Signed x) x place l refl)
-    then (λ n. whole-tested (entry.Unsigned x) x place l refl)
-    then (λ n. low-tested entry.Real x place refl)
-    then (λ n. whole-tested (entry.LReal x) x place l refl)
+-- THE LAW over the kinds: the payloads of one that is no text are right up to the greatest
+kind-most : (x : ℕ) → x < 2 ^ 64 → Each (λ kind. (kind ≡ 6 → ⊥) → payloadRight kind x ≡ leb x (mostOf kind)) 0 12
+unfolding payloadRight mostOf
+kind-most x l =
+    let whole : true ≡ leb x (2 ^ 64 - 1) = sym (le-leb x (2 ^ 64 - 1) (omega arith)) in
+    (λ n. none-most x)
+    then (λ n. below-most x 1)
+    then (λ n. whole)
+    then (λ n. whole)
+    then (λ n. below-most x (2 ^ 32 - 1))
+    then (λ n. whole)
     then (λ n. absurd (n refl))
-    then (λ n. low-tested entry.Member x place refl)
-    then (λ n. bare-tested entry.Open x place refl)
-    then (λ n. bare-tested entry.Close x place refl)
-    then (λ n. bare-tested entry.ArrayOpen x place refl)
-    then (λ n. bare-tested entry.ArrayClose x place refl)
+    then (λ n. below-most x (2 ^ 32 - 1))
+    then (λ n. none-most x)
+    then (λ n. none-most x)
+    then (λ n. none-most x)
+    then (λ n. none-most x)
     then none
 
 -- a kind above that of members
@@ -120,45 +99,57 @@ not-zero zero n = absurd (n refl)
 not-zero (suc x) n = omega arith
 
 module _ (kind x place : ℕ) where
-  tested : x < 2 ^ 64 → kind < 12 → (kind ≡ 6 → ⊥) → Tested (mostOf kind) x place (loadedOf kind x)
+  tested : x < 2 ^ 64 → kind < 12 → (kind ≡ 6 → ⊥) → stepOf kind x place ≡ cond (leb x (mostOf kind)) (At place) Broken
+  unfolding stepOf
   tested l k n =
-      subst (λ (i : ℕ). (i ≡ 6 → ⊥) → Tested (mostOf i) x place (loadedOf i x)) (zero-add kind)
-      (each-at (kind-tested x place l) kind k) n
+      rw (
+        subst (λ (i : ℕ). (i ≡ 6 → ⊥) → payloadRight i x ≡ leb x (mostOf i)) (zero-add kind)
+            (each-at (kind-most x l) kind k) n,
+        ne-eqb kind 6 n,
+      ) refl
 
+  -- no text, and a payload up to the greatest of its kind: the place stays
   pub plain-fits : x < 2 ^ 64 → kind < 12 → (kind ≡ 6 → ⊥) → x ≤ mostOf kind
-      → loadedStep (loadedOf kind x) place ≡ At place
+      → stepOf kind x place ≡ At place
   plain-fits l k n h = tested l k n ∙ rw (le-leb x (mostOf kind) h) refl
 
+  -- no text, and a payload above the greatest of its kind: malformed
   pub plain-broken : x < 2 ^ 64 → kind < 12 → (kind ≡ 6 → ⊥) → mostOf kind < x
-      → loadedStep (loadedOf kind x) place ≡ Broken
+      → stepOf kind x place ≡ Broken
   plain-broken l k n h = tested l k n ∙ rw (lt-leb x (mostOf kind) h) refl
 
   -- the kinds that are tested first
   module _ (l : x < 2 ^ 64) where
-    pub bool-fits : kind ≡ 1 → x < 2 → loadedStep (loadedOf kind x) place ≡ At place
+    -- a bool that is 0 or 1: the place stays
+    pub bool-fits : kind ≡ 1 → x < 2 → stepOf kind x place ≡ At place
     unfolding mostOf
     bool-fits e h = plain-fits l (omega arith) (λ q. let z : ⊥ = omega arith in z) (rw e (omega arith))
 
-    pub bool-broken : kind ≡ 1 → 2 ≤ x → loadedStep (loadedOf kind x) place ≡ Broken
+    -- a bool above 1: malformed
+    pub bool-broken : kind ≡ 1 → 2 ≤ x → stepOf kind x place ≡ Broken
     unfolding mostOf
     bool-broken e h = plain-broken l (omega arith) (λ q. let z : ⊥ = omega arith in z) (rw e (omega arith))
 
-    pub signed-fits : kind ≡ 2 → loadedStep (loadedOf kind x) place ≡ At place
+    -- a signed number: the place stays
+    pub signed-fits : kind ≡ 2 → stepOf kind x place ≡ At place
     unfolding mostOf
     signed-fits e = plain-fits l (omega arith) (λ q. let z : ⊥ = omega arith in z) (rw e (omega arith))
 
-    pub member-fits : kind ≡ 7 → x < 2 ^ 32 → loadedStep (loadedOf kind x) place ≡ At place
+    -- a member number of 32 bits: the place stays
+    pub member-fits : kind ≡ 7 → x < 2 ^ 32 → stepOf kind x place ≡ At place
     unfolding mostOf
     member-fits e h = plain-fits l (omega arith) (λ q. let z : ⊥ = omega arith in z) (rw e (omega arith))
 
-    member-broken : kind ≡ 7 → 2 ^ 32 ≤ x → loadedStep (loadedOf kind x) place ≡ Broken
+    member-broken : kind ≡ 7 → 2 ^ 32 ≤ x → stepOf kind x place ≡ Broken
     unfolding mostOf
     member-broken e h = plain-broken l (omega arith) (λ q. let z : ⊥ = omega arith in z) (rw e (omega arith))
 
-    pub mark-fits : 8 ≤ kind → kind < 12 → x ≡ 0 → loadedStep (loadedOf kind x) place ≡ At place
+    -- a bracket without payload: the place stays
+    pub mark-fits : 8 ≤ kind → kind < 12 → x ≡ 0 → stepOf kind x place ≡ At place
     mark-fits a b e = plain-fits l b (λ q. let z : ⊥ = omega arith in z) (omega arith)
 
-    pub mark-broken : 8 ≤ kind → kind < 12 → (x ≡ 0 → ⊥) → loadedStep (loadedOf kind x) place ≡ Broken
+    -- a bracket with a payload: malformed
+    pub mark-broken : 8 ≤ kind → kind < 12 → (x ≡ 0 → ⊥) → stepOf kind x place ≡ Broken
     unfolding mostOf
     mark-broken a b n =
         let not : (j : ℕ) → j < 8 → eqb kind j ≡ false = λ j h. ne-eqb kind j (λ q. let z : ⊥ = omega arith in z) in
@@ -174,28 +165,30 @@ module _ (kind x place : ℕ) where
         plain-broken l b (λ q. let z : ⊥ = omega arith in z) (let p = not-zero x n in omega arith)
 
     -- members and brackets use no high half
-    pub high-broken : 7 ≤ kind → kind < 12 → 2 ^ 32 ≤ x → loadedStep (loadedOf kind x) place ≡ Broken
+    pub high-broken : 7 ≤ kind → kind < 12 → 2 ^ 32 ≤ x → stepOf kind x place ≡ Broken
     high-broken a b h = go (ℕ-discrete kind 7)
       where
-        go : Dec (kind ≡ 7) → loadedStep (loadedOf kind x) place ≡ Broken
+        go : Dec (kind ≡ 7) → stepOf kind x place ≡ Broken
         go (yes e) = member-broken e h
         go (no e) = mark-broken (above a e) b (λ q. let z : ⊥ = omega arith in z)
 
   -- a text
-  text-step : kind ≡ 6 → loadedStep (loadedOf kind x) place ≡ textStep (x % 2 ^ 32) (x / 2 ^ 32) place
-  unfolding loadedOf
+  text-step : kind ≡ 6 → stepOf kind x place ≡ textStep (x % 2 ^ 32) (x / 2 ^ 32) place
+  unfolding stepOf payloadRight
   text-step e = rw e refl
 
-  pub text-here : kind ≡ 6 → x % 2 ^ 32 ≡ place → loadedStep (loadedOf kind x) place ≡ At (place + x / 2 ^ 32)
+  -- a text that begins at the place: the place goes on by its length
+  pub text-here : kind ≡ 6 → x % 2 ^ 32 ≡ place → stepOf kind x place ≡ At (place + x / 2 ^ 32)
   text-here e h = text-step e ∙ rw (eq-eqb (x % 2 ^ 32) place h) refl
 
-  pub text-elsewhere : kind ≡ 6 → (x % 2 ^ 32 ≡ place → ⊥) → loadedStep (loadedOf kind x) place ≡ Broken
+  -- a text that begins anywhere else: malformed
+  pub text-elsewhere : kind ≡ 6 → (x % 2 ^ 32 ≡ place → ⊥) → stepOf kind x place ≡ Broken
   text-elsewhere e h = text-step e ∙ rw (ne-eqb (x % 2 ^ 32) place h) refl
 
   -- no kind
-  pub kind-none : 12 ≤ kind → loadedStep (loadedOf kind x) place ≡ Broken
-  unfolding loadedOf
-  kind-none l = ap (λ r. loadedStep r place) (List·getD-eq-default (payloadsIn x) Malformed l)
+  pub kind-none : 12 ≤ kind → stepOf kind x place ≡ Broken
+  unfolding stepOf payloadRight
+  kind-none l = rw (List·getD-eq-default (payloadsRight x) false {n = kind} l) refl
 
 -- ---- the first four bytes: the kind, and a number above every kind where one of the three is not zero
 
@@ -207,54 +200,58 @@ head-is s at =
     let three : at + 2 + 1 ≡ at + 3 = omega arith in
     rw (two, three) (omega arith)
 
-module _ (s : List ℕ) (at : ℕ) where
-  no-zeros : 12 ≤ wordAt 4 s at → Malformed ≡ loadedOf (wordAt 4 s at) (wordAt 8 s (at + 4))
-  unfolding loadedOf
-  no-zeros l = sym (List·getD-eq-default (payloadsIn (wordAt 8 s (at + 4))) Malformed l)
+module _ (s : List ℕ) (at place : ℕ) (inside : at + 12 ≤ length s) where
+  no-zeros : threeZeros s at ≡ false → 12 ≤ wordAt 4 s at
+      → stepAt s at place ≡ stepOf (wordAt 4 s at) (payloadAt s at) place
+  unfolding isEntry
+  no-zeros z l = rw (le-leb (at + 12) (length s) inside, z) (sym (kind-none (wordAt 4 s at) (payloadAt s at) place l))
 
-  head-read : entryIn s at ≡ loadedOf (wordAt 4 s at) (wordAt 8 s (at + 4))
-  unfolding entryIn threeZeros
+  head-read : stepAt s at place ≡ stepOf (wordAt 4 s at) (payloadAt s at) place
+  unfolding isEntry threeZeros stepOf
   head-read =
       go (ℕ-discrete (getD s (at + 1) 0) 0) (ℕ-discrete (getD s (at + 2) 0) 0) (ℕ-discrete (getD s (at + 3) 0) 0)
     where
       go : Dec (getD s (at + 1) 0 ≡ 0) → Dec (getD s (at + 2) 0 ≡ 0) → Dec (getD s (at + 3) 0 ≡ 0)
-          → entryIn s at ≡ loadedOf (wordAt 4 s at) (wordAt 8 s (at + 4))
-      go (no a) d e = simp (ne-eqb _ 0 a) (no-zeros (omega (arith, head-is s at)))
-      go (yes a) (no b) e = simp (eq-eqb _ 0 a, ne-eqb _ 0 b) (no-zeros (omega (arith, head-is s at)))
+          → stepAt s at place ≡ stepOf (wordAt 4 s at) (payloadAt s at) place
+      go (no a) d e = no-zeros (simp (ne-eqb _ 0 a)) (omega (arith, head-is s at))
+      go (yes a) (no b) e = no-zeros (simp (eq-eqb _ 0 a, ne-eqb _ 0 b)) (omega (arith, head-is s at))
       go (yes a) (yes b) (no d) =
-          simp (eq-eqb _ 0 a, eq-eqb _ 0 b, ne-eqb _ 0 d) (no-zeros (omega (arith, head-is s at)))
+          no-zeros (simp (eq-eqb _ 0 a, eq-eqb _ 0 b, ne-eqb _ 0 d)) (omega (arith, head-is s at))
       go (yes a) (yes b) (yes d) =
           let e : getD s at 0 ≡ wordAt 4 s at = omega (arith, head-is s at) in
-          zeros-read s at a b d ∙ ap (λ k. loadedOf k (wordAt 8 s (at + 4))) e
+          rw (le-leb (at + 12) (length s) inside, eq-eqb _ 0 a, eq-eqb _ 0 b, eq-eqb _ 0 d, e) refl
 
 -- a step by the words that the code loads
-pub words-moved : {place r head low high : ℕ} (s : List ℕ) (at : ℕ) → head ≡ wordAt 4 s at
-    → low ≡ wordAt 4 s (at + 4) → high ≡ wordAt 4 s (at + 8)
-    → Moved place (loadedStep (loadedOf head (low + 2 ^ 32 * high)) place) r
-    → Moved place (loadedStep (entryIn s at) place) r
-words-moved {place} {r} {head} {low} {high} s at e f g w =
+pub words-moved : {place r head low high : ℕ} (s : List ℕ) (at : ℕ) → at + 12 ≤ length s → head ≡ wordAt 4 s at
+    → low ≡ wordAt 4 s (at + 4) → high ≡ wordAt 4 s (at + 8) → Moved place (stepOf head (low + 2 ^ 32 * high) place) r
+    → Moved place (stepAt s at place) r
+words-moved {place} {r} {head} {low} {high} s at inside e f g w =
     let far : at + 4 + 4 ≡ at + 8 = omega arith in
-    let both : low + 2 ^ 32 * high ≡ wordAt 8 s (at + 4)
+    let both : low + 2 ^ 32 * high ≡ payloadAt s at
     = ap₂ (λ (x y : ℕ). x + 2 ^ 32 * y) f (g ∙ ap (wordAt 4 s) (sym far)) ∙ sym (word-split 4 4 s (at + 4)) in
-    subst (λ l. Moved place (loadedStep l place) r) (ap₂ loadedOf e both ∙ sym (head-read s at)) w
+    subst (λ (step : Step). Moved place step r)
+    (ap₂ (λ (k x : ℕ). stepOf k x place) e both ∙ sym (head-read s at place inside)) w
 
 -- ---- the loop: what is left
 
+-- the first k entries are passed: the form is right where the entries that are left are, from a place on
 pub record Left (s : List ℕ) (base n place k : ℕ) : Type 0 where
   pub inside : k ≤ n
   pub small : place ≤ 4294967296 * k
   pub rest : formed s base 0 n 0 ≡ formed s base k (n - k) place
 
-pub left-start : (s : List ℕ) (base n : ℕ) → Left s base n 0 0
-left-start s base n = record { inside = omega arith; small = omega arith; rest = rw sub-zero }
+-- before the first entry all are left
+pub left-start : {s : List ℕ} {base n : ℕ} → Left s base n 0 0
+left-start {s} {base} {n} = record { inside = omega arith; small = omega arith; rest = rw sub-zero }
 
 module _ {s : List ℕ} {base n place k : ℕ} (w : Left s base n place k) where
   next : k < n → formed s base k (n - k) place
-      ≡ onStep (loadedStep (entryIn s (4 + 12 * k)) place) (λ p. formed s base (k + 1) (n - (k + 1)) p)
+      ≡ onStep (stepAt s (4 + 12 * k) place) (λ p. formed s base (k + 1) (n - (k + 1)) p)
   unfolding formed
   next l = let e : n - k ≡ suc (n - (k + 1)) = omega arith in rw e refl
 
-  pub left-on : {p : ℕ} → k < n → Moved place (loadedStep (entryIn s (4 + 12 * k)) place) p → p < nowhere
+  -- an entry whose step goes on: one entry less is left
+  pub left-on : {p : ℕ} → k < n → Moved place (stepAt s (4 + 12 * k) place) p → p < nowhere
       → Left s base n p (k + 1)
   left-on {p} l v f =
       record {
@@ -263,30 +260,96 @@ module _ {s : List ℕ} {base n place k : ℕ} (w : Left s base n place k) where
         rest = w .rest ∙ next l ∙ rw (v .goes f) refl;
       }
 
-  pub left-broken : {p : ℕ} → k < n → Moved place (loadedStep (entryIn s (4 + 12 * k)) place) p → nowhere ≤ p
+  -- an entry whose step is broken: the form is wrong
+  pub left-broken : {p : ℕ} → k < n → Moved place (stepAt s (4 + 12 * k) place) p → nowhere ≤ p
       → false ≡ formed s base 0 n 0
   left-broken l v f = sym (w .rest ∙ next l ∙ rw (v .broken f) refl)
 
+  -- no entry is left: the form is right where the texts end at the stream's end
   pub left-done : n ≤ k → eqb (base + place) (length s) ≡ formed s base 0 n 0
   unfolding formed
   left-done l = sym (w .rest ∙ (let e : n - k ≡ 0 = omega arith in rw e refl))
 
+-- ---- one entry of a stream that is well formed
+
+-- a step that is not broken: a text begins at the place and ends at the next one, any other entry leaves the place
+pub data Stepped (kind x place next : ℕ) : Type 0 where
+  over : kind ≡ 6 → x % 2 ^ 32 ≡ place → place + x / 2 ^ 32 ≡ next → Stepped kind x place next
+  still : (kind ≡ 6 → ⊥) → place ≡ next → Stepped kind x place next
+
+-- what a step to a place says
+stepped : (kind x place next : ℕ) → entryStep kind x place ≡ At next → Stepped kind x place next
+stepped kind x place next h = go (ℕ-discrete kind 6) (ℕ-discrete (x % 2 ^ 32) place)
+  where
+    go : Dec (kind ≡ 6) → Dec (x % 2 ^ 32 ≡ place) → Stepped kind x place next
+    go (no n) d = still n (at-same place next (rw (ne-eqb kind 6 n) at h))
+    go (yes e) (yes d) =
+        over e d (at-same (place + x / 2 ^ 32) next (rw (eq-eqb kind 6 e, eq-eqb (x % 2 ^ 32) place d) at h))
+    go (yes e) (no d) =
+        let b : Broken ≡ At next = rw (eq-eqb kind 6 e, ne-eqb (x % 2 ^ 32) place d) at h in
+        absurd (let z : _≡_ {A = ℕ} 0 1 = cc in let y : ⊥ = omega arith in y)
+
+-- a text's place only goes on
+step-grows : {kind x place next : ℕ} → Stepped kind x place next → place ≤ next
+step-grows (over e d n) = omega arith
+step-grows (still d n) = omega arith
+
+-- the entry is there, and the next text's place goes on
+pub data Goes (s : List ℕ) (at place : ℕ) (on : ℕ → Bool) : Type 0 where
+  goes : (next : ℕ) → isEntry s at ≡ true → Stepped (kindAt s at) (payloadAt s at) place next → on next ≡ true
+      → Goes s at place on
+
+-- an entry from which the form goes on
+pub goes-on : (s : List ℕ) (at place : ℕ) (on : ℕ → Bool) → onStep (stepAt s at place) on ≡ true → Goes s at place on
+goes-on s at place on h = go (isEntry s at) refl h
+  where
+    step : isEntry s at ≡ true → (r : Step) → entryStep (kindAt s at) (payloadAt s at) place ≡ r → onStep r on ≡ true
+        → Goes s at place on
+    step e (At next) q g = goes next e (stepped (kindAt s at) (payloadAt s at) place next q) g
+    step e Broken q g = clash g refl
+
+    go : (b : Bool) → isEntry s at ≡ b
+        → onStep (cond b (entryStep (kindAt s at) (payloadAt s at) place) Broken) on ≡ true → Goes s at place on
+    go true e g = step e (entryStep (kindAt s at) (payloadAt s at) place) refl g
+    go false e g = clash g refl
+
+-- the texts end where the stream does
+pub form-end : (s : List ℕ) (base k n place : ℕ) → formed s base k n place ≡ true → base + place ≤ length s
+unfolding formed
+form-end s base k zero place h = omega (arith, eqb-true (base + place) (length s) h)
+form-end s base k (suc n) place h =
+    go (λ next. form-end s base (k + 1) n next) (goes-on s (4 + 12 * k) place (λ p. formed s base (k + 1) n p) h)
+  where
+    go : ((next : ℕ) → formed s base (k + 1) n next ≡ true → base + next ≤ length s)
+        → Goes s (4 + 12 * k) place (λ p. formed s base (k + 1) n p) → base + place ≤ length s
+    go ends (goes next is g rest) = omega (arith, ends next rest, step-grows g)
+
 -- ---- the whole
 
 module _ (s : List ℕ) where
+  -- a stream that is shorter than the entries that it counts is malformed: the texts end where it does
+  pub too-many : length s < baseIn s → false ≡ streamOk s
+  unfolding streamOk
+  too-many l = go (formed s (baseIn s) 0 (countIn s) 0) refl
+    where
+      first : (b : Bool) → false ≡ (b && false)
+      first true = refl
+      first false = refl
+
+      go : (b : Bool) → formed s (baseIn s) 0 (countIn s) 0 ≡ b → false ≡ (leb (length s) mostBytes && b)
+      go true e = absurd (let f = form-end s (baseIn s) 0 (countIn s) 0 e in let z : ⊥ = omega arith in z)
+      go false e = first (leb (length s) mostBytes)
+
+  -- a stream of fewer than 4 bytes is malformed
   pub too-short : length s < 4 → false ≡ streamOk s
-  unfolding streamOk
-  too-short l = rw (lt-leb 4 (length s) l) refl
+  too-short l = too-many (omega arith)
 
-  pub too-long : 4 ≤ length s → mostBytes < length s → false ≡ streamOk s
+  -- a stream of more than 2^31 bytes is malformed
+  pub too-long : mostBytes < length s → false ≡ streamOk s
   unfolding streamOk
-  too-long a l = rw (le-leb 4 (length s) a, lt-leb (length s) mostBytes l) refl
+  too-long l = rw (lt-leb (length s) mostBytes l) refl
 
-  pub too-many : 4 ≤ length s → length s ≤ mostBytes → length s < baseIn s → false ≡ streamOk s
+  -- a stream of at most 2^31 bytes is right where its entries and texts are
+  pub all-ok : length s ≤ mostBytes → formed s (baseIn s) 0 (countIn s) 0 ≡ streamOk s
   unfolding streamOk
-  too-many a b l = rw (le-leb 4 (length s) a, le-leb (length s) mostBytes b, lt-leb (baseIn s) (length s) l) refl
-
-  pub all-ok : 4 ≤ length s → length s ≤ mostBytes → baseIn s ≤ length s
-      → formed s (baseIn s) 0 (countIn s) 0 ≡ streamOk s
-  unfolding streamOk
-  all-ok a b l = rw (le-leb 4 (length s) a, le-leb (length s) mostBytes b, le-leb (baseIn s) (length s) l) refl
+  all-ok l = rw (le-leb (length s) mostBytes l) refl

@@ -4,20 +4,20 @@ use Prim.Native.Nat.{ℕ, zero, suc, _+_, _*_}
 use native.Mathlib.Nat.{add-zero, add-assoc}
 use native.Mathlib.Omega.{arith}
 use mathlib.Core.Path.{_≡_, refl, sym, ap, ap₂, _∙_}
-use mathlib.Core.Bool.{Bool}
 use mathlib.Core.List.{List, [], _∷_, _++_, append-assoc, append-nil}
 use lib.ListN.{length, length-append}
 use Rattle.values.specs.inside.reading.Walk.{upTo}
-use Rattle.values.specs.stream.Stream.{Token, bool, number, member, mark, kindOf, payloadOf, bodyOf, entryBytes}
-use Rattle.values.specs.stream.Stream.{heads, bodies}
+use Rattle.values.specs.stream.Stream.{Token, plain, kindOf, payloadOf, bodyOf, entryBytes, heads, bodies}
 use Rattle.values.proofs.stream.EntryLaws.{length-entry}
 
+-- the texts of some entries and others are those of the first, then those of the others
 pub bodies-append : (ts us : List Token) → bodies (ts ++ us) ≡ bodies ts ++ bodies us
 unfolding bodies
 bodies-append [] us = refl
 bodies-append (t ∷ ts) us =
     ap (λ (l : List ℕ). bodyOf t ++ l) (bodies-append ts us) ∙ sym (append-assoc (bodyOf t) (bodies ts) (bodies us))
 
+-- the lengths of the texts of some entries and of others add up
 pub texts-append : (ts us : List Token) → length (bodies (ts ++ us)) ≡ length (bodies ts) + length (bodies us)
 texts-append ts us = rw (bodies-append, length-append)
 
@@ -45,10 +45,12 @@ length-heads place (t ∷ ts) =
     let e = length-entry (kindOf t) (payloadOf place t) in
     rw length-append (omega (arith, length-heads (place + length (bodyOf t)) ts))
 
+-- the bytes of one entry are those of its kind and its payload
 pub heads-one : (place : ℕ) (t : Token) → heads place (t ∷ []) ≡ entryBytes (kindOf t) (payloadOf place t)
 unfolding heads
 heads-one place t = append-nil (entryBytes (kindOf t) (payloadOf place t))
 
+-- the texts of one entry are its own
 pub bodies-one : (t : Token) → bodies (t ∷ []) ≡ bodyOf t
 unfolding bodies
 bodies-one t = append-nil (bodyOf t)
@@ -60,28 +62,17 @@ pub record Textless (ts : List Token) : Type 0 where
   pub none : bodies ts ≡ []
   pub anywhere : (place : ℕ) → heads place ts ≡ heads 0 ts
 
+-- where there are no entries there is no text
 pub textless-none : Textless []
 textless-none = record { none = unfold bodies in refl; anywhere = λ place. unfold heads in refl }
 
--- one entry
-textless-one : (t : Token) → bodyOf t ≡ [] → ((place : ℕ) → payloadOf place t ≡ payloadOf 0 t) → Textless (t ∷ [])
-textless-one t a b =
+-- an entry that is no text
+pub textless-plain : {kind x : ℕ} → Textless (plain kind x ∷ [])
+textless-plain {kind} {x} =
     record {
-      none = bodies-one t ∙ a;
-      anywhere = λ place. heads-one place t ∙ ap (entryBytes (kindOf t)) (b place) ∙ sym (heads-one 0 t);
+      none = bodies-one (plain kind x);
+      anywhere = λ place. heads-one place (plain kind x) ∙ sym (heads-one 0 (plain kind x));
     }
-
-pub textless-bool : (b : Bool) → Textless (bool b ∷ [])
-textless-bool b = textless-one (bool b) refl (λ place. refl)
-
-pub textless-number : (kind x : ℕ) → Textless (number kind x ∷ [])
-textless-number kind x = textless-one (number kind x) refl (λ place. refl)
-
-pub textless-member : (j : ℕ) → Textless (member j ∷ [])
-textless-member j = textless-one (member j) refl (λ place. refl)
-
-pub textless-mark : (kind : ℕ) → Textless (mark kind ∷ [])
-textless-mark kind = textless-one (mark kind) refl (λ place. refl)
 
 -- some, and others after them
 pub textless-append : {ts us : List Token} → Textless ts → Textless us → Textless (ts ++ us)
@@ -95,6 +86,7 @@ textless-append {ts} {us} a b =
           ∙ sym (heads-append 0 ts us);
     }
 
+-- a run of elements without a text has none
 pub textless-up : (g : ℕ → List Token) (n : ℕ) → ((k : ℕ) → Textless (g k)) → Textless (upTo g n)
 unfolding upTo
 textless-up g zero h = textless-none

@@ -13,7 +13,7 @@ use Rattle.values.specs.stream.Stream.{Token, member, mark, entryBytes, 
 use Rattle.values.specs.declared.stream.place.Place.{Place}
 use Rattle.values.proofs.reading.UpLaws.{up-more, up-split}
 use Rattle.values.proofs.stream.HeadLaws.{heads-append, bodies-append, texts-append, length-heads}
-use Rattle.values.proofs.stream.HeadLaws.{textless-member, textless-mark}
+use Rattle.values.proofs.stream.HeadLaws.{textless-plain}
 use Rattle.values.proofs.stream.PutLaws.{put-one, put-wrote}
 
 -- ---- one run after another
@@ -77,10 +77,12 @@ wrote-then {out} {base = base} {at} {text} {p} {t} {ts} {us} room a b =
 
 -- ---- room
 
+-- the same entries have the same room
 pub room-as : {long base at text : ℕ} {ts us : List Token} → ts ≡ us → Room long base at text ts
     → Room long base at text us
 room-as {long} {base} {at} {text} e r = subst (Room long base at text) e r
 
+-- the same entries are written
 pub wrote-as : {out new : List ℕ} {base at text : ℕ} {ts us : List Token} {p : Place} → ts ≡ us
     → Wrote out base at text us new p → Wrote out base at text ts new p
 wrote-as {out} {new} {base} {at} {text} {p = p} e w =
@@ -127,17 +129,19 @@ room-all r = omega (arith, r .entries, r .texts)
 -- a bracket
 mark-wrote : {out new : List ℕ} {base at text : ℕ} (k : ℕ) → new ≡ sets out at (entryBytes k 0)
     → Wrote out base at text (mark k ∷ []) new (record { at = at + 12; text = text })
-mark-wrote {base = base} {text = text} k e = put-wrote base text (textless-mark k) (put-one (mark k) refl refl e)
+mark-wrote {base = base} {text = text} k e = put-wrote base text textless-plain (put-one (mark k) refl refl e)
 
 -- a member's number, and its value after it
 module _ (out : List ℕ) {mid : List ℕ} {base at text j : ℕ} {ts : List Token}
     (room : Room (length out) base at text (member j ∷ ts)) (put : mid ≡ sets out at (entryBytes 7 j)) where
   number : Wrote out base at text (member j ∷ []) mid (record { at = at + 12; text = text })
-  number = put-wrote base text (textless-member j) (put-one (member j) refl refl put)
+  number = put-wrote base text textless-plain (put-one (member j) refl refl put)
 
+  -- a member's value has room after its number
   pub value-room : Room (length mid) base (at + 12) text ts
   value-room = room-long (wrote-length number) (room-after {ts = member j ∷ []} ts room number)
 
+  -- a member's number and then its value are written: the member
   pub value-wrote : {new : List ℕ} {r : Place} → Wrote mid base (at + 12) text ts new r
       → Wrote out base at text (member j ∷ ts) new r
   value-wrote w = wrote-then {ts = member j ∷ []} {us = ts} room number w
@@ -166,6 +170,7 @@ run-start {g} {n} {o} {c} out {mid} {base} {at} {text} room put =
 
 module _ {g : ℕ → List Token} {n c : ℕ} {out : List ℕ} {base at text i : ℕ} {new : List ℕ} {p t : ℕ}
     (run : Running g n c out base at text i new p t) where
+  -- the buffer keeps its length
   pub run-long : length new ≡ length out
   run-long = wrote-length (run .wrote)
 
@@ -185,9 +190,11 @@ module _ {g : ℕ → List Token} {n c : ℕ} {out : List ℕ} {base at text i :
     turn : Room (length out) base at text (upTo g i ++ g i)
     turn = room-front (upTo g i ++ g i) rest (room-as parts (run .room))
 
+    -- the next part has room
     pub run-room : Room (length new) base p t (g i)
     run-room = room-long run-long (room-after {ts = upTo g i} (g i) turn (run .wrote))
 
+    -- the next part is written: one part more
     pub run-turn : {last : List ℕ} {r : Place} → Wrote new base p t (g i) last r
         → Running g n c out base at text (i + 1) last (r .at) (r .text)
     run-turn w =
@@ -203,6 +210,7 @@ module _ {g : ℕ → List Token} {n c : ℕ} {out : List ℕ} {base at text i :
         let e : i ≡ n = omega (arith, run .most) in
         rw e at (run .wrote)
 
+    -- all parts are written: the close bracket has room
     pub run-last : Room (length new) base p t (mark c ∷ [])
     run-last = room-long run-long (room-after {ts = upTo g n} (mark c ∷ []) (run .room) all)
 

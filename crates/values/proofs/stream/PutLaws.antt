@@ -13,6 +13,7 @@ use Rattle.values.specs.inside.stream.Laying.{Put, Wrote, laidIn}
 use Rattle.values.specs.stream.Stream.{Token, mark, kindOf, payloadOf, entryBytes, heads, bodies}
 use Rattle.values.proofs.stream.HeadLaws.{heads-append, heads-one, length-heads, Textless}
 
+-- the buffer keeps its length
 pub put-length : {out new : List ℕ} {at r : ℕ} {ts : List Token} → Put out at ts new r → length new ≡ length out
 put-length {out} {at = at} {ts = ts} w = ap length (w .bytes) ∙ length-sets out at (heads 0 ts)
 

@@ -1,15 +1,13 @@
 -- Every entry of a reading can be said (document 01, "Value stream"): its kind is one of the twelve and its payload
 -- fits, so that a reading's stream is well formed and says the reading's entries.
 use Prim.Native.Nat.{ℕ, zero, suc, _+_, _-_, _*_, _^_, _<_, _≤_}
-use native.Mathlib.Nat.{add-zero}
 use native.Mathlib.Omega.{arith}
-use mathlib.Core.Path.{_≡_, refl, sym, ap, _∙_}
+use mathlib.Core.Path.{refl}
 use mathlib.Core.Bool.{Bool, true, false, cond}
 use mathlib.Core.List.{List, [], _∷_, _++_}
-use mathlib.Core.Logic.{_⊎_, inl, inr}
 use lib.Dec.{eqb, ltb}
-use lib.ListN.{length, length-append}
-use borrow.Author.Tests.{eq-eqb}
+use lib.ListN.{length}
+use borrow.Author.Tests.{lt-ltb}
 use Rattle.words.specs.Bits.{Bits, flat, val}
 use Rattle.words.specs.Words.{part}
 use Rattle.words.proofs.BitLaws.{val-below}
@@ -18,6 +16,7 @@ use Rattle.types.specs.inside.tables.Lent.{TyFits}
 use Rattle.types.specs.layout.Laid.{Earlier, Every}
 use Rattle.types.specs.layout.Placing.{times}
 use Rattle.types.specs.tables.Lent.{memberAt, typeAt}
+use Rattle.types.specs.tables.Limits.{mostTypes}
 use Rattle.types.specs.tables.Sizes.{sizesIn}
 use Rattle.types.specs.declared.atomics.atomic.Atomic.{Atomic}
 use Rattle.types.specs.declared.atomics.atomic.Atomic.the-variants as atomic
@@ -27,91 +26,26 @@ use Rattle.types.specs.declared.tables.member.Member.{Member}
 use Rattle.types.specs.declared.tables.member.Ty.{Ty}
 use Rattle.types.specs.declared.tables.member.Ty.the-variants as ty
 use Rattle.values.specs.inside.reading.Walk.{upTo, wrap, bitToken, bitsOut, elementOut, numberOut, numbersOut}
-use Rattle.values.specs.inside.reading.Walk.{atomicsOut}
-use Rattle.values.specs.inside.reading.Walk.{bitOut}
-use Rattle.values.specs.inside.reading.Walk.{elementBy, elementsBy, structsBy, valueBy, memberBy, rowBy}
-use Rattle.values.specs.inside.reading.Walk.{membersBy, structBy}
-use Rattle.values.specs.inside.reading.Walk.{structWithin, structOut, valueOut, bytesBy}
+use Rattle.values.specs.inside.reading.Walk.{atomicsOut, bitOut, elementBy, elementsBy, structsBy, valueBy}
+use Rattle.values.specs.inside.reading.Walk.{memberBy, rowBy, membersBy, structBy, structWithin, structOut}
+use Rattle.values.specs.inside.reading.Walk.{valueOut, bytesBy}
 use Rattle.values.specs.inside.reading.Walkable.{Walkable, WalkableType}
-use Rattle.values.specs.reading.Leaf.{emit, leafOf, signed}
+use Rattle.values.specs.reading.Leaf.{emit, isTrue, leafOf, signed}
 use Rattle.values.specs.reading.Trees.{isString}
-use Rattle.values.specs.stream.Decode.{tokenOf}
-use Rattle.values.specs.stream.Entry.{EntryFits, entryKind, entryPayload}
-use Rattle.values.specs.stream.Form.{At, entryStep}
-use Rattle.values.specs.stream.Stream.{Token, null, bool, number, text, member, mark, kindOf, payloadOf, bodyOf}
-use Rattle.values.specs.stream.Stream.{bodies}
-use Rattle.values.specs.stream.Stream.{streamBytes, mostBytes}
-use Rattle.values.specs.declared.stream.entry.Entry.{Entry}
-use Rattle.values.specs.declared.stream.entry.Entry.the-variants as entry
-use Rattle.values.proofs.stream.DecodeBack.{Says, Saying, Back, decode-back}
-use Rattle.values.proofs.stream.StreamLaws.{stream-long}
+use Rattle.values.specs.stream.Entry.{payloadRight}
+use Rattle.values.specs.stream.Stream.{Token, bool, member, mark, streamBytes, mostBytes}
+use Rattle.values.proofs.stream.DecodeBack.{Sound, Back, decode-back}
 
--- an entry whose kind and payload can be said
-abbrev pub Sound : Token → Type 0
-Sound null = Unit {0}
-Sound (bool b) = Unit {0}
-Sound (number k x) =
-    ((k ≡ 2) × (x < 2 ^ 64)) ⊎ (((k ≡ 3) × (x < 2 ^ 64)) ⊎ (((k ≡ 4) × (x < 2 ^ 32)) ⊎ ((k ≡ 5) × (x < 2 ^ 64))))
-Sound (text s) = Unit {0}
-Sound (member j) = j < 2 ^ 32
-Sound (mark k) = (k ≡ 8) ⊎ ((k ≡ 9) ⊎ ((k ≡ 10) ⊎ (k ≡ 11)))
+-- ---- entries that can be said
 
--- ---- such an entry is said, where its text begins and ends below 2^32
+bool-sound : (b : Bool) → Sound (bool b)
+unfolding payloadRight
+bool-sound true = (refl, (refl, omega arith))
+bool-sound false = (refl, (refl, omega arith))
 
-plain-says : (place : ℕ) (e : Entry) (t : Token) → EntryFits e → kindOf t ≡ entryKind e
-    → payloadOf place t ≡ entryPayload e → bodyOf t ≡ [] → entryStep e place ≡ At place
-    → ((s : List ℕ) (base : ℕ) → tokenOf s base e ≡ t) → Says place t
-plain-says place e t f k p b g u =
-    record {
-      entry = e;
-      fits = f;
-      kind = k;
-      payload = p;
-      step = g ∙ ap At (sym (ap (λ (r : List ℕ). place + length r) b ∙ add-zero place));
-      token = λ s base h. u s base;
-    }
-
-number-says : (place k x : ℕ) → Sound (number k x) → Says place (number k x)
-number-says place k x (inl (e, l)) =
-    rw e (plain-says place (entry.Signed x) (number 2 x) l refl refl refl refl (λ s base. refl))
-number-says place k x (inr (inl (e, l))) =
-    rw e (plain-says place (entry.Unsigned x) (number 3 x) l refl refl refl refl (λ s base. refl))
-number-says place k x (inr (inr (inl (e, l)))) =
-    rw e (plain-says place (entry.Real x) (number 4 x) l refl refl refl refl (λ s base. refl))
-number-says place k x (inr (inr (inr (e, l)))) =
-    rw e (plain-says place (entry.LReal x) (number 5 x) l refl refl refl refl (λ s base. refl))
-
-mark-says : (place k : ℕ) → Sound (mark k) → Says place (mark k)
-mark-says place k (inl e) = rw e (plain-says place entry.Open (mark 8) tt refl refl refl refl (λ s base. refl))
-mark-says place k (inr (inl e)) =
-    rw e (plain-says place entry.Close (mark 9) tt refl refl refl refl (λ s base. refl))
-mark-says place k (inr (inr (inl e))) =
-    rw e (plain-says place entry.ArrayOpen (mark 10) tt refl refl refl refl (λ s base. refl))
-mark-says place k (inr (inr (inr e))) =
-    rw e (plain-says place entry.ArrayClose (mark 11) tt refl refl refl refl (λ s base. refl))
-
-one-says : (place : ℕ) (t : Token) → Sound t → place + length (bodyOf t) < 2 ^ 32 → Says place t
-one-says place null w l = plain-says place entry.Null null tt refl refl refl refl (λ s base. refl)
-one-says place (bool b) w l = plain-says place (entry.Bool b) (bool b) tt refl refl refl refl (λ s base. refl)
-one-says place (number k x) w l = number-says place k x w
-one-says place (text bs) w l =
-    record {
-      entry = entry.Text place (length bs);
-      fits = (omega arith, omega arith);
-      kind = refl;
-      payload = refl;
-      step = rw (eq-eqb place place refl) refl;
-      token = λ s base h. ap text h;
-    }
-one-says place (member j) w l = plain-says place (entry.Member j) (member j) w refl refl refl refl (λ s base. refl)
-one-says place (mark k) w l = mark-says place k w
-
-all-say : (place : ℕ) (ts : List Token) → Every Sound ts → place + length (bodies ts) < 2 ^ 32 → Saying place ts
-unfolding Every bodies
-all-say place [] w l = tt
-all-say place (t ∷ ts) (w, ws) l =
-    let n = length-append (bodyOf t) (bodies ts) in
-    (one-says place t w (omega arith), all-say (place + length (bodyOf t)) ts ws (omega arith))
+member-said : (j : ℕ) → j < 2 ^ 32 → Sound (member j)
+unfolding payloadRight
+member-said j l = (lt-ltb j (2 ^ 32) l, (refl, omega arith))
 
 -- ---- the entries of a reading are so
 
@@ -132,7 +66,8 @@ every-wrap start stop ts a b w = (a, every-append ts (mark stop ∷ []) w (b, tt
 
 -- an array's brackets
 in-array : (ts : List Token) → Every Sound ts → Every Sound (wrap 10 11 ts)
-in-array ts w = every-wrap 10 11 ts (inr (inr (inl refl))) (inr (inr (inr refl))) w
+unfolding payloadRight
+in-array ts w = every-wrap 10 11 ts (refl, (refl, omega arith)) (refl, (refl, omega arith)) w
 
 signed-small : (n : ℕ) (b : Bits) → 2 ^ n ≤ 2 ^ 64 → signed n (val n b) < 2 ^ 64
 unfolding signed
@@ -143,21 +78,23 @@ signed-small n b h = go (ltb (val n b) (2 ^ (n - 1)))
     go false = omega (arith, val-below n b, h)
 
 emit-sound : (a : Atomic) (b : Bits) → Sound (emit (leafOf a) b)
-emit-sound atomic.Bool b = tt
-emit-sound atomic.SInt b = inl (refl, signed-small 8 b (omega arith))
-emit-sound atomic.Int b = inl (refl, signed-small 16 b (omega arith))
-emit-sound atomic.DInt b = inl (refl, signed-small 32 b (omega arith))
-emit-sound atomic.LInt b = inl (refl, signed-small 64 b (omega arith))
-emit-sound atomic.USInt b = inr (inl (refl, omega (arith, val-below 8 b)))
-emit-sound atomic.UInt b = inr (inl (refl, omega (arith, val-below 16 b)))
-emit-sound atomic.UDInt b = inr (inl (refl, omega (arith, val-below 32 b)))
-emit-sound atomic.ULInt b = inr (inl (refl, val-below 64 b))
-emit-sound atomic.Real b = inr (inr (inl (refl, val-below 32 b)))
-emit-sound atomic.LReal b = inr (inr (inr (refl, val-below 64 b)))
-emit-sound atomic.Byte b = inr (inl (refl, omega (arith, val-below 8 b)))
-emit-sound atomic.Word b = inr (inl (refl, omega (arith, val-below 16 b)))
-emit-sound atomic.DWord b = inr (inl (refl, omega (arith, val-below 32 b)))
-emit-sound atomic.LWord b = inr (inl (refl, val-below 64 b))
+unfolding payloadRight
+emit-sound atomic.Bool b = bool-sound (isTrue (val 8 b))
+emit-sound atomic.SInt b = (refl, (refl, signed-small 8 b (omega arith)))
+emit-sound atomic.Int b = (refl, (refl, signed-small 16 b (omega arith)))
+emit-sound atomic.DInt b = (refl, (refl, signed-small 32 b (omega arith)))
+emit-sound atomic.LInt b = (refl, (refl, signed-small 64 b (omega arith)))
+emit-sound atomic.USInt b = (refl, (refl, omega (arith, val-below 8 b)))
+emit-sound atomic.UInt b = (refl, (refl, omega (arith, val-below 16 b)))
+emit-sound atomic.UDInt b = (refl, (refl, omega (arith, val-below 32 b)))
+emit-sound atomic.ULInt b = (refl, (refl, val-below 64 b))
+emit-sound atomic.Real b =
+    (lt-ltb (val 32 b) (2 ^ 32) (val-below 32 b), (refl, omega (arith, val-below 32 b)))
+emit-sound atomic.LReal b = (refl, (refl, val-below 64 b))
+emit-sound atomic.Byte b = (refl, (refl, omega (arith, val-below 8 b)))
+emit-sound atomic.Word b = (refl, (refl, omega (arith, val-below 16 b)))
+emit-sound atomic.DWord b = (refl, (refl, omega (arith, val-below 32 b)))
+emit-sound atomic.LWord b = (refl, (refl, val-below 64 b))
 
 either : (b : Bool) (x y : List Token) → Every Sound x → Every Sound y → Every Sound (cond b x y)
 either true x y p q = p
@@ -165,7 +102,8 @@ either false x y p q = q
 
 bits-sound : (image : List ℕ) (n : ℕ) → Every Sound (bitsOut image n)
 unfolding bitsOut Every
-bits-sound image n = in-array (upTo (bitToken image) n) (every-up (bitToken image) n (λ k l. (tt, tt)))
+bits-sound image n =
+    in-array (upTo (bitToken image) n) (every-up (bitToken image) n (λ k l. (bool-sound (flat image k), tt)))
 
 numbers-sound : (a : Atomic) (n : ℕ) (image : List ℕ) → Every Sound (numbersOut a n image)
 unfolding numbersOut Every
@@ -197,30 +135,31 @@ module _ (types members : List ℕ) (rec : ℕ → List ℕ → List Token) (i :
       → Every Sound (bitOut b (λ k. bool (f k) ∷ []) ts)
   unfolding Every
   bit-sound None f ts w = w
-  bit-sound (BitAt k) f ts w = (tt, tt)
+  bit-sound (BitAt k) f ts w = (bool-sound (f k), tt)
 
   member-sound : (j : ℕ) (m : Member) (image : List ℕ) → j < 2 ^ 32 → Earlier i (m .ty)
       → Every Sound (memberBy types members rec j m image)
   unfolding memberBy Every
   member-sound j m image l e =
       either (m .hidden) [] _ tt (
-        l,
+        member-said j l,
         bit-sound (m .bit) (λ k. flat image (8 * m .offset + k)) _
             (value-sound (m .ty) (m .count) (part image (m .offset) (bytesBy types members rec m)) e),
       )
 
   struct-sound : (image : List ℕ) → WalkableType types members i → Every Sound (structBy types members rec i image)
-  unfolding structBy membersBy Every
+  unfolding structBy membersBy Every payloadRight
   struct-sound image w =
       let row : ℕ → List Token = rowBy types members rec (typeAt types i .first) image in
       either (isString (typeAt types i .kind)) _ _ (tt, tt)
-      (every-wrap 8 9 (upTo row (typeAt types i .count)) (inl refl) (inr (inl refl))
+      (every-wrap 8 9 (upTo row (typeAt types i .count)) (refl, (refl, omega arith)) (refl, (refl, omega arith))
       (every-up row (typeAt types i .count)
       (λ k h. member-sound k (memberAt members (typeAt types i .first + k)) image (omega (arith, w .rows, h))
       (w .each k h .earlier))))
 
 module _ (types members : List ℕ) (walk : Walkable types members) where
-  within-sound : (f i : ℕ) → f ≤ 200 → i < f → (image : List ℕ) → Every Sound (structWithin types members f i image)
+  within-sound : (f i : ℕ) → f ≤ mostTypes → i < f → (image : List ℕ)
+      → Every Sound (structWithin types members f i image)
   unfolding structWithin Every
   within-sound zero i h l image = tt
   within-sound (suc f) i h l image =
@@ -231,15 +170,14 @@ module _ (types members : List ℕ) (walk : Walkable types members) where
   unfolding valueOut structOut
   reading-sound t n image fits = go t fits
     where
-      go : (t : Ty) → TyFits t → Every Sound (valueBy types members (structWithin types members 200) t n image)
+      go : (t : Ty) → TyFits t → Every Sound (valueBy types members (structWithin types members mostTypes) t n image)
       go (ty.Atomic a) l = atomics-sound a n image
       go (ty.Struct s) l =
-          structs-sound types members (structWithin types members 200) 200
-          (λ s q im. within-sound 200 s (omega arith) q im) s n image l
+          structs-sound types members (structWithin types members mostTypes) mostTypes
+          (λ s q im. within-sound mostTypes s (omega arith) q im) s n image l
 
   -- what a reading writes is a stream that says its entries
   pub reading-back : (t : Ty) (n : ℕ) (image : List ℕ) → TyFits t
       → length (streamBytes (valueOut types members t n image)) ≤ mostBytes → Back (valueOut types members t n image)
   reading-back t n image fits l =
-      let ts : List Token = valueOut types members t n image in
-      decode-back ts (all-say 0 ts (reading-sound t n image fits) (omega (arith, l, stream-long ts))) l
+      decode-back (valueOut types members t n image) (reading-sound t n image fits) l

@@ -13,6 +13,7 @@ use Rattle.values.specs.inside.stream.Laying.{laidIn}
 use Rattle.values.specs.stream.Stream.{Token, heads, bodies, streamBytes}
 use Rattle.values.proofs.stream.HeadLaws.{length-heads}
 
+-- a stream has 4 bytes, twelve for each entry, and those of the texts
 pub stream-long : (ts : List Token) → length (streamBytes ts) ≡ 4 + 12 * length ts + length (bodies ts)
 unfolding streamBytes
 stream-long ts =

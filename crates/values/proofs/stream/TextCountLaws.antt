@@ -11,9 +11,8 @@ use lib.ListN.{length, length-append}
 use Rattle.words.specs.Words.{part}
 use Rattle.words.proofs.Lists.{length-part}
 use Rattle.types.specs.tables.Lent.{memberAt, typeAt}
-use Rattle.values.specs.inside.reading.Walk.{upTo, wrap}
-use Rattle.values.specs.inside.reading.Walk.{textOut, isNested}
-use Rattle.values.specs.inside.reading.Walk.{memberBy, rowBy, membersBy, structBy, structOut}
+use Rattle.values.specs.inside.reading.Walk.{upTo, wrap, textOut, isNested, memberBy, rowBy, membersBy, structBy}
+use Rattle.values.specs.inside.reading.Walk.{structOut}
 use Rattle.values.specs.inside.reading.Walkable.{IsString, Walkable, ImageOf}
 use Rattle.values.specs.inside.stream.Counting.{Texts}
 use Rattle.values.specs.reading.Texts.{textLength, capacityAt}
@@ -27,6 +26,7 @@ use Rattle.values.proofs.stream.HeadLaws.{bodies-append}
 
 -- ---- the promise
 
+-- the same entries have the same bytes of text
 pub texts-as : {room r : ℕ} {x y : List Token} → x ≡ y → Texts room x r → Texts room y r
 texts-as {room} {r} e w = subst (λ (ts : List Token). Texts room ts r) e w
 
@@ -43,6 +43,7 @@ texts-same e w =
 texts-wrap : {room r : ℕ} {ts : List Token} (start stop : ℕ) → Texts room ts r → Texts room (wrap start stop ts) r
 texts-wrap {ts = ts} start stop w = texts-same (sym (wrap-bodies start stop ts)) w
 
+-- a member's number adds no text
 pub texts-member : {room r : ℕ} {ts : List Token} (j : ℕ) → Texts room ts r → Texts room (member j ∷ ts) r
 unfolding bodies
 texts-member {ts = ts} j w = texts-same {x = ts} {y = member j ∷ ts} refl w
@@ -94,6 +95,7 @@ pub record Summed (room : ℕ) (g : ℕ → List Token) (n k t : ℕ) : Type 0 w
   pub texts : Texts room (upTo g k) t
   pub most : k ≤ n
 
+-- before the first part the sum is 0
 pub sum-start : {room n : ℕ} {g : ℕ → List Token} → Summed room g n 0 0
 unfolding upTo
 sum-start {room} = record { texts = texts-none room; most = omega arith }
@@ -103,6 +105,7 @@ unfolding upTo
 up-more g k = rw add-one
 
 module _ {room n k t : ℕ} {g : ℕ → List Token} (w : Summed room g n k t) (l : k < n) where
+  -- the next part is summed, within the room that is left
   pub sum-on : {r : ℕ} → t ≤ room → Texts (room - t) (g k) r → Summed room g n (k + 1) (t + r)
   sum-on h v = record { texts = texts-as (up-more g k) (texts-then h (w .texts) v); most = omega arith }
 
@@ -137,6 +140,7 @@ pub record Rows (types members : List ℕ) (i room : ℕ) (image : List ℕ) (j 
   pub sum : Summed room (rowBy types members (structOut types members) (typeAt types i .first) image)
       (typeAt types i .count) j t
 
+-- before the first row the sum is 0
 pub rows-start : {types members : List ℕ} {i room : ℕ} {image : List ℕ} → Rows types members i room image 0 0
 rows-start = record { sum = sum-start }
 
@@ -147,12 +151,14 @@ module _ {types members : List ℕ} {i room j t : ℕ} {image : List ℕ} (w : R
   rows-past l = sum-past 8 9 (w .sum) l
 
   module _ {n : ℕ} (q : n ≡ typeAt types i .count) where
+    -- after the last row the sum is that of all members
     pub rows-done : n ≤ j → Texts room (membersBy types members (structOut types members) i image) t
     unfolding membersBy
     rows-done l = sum-done 8 9 (w .sum) (omega arith)
 
     -- row j, where the code's first row is the table's: a structure, or no text
     module _ {first : ℕ} (e : first ≡ typeAt types i .first) (l : j < n) where
+      -- row j is summed, within the room that is left
       pub rows-on : {r : ℕ} → t ≤ room
           → Texts (room - t)
           (memberBy types members (structOut types members) j (memberAt members (first + j)) image) r
@@ -162,12 +168,14 @@ module _ {types members : List ℕ} {i room j t : ℕ} {image : List ℕ} (w : R
           let same = ap (λ (z : ℕ). memberBy types members rec j (memberAt members (z + j)) image) e in
           record { sum = sum-on (w .sum) (omega arith) h (texts-as same v) }
 
+      -- a row that is no structure adds no text
       pub rows-plain : isNested (memberAt members (first + j)) ≡ false → Rows types members i room image (j + 1) t
       rows-plain h =
           let m = memberAt members (typeAt types i .first + j) in
           let leaf = member-leaf types members (structOut types members) j m image (rw e at h) in
           record { sum = sum-plain (w .sum) (omega arith) (ap bodies leaf ∙ textless-leaf j image m .none) }
 
+-- a structure that is no string has the texts of its members
 pub members-texts : {types members : List ℕ} {i room r : ℕ} {image : List ℕ} → Walkable types members
     → ImageOf types i image → isString (typeAt types i .kind) ≡ false
     → Texts room (membersBy types members (structOut types members) i image) r
@@ -186,12 +194,15 @@ module _ {types members : List ℕ} {i first : ℕ} {image : List ℕ} (w : Stri
   is-string : IsString members (typeAt types i)
   is-string = w .tables .each i (w .whole .low) .string (w .kind)
 
+  -- the second row of a string is in the table
   pub string-row : first < 1999
   string-row = omega (arith, w .at, is-string .rows, w .tables .each i (w .whole .low) .rows)
 
+  -- LEN and a string's capacity lie in its image
   pub string-fits : 4 + capacityAt members first ≤ length image
   string-fits = rw (w .at) (omega (arith, is-string .size, w .whole .long))
 
+  -- a string has as many bytes of text as LEN says, clipped to its capacity
   pub string-texts : {capacity : ℕ} (room : ℕ) → capacity ≡ capacityAt members first → capacity < 2 ^ 32
       → Texts room (structOut types members i image) (textLength capacity image)
   unfolding structBy

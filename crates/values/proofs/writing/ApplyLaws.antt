@@ -1,10 +1,10 @@
 -- Setting step by step (document 01, "Writing"), where the check accepted: what was set after one entry is set after an
 -- earlier one, and an accepted step has its entry.
-use Prim.Native.Nat.{ℕ, suc, _+_, _-_, _<_, _≤_}
+use Prim.Native.Nat.{ℕ, suc, _+_, _<_, _≤_}
 use native.Mathlib.Decide.{decLt}
 use native.Mathlib.Omega.{arith}
 use mathlib.Core.Path.{_≡_, refl, sym, ap, _∙_}
-use mathlib.Core.Bool.{true, false, true≢false}
+use mathlib.Core.Bool.{true, true≢false}
 use mathlib.Core.List.{List, []}
 use lib.ListN.{length}
 use Rattle.words.specs.Bits.{Bits, flat}
@@ -20,12 +20,15 @@ use Rattle.values.proofs.writing.OutcomeLaws.{members-none, members-clo
 
 -- ---- what is accepted
 
+-- what is refused is not accepted
 pub not-accepted : {A : Type 0} {o : Outcome} {number : ℕ} {ts : List Token} → o ≡ bad number ts → accepted o ≡ true → A
 not-accepted e h = absurd (true≢false (sym h ∙ ap accepted e))
 
+-- an outcome that is the same as an accepted one is accepted
 pub accepted-as : {o q : Outcome} → o ≡ q → accepted o ≡ true → accepted q ≡ true
 accepted-as e h = sym (ap accepted e) ∙ h
 
+-- where a step and what comes after it are accepted, the step is
 pub accepted-first : (o : Outcome) (next : List Token → Bits → Outcome) → accepted (andThen o next) ≡ true
     → accepted o ≡ true
 accepted-first (ok ts z) next h = refl
@@ -45,12 +48,14 @@ pub applied-one : {s : List ℕ} {k : ℕ} {image new : List ℕ} {f : Bits → 
 applied-one {s} {k} l long e b =
     record { further = omega arith; inside = omega arith; long = long; gives = e ∙ ap (ok (leftAt s (k + 1))) (sym b) }
 
+-- what was set is set by any step that gives the same on this image
 pub applied-as : {s : List ℕ} {k r : ℕ} {image new : List ℕ} {f g : Bits → Outcome} → f (flat image) ≡ g (flat image)
     → Applied s k r image new g → Applied s k r image new f
 applied-as e a = record { further = a .further; inside = a .inside; long = a .long; gives = e ∙ a .gives }
 
 -- ---- what is left: whatever is set from here on is set from the start
 
+-- at entry p, over the image as it stands, the rest is accepted, and what it sets is set from the start
 pub record Setting (s : List ℕ) (k : ℕ) (image : List ℕ) (f : Bits → Outcome) (p : ℕ) (now : List ℕ)
     (g : Bits → Outcome) : Type 0 where
   pub further : k ≤ p
@@ -58,6 +63,7 @@ pub record Setting (s : List ℕ) (k : ℕ) (image : List ℕ) (f : Bits → Out
   pub taken : accepted (g (flat now)) ≡ true
   pub onward : (r : ℕ) (new : List ℕ) → Applied s p r now new g → Applied s k r image new f
 
+-- at the first entry all is left to be set
 pub setting-start : {s : List ℕ} {k : ℕ} {image : List ℕ} {f : Bits → Outcome} → accepted (f (flat image)) ≡ true
     → Setting s k image f k image f
 setting-start h = record { further = omega arith; long = refl; taken = h; onward = λ r new a. a }
@@ -79,6 +85,7 @@ setting-from l long e h =
       };
     }
 
+-- what is left of what is left is left of the whole
 pub setting-on : {s : List ℕ} {k p q : ℕ} {image now later : List ℕ} {f g h : Bits → Outcome}
     → Setting s k image f p now g → Setting s p now g q later h → Setting s k image f q later h
 setting-on a b =
@@ -106,18 +113,22 @@ module _ {s : List ℕ} {k : ℕ} (form : streamOk s ≡ true) where
       go (yes l) = there s k form l
       go (no l) = not-accepted (none (none-left s k (omega arith))) h
 
+  -- an accepted write of one entry has its entry
   pub one-there : (takes : Token → Effect) (w p : ℕ) (z : Bits) → accepted (writeOne takes w p (leftAt s k) z) ≡ true
       → There s k
   one-there takes w p z h = there-unless (λ e. one-none takes w p z e) h
 
+  -- an accepted null or opening has its entry
   pub opened-there : (start : ℕ) (inner : List Token → Bits → Outcome) (z : Bits)
       → accepted (opened start inner (leftAt s k) z) ≡ true → There s k
   opened-there start inner z h = there-unless (λ e. opened-none start inner z e) h
 
+  -- accepted elements have their next entry
   pub elements-there : (n : ℕ) (one : ℕ → List Token → Bits → Outcome) (w p : ℕ) (z : Bits)
       → accepted (elements n one w p (leftAt s k) z) ≡ true → There s k
   elements-there n one w p z h = there-unless (λ e. elements-none one w n p z e) h
 
+  -- accepted members have their next entry
   pub members-there : (most : ℕ) (one : Token → List Token → Bits → Outcome) (z : Bits)
       → accepted (membersIn most one (leftAt s k) z) ≡ true → There s k
   members-there most one z h = there-unless (λ e. members-none one most z e) h
@@ -152,6 +163,7 @@ module _ {s : List ℕ} {k : ℕ} (form : streamOk s ≡ true) where
   -- ---- elements
 
   module _ (one : ℕ → List Token → Bits → Outcome) (w : ℕ) (t : There s k) where
+    -- at the array's close the elements end, and the image stands
     pub elements-closed : (n p : ℕ) {image : List ℕ} → firstKind (leftAt s k) ≡ 11
         → Applied s k (k + 1) image image (elements n one w p (leftAt s k))
     elements-closed n p {image} e =
@@ -167,6 +179,7 @@ module _ {s : List ℕ} {k : ℕ} (form : streamOk s ≡ true) where
         go (yes e) = kind-there t ∙ e
         go (no e) = not-accepted (elements-full one w p (t .token) (leftAt s (k + 1)) (flat image) (t .left) e) h
 
+    -- an entry that is no close is an element's, and the other elements come after it
     pub elements-step : (n p : ℕ) (z : Bits) → (firstKind (leftAt s k) ≡ 11 → ⊥)
         → elements (suc n) one w p (leftAt s k) z ≡ andThen (one p (leftAt s k) z) (elements n one w (p + w))
     elements-step n p z e =
@@ -175,6 +188,7 @@ module _ {s : List ℕ} {k : ℕ} (form : streamOk s ≡ true) where
   -- ---- members
 
   module _ (one : Token → List Token → Bits → Outcome) (t : There s k) where
+    -- at the structure's close the members end, and the image stands
     pub members-closed : (most : ℕ) {image : List ℕ} → firstKind (leftAt s k) ≡ 9
         → Applied s k (k + 1) image image (membersIn (suc most) one (leftAt s k))
     members-closed most {image} e =
@@ -192,6 +206,7 @@ module _ {s : List ℕ} {k : ℕ} (form : streamOk s ≡ true) where
             not-accepted
             (members-other one most (t .token) (leftAt s (k + 1)) z (t .left) (λ q. n (kind-there t ∙ q)) e) h
 
+    -- an entry of kind 7 has the member that it names written, and then the other members
     pub members-step : (most : ℕ) (z : Bits) → kindOf (t .token) ≡ 7
         → membersIn (suc most) one (leftAt s k) z
         ≡ andThen (one (t .token) (leftAt s (k + 1)) z) (membersIn most one)

@@ -11,6 +11,7 @@ use borrow.Author.Tests.{eq-eqb, ne-eqb}
 use Rattle.words.specs.Bits.{Bits}
 use Rattle.types.specs.layout.Laid.{Earlier, firstBit}
 use Rattle.types.specs.tables.Lent.{memberAt, typeAt}
+use Rattle.types.specs.tables.Limits.{mostTypes}
 use Rattle.types.specs.tables.Sizes.{sizesIn}
 use Rattle.types.specs.declared.tables.member.Ty.{Ty}
 use Rattle.types.specs.declared.tables.member.Ty.the-variants as ty
@@ -20,8 +21,7 @@ use Rattle.values.specs.reading.Leaf.{str}
 use Rattle.values.specs.reading.Texts.{capacityAt}
 use Rattle.values.specs.reading.Tree.{Tree, leaf, array, struct, Branches}
 use Rattle.values.specs.reading.Trees.{isString, membersAt, knownIn, secondCount, bitTree, seen, structsTree}
-use Rattle.values.specs.reading.Trees.{valueTree}
-use Rattle.values.specs.reading.Trees.{branchesFrom, structTree, treeWithin, treeOf}
+use Rattle.values.specs.reading.Trees.{valueTree, branchesFrom, structTree, treeWithin, treeOf}
 use Rattle.values.specs.stream.Stream.{Token, payloadOf}
 use Rattle.values.specs.writing.Writing.{bad, write, writeBranch}
 use Rattle.values.proofs.reading.SpanLaws.{capacity-is}
@@ -56,7 +56,7 @@ module _ (types members : List ℕ) (f g : ℕ → Tree) (i : ℕ) (same : (s : 
       (rows-same 0 (typeAt types i .first) (typeAt types i .count) (λ k l. w .each k l .earlier))
 
 -- any depth above the structure's number is enough
-within-same : (types members : List ℕ) → Walkable types members → (f g i : ℕ) → i < 200 → i < f → i < g
+within-same : (types members : List ℕ) → Walkable types members → (f g i : ℕ) → i < mostTypes → i < f → i < g
     → treeWithin (knownIn types members) f i ≡ treeWithin (knownIn types members) g i
 unfolding treeWithin
 within-same types members w zero g i a b c = absurd (let z : ⊥ = omega arith in z)
@@ -65,15 +65,16 @@ within-same types members w (suc f) (suc g) i a b c =
     struct-same types members (treeWithin (knownIn types members) f) (treeWithin (knownIn types members) g) i
     (λ s l. within-same types members w f g s (omega arith) (omega arith) (omega arith)) (w .each i a)
 
-module _ (types members : List ℕ) (w : Walkable types members) (i : ℕ) (low : i < 200) where
+module _ (types members : List ℕ) (w : Walkable types members) (i : ℕ) (low : i < mostTypes) where
   -- a structure's tree is what its rows say
   tree-is : treeIn types members i ≡ structTree (treeIn types members) (knownIn types members i)
   unfolding treeOf treeWithin
   tree-is =
       struct-same types members (treeWithin (knownIn types members) 199) (treeIn types members) i
-      (λ s l. unfold treeOf in within-same types members w 199 200 s (omega arith) (omega arith) (omega arith))
+      (λ s l. unfold treeOf in within-same types members w 199 mostTypes s (omega arith) (omega arith) (omega arith))
       (w .each i low)
 
+  -- a string's tree is a leaf of its capacity
   pub string-tree : isString (typeAt types i .kind) ≡ true
       → treeIn types members i ≡ leaf (str (capacityAt members (typeAt types i .first)))
   unfolding structTree knownIn
@@ -81,6 +82,7 @@ module _ (types members : List ℕ) (w : Walkable types members) (i : ℕ) (low 
       tree-is
       ∙ rw (e, capacity-is members (typeAt types i .first) (typeAt types i .count) (w .each i low .string e .rows)) refl
 
+  -- the tree of any other structure has its size and its rows' branches
   pub members-tree : isString (typeAt types i .kind) ≡ false
       → treeIn types members i ≡ struct (8 * sizesIn types i) (branchesIn types members i)
   unfolding structTree knownIn

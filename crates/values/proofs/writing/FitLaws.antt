@@ -16,17 +16,15 @@ use Rattle.words.proofs.WordLaws.{word-below}
 use Rattle.types.specs.atomics.Atomic.{bitString, sizeOf}
 use Rattle.types.specs.declared.atomics.atomic.Atomic.{Atomic}
 use Rattle.types.specs.declared.atomics.atomic.Atomic.the-variants as atomic
-use Rattle.values.specs.inside.writing.Effects.{Judged, kept, set, refused}
-use Rattle.values.specs.inside.writing.Effects.{atomicTakes}
+use Rattle.values.specs.inside.writing.Effects.{Judged, kept, set, refused, atomicTakes}
 use Rattle.values.specs.inside.writing.Limits.{aboveMisfit, signedMisfit, wholeMisfit, limitsOf, misfit, oneKind}
 use Rattle.values.specs.inside.writing.Limits.{wholes}
 use Rattle.values.specs.inside.writing.Passes.{Checked, accepted, firstKind, leftAt}
 use Rattle.values.specs.reading.Leaf.{flag}
 use Rattle.values.specs.stream.Form.{countIn, streamOk}
 use Rattle.values.specs.stream.Stream.{Token, kindOf, payloadOf, bodyOf}
-use Rattle.values.specs.writing.Effects.{Effect, keep, put, refuse}
-use Rattle.values.specs.writing.Effects.{payloadBits, textBits, isWhole, ofKind, inRange, whole, taken}
-use Rattle.values.specs.writing.Effects.{orNull, asText}
+use Rattle.values.specs.writing.Effects.{Effect, keep, put, refuse, payloadBits, textBits, isWhole, ofKind}
+use Rattle.values.specs.writing.Effects.{inRange, whole, taken, orNull, asText}
 use Rattle.values.specs.writing.Writing.{onEffect, writeOne}
 use Rattle.values.specs.declared.writing.limits.Limits.{Limits}
 use Rattle.values.proofs.stream.LeftLaws.{There, kind-there, payloadAt, there}
@@ -39,6 +37,7 @@ pub null-keeps : (takes : Token → Effect) (t : Token) → kindOf t ≡ 0 → o
 unfolding orNull
 null-keeps takes t e = rw (eq-eqb (kindOf t) 0 e) refl
 
+-- an entry that is no null does the same where null is taken as where it is not
 pub not-null : (takes : Token → Effect) (t : Token) → (kindOf t ≡ 0 → ⊥) → orNull takes t ≡ takes t
 unfolding orNull
 not-null takes t e = rw (ne-eqb (kindOf t) 0 e) refl
@@ -166,6 +165,7 @@ shape atomic.LWord = bits-shape 64 (omega arith)
 
 -- ---- no atomic takes a text, a member, or a bracket
 
+-- for a text, a member number or a bracket the limits of every atomic say 18
 pub above-misfits : (a : Atomic) (kind x : ℕ) → 6 ≤ kind → misfit (limitsOf a) kind x ≡ 18
 unfolding misfit wholeMisfit
 above-misfits a kind x l = go (shape a)
@@ -177,6 +177,7 @@ above-misfits a kind x l = go (shape a)
     go (one k n h e g) = rw (g, not 0 (omega arith), ne-eqb k 2 n, not k h) refl
     go (range low high under most a b e g) = rw (g, not 0 (omega arith), not 2 (omega arith), not 3 (omega arith)) refl
 
+-- every atomic refuses a text, a member number or a bracket with 18
 pub above-refused : (a : Atomic) (t : Token) → 6 ≤ kindOf t → atomicTakes a t ≡ refuse 18
 unfolding ofKind whole
 above-refused a t l = go (shape a)
@@ -222,6 +223,7 @@ small-if : (b : Bool) {x y : ℕ} → x < 20 → y < 20 → cond b x y < 20
 small-if true l h = l
 small-if false l h = h
 
+-- the number that the limits say is below 20
 pub misfit-small : (f : Limits) (kind x : ℕ) {number : ℕ} → number ≡ misfit f kind x → number < 20
 unfolding misfit wholeMisfit signedMisfit aboveMisfit
 misfit-small f kind x e =
@@ -278,6 +280,7 @@ module _ (capacity : ℕ) (t : Token) where
   pub text-null : kindOf t ≡ 0 → Judged (orNull (asText capacity) t) 0
   text-null k = kept refl (null-keeps (asText capacity) t k)
 
+  -- a text that is not too long is taken
   pub text-fits : kindOf t ≡ 6 → length (bodyOf t) ≤ capacity → Judged (orNull (asText capacity) t) 0
   unfolding asText
   text-fits k l =
@@ -285,6 +288,7 @@ module _ (capacity : ℕ) (t : Token) where
       (set refl (textBits (bodyOf t))
       (rw (eq-eqb (kindOf t) 6 k, le-leb (length (bodyOf t)) capacity l) refl))
 
+  -- a text that is longer than the capacity is refused with 21
   pub text-long : kindOf t ≡ 6 → capacity < length (bodyOf t) → Judged (orNull (asText capacity) t) 21
   unfolding asText
   text-long k l =

@@ -11,11 +11,10 @@ use Rattle.values.specs.reading.Leaf.{Leaf, flag, byte, int, word, str, 
 use Rattle.values.specs.reading.Tree.{Tree, leaf, bits, array, struct, Branches, none, branch, span}
 use Rattle.values.specs.stream.Stream.{Token, kindOf, payloadOf, bodyOf}
 use Rattle.values.specs.writing.Effects.{Effect, keep, put, refuse, ofKind, isWhole, inRange, whole, asText}
-use Rattle.values.specs.writing.Effects.{taken}
-use Rattle.values.specs.writing.Effects.{bitsWhole, orNull, payloadBits, textBits}
+use Rattle.values.specs.writing.Effects.{taken, bitsWhole, orNull, payloadBits, textBits}
 use Rattle.values.specs.writing.Writing.{Outcome, ok, bad, andThen, onEffect, writeOne, opened, elements}
-use Rattle.values.specs.writing.Writing.{membersIn}
-use Rattle.values.specs.writing.Writing.{boolsIn, wholesIn, firstIs, noBits, rest, writeBits, write, writeBranch}
+use Rattle.values.specs.writing.Writing.{membersIn, boolsIn, wholesIn, firstIs, noBits, rest, writeBits, write}
+use Rattle.values.specs.writing.Writing.{writeBranch}
 
 abbrev Entry : ℕ → Type 0
 Entry number = (18 ≤ number) × (number ≤ 21)
@@ -171,6 +170,7 @@ mutual
       either Numbered (eqb (payloadOf 0 t) j) (write tree (p + o) ts z) (writeBranch bs p t ts z)
       (tree-numbered tree (p + o) ts z) (branch-numbered bs p t ts z)
 
+-- what a write of a tree refuses has a number from 18 to 21
 pub bad-number : (t : Tree) (p : ℕ) (ts : List Token) (z : Bits) {number : ℕ} {us : List Token}
     → write t p ts z ≡ bad number us → (18 ≤ number) × (number ≤ 21)
 bad-number t p ts z {number} {us} e = go (write t p ts z) e (tree-numbered t p ts z)

@@ -1,16 +1,16 @@
 -- A write changes only held bits (document 01, "Writing", "Normal image": the bits that a value holds): every other bit
 -- stands as it stood.
-use Prim.Native.Nat.{ℕ, zero, suc, _+_, _*_, _<_, _≤_}
-use native.Mathlib.Decide.{decLt}
+use Prim.Native.Nat.{ℕ, zero, suc, _+_, _*_}
 use native.Mathlib.Nat.{mul-suc}
 use native.Mathlib.Omega.{arith}
-use mathlib.Core.Path.{_≡_, refl, sym, ap, _∙_}
-use mathlib.Core.Bool.{Bool, true, false, cond, _||_, true≢false}
+use mathlib.Core.Bool.{Bool, true, false, cond}
 use mathlib.Core.List.{List, [], _∷_, _++_}
+use mathlib.Core.Path.{_≡_, refl, sym, ap, _∙_}
 use lib.Dec.{eqb}
 use lib.ListN.{length}
 use Rattle.words.specs.Bits.{Bits, inside, stamp}
-use Rattle.words.proofs.BitLaws.{Lies, among, beside, lies}
+use Rattle.words.proofs.StampLaws.{not-inside, first-part, second-part, both-parts, stamp-beside}
+use Rattle.words.proofs.TestLaws.{or-first, or-second, or-none}
 use Rattle.values.specs.normal_image.Normal.{held}
 use Rattle.values.specs.reading.Leaf.{Leaf, flag, width}
 use Rattle.values.specs.reading.Tree.{Tree, leaf, bits, array, struct, Branches, none, branch, allBits, span}
@@ -18,51 +18,14 @@ use Rattle.values.specs.reading.Tree.{Item, say, at, each, between, oneF
 use Rattle.values.specs.stream.Stream.{Token, kindOf, payloadOf, mark}
 use Rattle.values.specs.writing.Effects.{Effect, keep, put, refuse, orNull, taken, bitsWhole}
 use Rattle.values.specs.writing.Writing.{Outcome, ok, bad, andThen, onEffect, writeOne, opened, elements}
-use Rattle.values.specs.writing.Writing.{membersIn}
-use Rattle.values.specs.writing.Writing.{boolsIn, wholesIn, firstIs, noBits, rest, writeBits, write, writeBranch}
+use Rattle.values.specs.writing.Writing.{membersIn, boolsIn, wholesIn, firstIs, noBits, rest, writeBits, write}
+use Rattle.values.specs.writing.Writing.{writeBranch}
 
 -- ---- bits that are not among some others
 
-outside : (p n k : ℕ) → inside p n k ≡ false → p ≤ k → k < p + n → ⊥
-outside p n k h = go (lies p n k)
-  where
-    go : Lies p n k → p ≤ k → k < p + n → ⊥
-    go (among a b e) = λ c d. true≢false (sym e ∙ h)
-    go (beside f e) = f
-
-pub not-inside : (p n k : ℕ) → (p ≤ k → k < p + n → ⊥) → inside p n k ≡ false
-not-inside p n k h = go (lies p n k)
-  where
-    go : Lies p n k → inside p n k ≡ false
-    go (among a b e) = absurd (h a b)
-    go (beside f e) = e
-
-first-part : (p m n k : ℕ) → inside p (m + n) k ≡ false → inside p m k ≡ false
-first-part p m n k h = not-inside p m k (λ a b. outside p (m + n) k h a (omega arith))
-
-second-part : (p m n k : ℕ) → inside p (m + n) k ≡ false → inside (p + m) n k ≡ false
-second-part p m n k h = not-inside (p + m) n k (λ a b. outside p (m + n) k h (omega arith) (omega arith))
-
-both-parts : (p m n k : ℕ) → inside p m k ≡ false → inside (p + m) n k ≡ false → inside p (m + n) k ≡ false
-both-parts p m n k h g = not-inside p (m + n) k (λ a b. go a b (decLt k (p + m)))
-  where
-    go : p ≤ k → k < p + (m + n) → Dec (k < p + m) → ⊥
-    go a b (yes l) = outside p m k h a l
-    go a b (no l) = outside (p + m) n k g (omega (arith, l)) (omega arith)
-
 -- ---- bits that some items do not hold
 
-pub or-first : (a b : Bool) → (a || b) ≡ false → a ≡ false
-or-first true b e = e
-or-first false b e = refl
-
-pub or-second : (a b : Bool) → (a || b) ≡ false → b ≡ false
-or-second true b e = absurd (true≢false e)
-or-second false b e = e
-
-pub or-none : (a b : Bool) → a ≡ false → b ≡ false → (a || b) ≡ false
-or-none a b e f = rw (e, f) refl
-
+-- a bit that two lists of items do not hold is not held by the first
 pub held-first : (a b : List Item) (k : ℕ) → held (a ++ b) k ≡ false → held a k ≡ false
 unfolding held
 held-first [] b k e = refl
@@ -71,6 +34,7 @@ held-first (at p l ∷ a) b k e =
     or-none (inside p (width l) k) (held a k) (or-first (inside p (width l) k) (held (a ++ b) k) e)
     (held-first a b k (or-second (inside p (width l) k) (held (a ++ b) k) e))
 
+-- a bit that two lists of items do not hold is not held by the second
 pub held-second : (a b : List Item) (k : ℕ) → held (a ++ b) k ≡ false → held b k ≡ false
 unfolding held
 held-second [] b k e = e
@@ -115,10 +79,6 @@ keeps-then : (k : ℕ) (z : Bits) (o : Outcome) (next : List Token → Bits → 
     → Keeps k z (andThen o next)
 keeps-then k z (ok ts y) next h steady = keeps-from k z y (next ts y) h (steady ts y)
 keeps-then k z (bad number ts) next h steady = tt
-
-stamp-beside : (p n : ℕ) (b z : Bits) (k : ℕ) → inside p n k ≡ false → stamp p n b z k ≡ z k
-unfolding stamp
-stamp-beside p n b z k e = rw e refl
 
 keeps-effect : (e : Effect) (w p : ℕ) (t : Token) (ts : List Token) (z : Bits) (k : ℕ) → inside p w k ≡ false
     → Keeps k z (onEffect e w p t ts z)

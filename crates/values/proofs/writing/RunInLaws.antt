@@ -105,11 +105,13 @@ pub run-bools : (a : Atomic) (n p : ℕ) (ts : List Token) (z : Bits) → bitStr
 unfolding runIn
 run-bools a n p ts z e h = rw (e, first-is 1 ts (omega arith) h) refl
 
+-- a run of bit strings whose first entry is no bool is a whole number or null for each
 pub run-wholes : (a : Atomic) (n p : ℕ) (ts : List Token) (z : Bits) → bitString a ≡ true → (firstKind ts ≡ 1 → ⊥)
     → runIn a n p ts z ≡ elements n (writeOne (orNull (atomicTakes a)) (8 * sizeOf a)) (8 * sizeOf a) p ts z
 unfolding runIn
 run-wholes a n p ts z e h = rw (e, first-not 1 ts h) refl
 
+-- a run of atomics that are no bit strings is one entry or null for each
 pub run-numbers : (a : Atomic) (n p : ℕ) (ts : List Token) (z : Bits) → bitString a ≡ false
     → runIn a n p ts z ≡ elements n (writeOne (orNull (atomicTakes a)) (8 * sizeOf a)) (8 * sizeOf a) p ts z
 unfolding runIn
@@ -117,6 +119,7 @@ run-numbers a n p ts z e = rw e refl
 
 -- ---- many
 
+-- an array of atomics is written as a null, or as an opening and the run inside
 pub array-is : (a : Atomic) (n p : ℕ) (ts : List Token) (z : Bits) → 0 < n
     → write (atomicsTree a n) p ts z ≡ opened 10 (runIn a n p) ts z
 array-is a zero p ts z l = absurd (let z : ⊥ = omega arith in z)
@@ -134,6 +137,7 @@ array-is a (suc n) p ts z l = go (bitString a) refl
 
 -- ---- one
 
+-- one atomic that is no bit string is written by one entry or null
 pub one-is-leaf : (a : Atomic) (p : ℕ) (ts : List Token) (z : Bits) → bitString a ≡ false
     → write (atomicsTree a 0) p ts z ≡ writeOne (orNull (atomicTakes a)) (8 * sizeOf a) p ts z
 one-is-leaf a p ts z e = ap (λ (t : Tree). write t p ts z) (one-tree a e) ∙ leaf-one a p ts z e

@@ -14,6 +14,7 @@ use Rattle.types.specs.atomics.Atomic.{sizeOf}
 use Rattle.types.specs.layout.Laid.{firstBit}
 use Rattle.types.specs.layout.Placing.{times}
 use Rattle.types.specs.tables.Lent.{memberAt, typeAt}
+use Rattle.types.specs.tables.Limits.{mostTypes}
 use Rattle.types.specs.tables.Sizes.{sizeIn, sizesIn}
 use Rattle.types.specs.declared.atomics.atomic.Atomic.{Atomic}
 use Rattle.types.specs.declared.tables.member.Bit.the-variants.{None}
@@ -63,9 +64,11 @@ module _ {types members : List ℕ} (w : Walkable types members) {i base : ℕ} 
       capacity-is : capacity ≡ capacityAt members (typeAt types i .first)
       capacity-is = q ∙ ap (capacityAt members) first-is
 
+      -- LEN and DATA of the string lie in the image
       pub text-fits : base + 4 + capacity ≤ length image
       text-fits = omega (arith, capacity-is, here .inside, type-string .size)
 
+      -- writing the string is writing one text or null of its capacity
       pub text-write : (p : ℕ) (ts : List Token) (z : Bits)
           → write (treeIn types members i) p ts z
           ≡ writeOne (orNull (asText capacity)) (32 + 8 * capacity) p ts z
@@ -79,10 +82,12 @@ module _ {types members : List ℕ} (w : Walkable types members) {i base : ℕ} 
 -- where m was read from it
 module _ {types members : List ℕ} {i row : ℕ} {m : Member} (nested : NestedRow types members i row)
     (is : m ≡ memberAt members row) where
+  -- the member of such a row is no atomic
   pub not-atomic : {a : Atomic} → m .ty ≡ ty.Atomic a → ⊥
   not-atomic {a} e =
       never-atomic (memberAt members row) (nested .nested) a (ap (λ (x : Member). x .ty) (sym is) ∙ e)
 
+  -- it begins in the image
   pub start-fits : {base start : ℕ} {image : List ℕ} → Here types i base image → start ≡ m .offset
       → base + start ≤ length image
   start-fits here o =
@@ -97,6 +102,7 @@ pub record Holds (types members : List ℕ) (i row base : ℕ) (image : List ℕ
   pub at : start ≡ memberAt members row .offset
   pub count : n ≡ memberAt members row .count
 
+-- a row that was read holds the structure of its type, at the place and the count that were read
 pub holds : {types members : List ℕ} {i row base : ℕ} {image : List ℕ} {t start n : ℕ} {m : Member}
     → NestedRow types members i row → Here types i base image → m ≡ memberAt members row → start ≡ m .offset
     → n ≡ m .count → m .ty ≡ ty.Struct t → Holds types members i row base image t start n
@@ -117,10 +123,11 @@ module _ {types members : List ℕ} {i row base : ℕ} {image : List ℕ} {t sta
   whole : m .bit ≡ None
   whole = nested-whole m (w .nested .nested)
 
+  -- the structure that a row holds is an earlier one
   pub held-below : t < i
   held-below = nested-earlier (w .nested) (w .type)
 
-  held-low : t < 200
+  held-low : t < mostTypes
   held-low = omega (arith, held-below, w .nested .row-of .low)
 
   -- it lies inside the image
@@ -139,12 +146,14 @@ module _ {types members : List ℕ} {i row base : ℕ} {image : List ℕ} {t sta
   held-at = rw whole (omega (arith, w .at))
 
   module _ (none : n ≡ 0) where
+    -- count 0: the bytes of one structure lie in the image
     pub one-here : Here types t (base + start) image
     one-here =
         let e : sizesIn types t ≡ sizesIn types t * times n
         = sym (mul-one (sizesIn types t)) ∙ ap (λ (k : ℕ). sizesIn types t * k) (times-one n none) in
         record { low = held-low; inside = omega (arith, held-inside) }
 
+    -- count 0: writing the member is writing the structure at its start
     pub one-write : (ts : List Token) (z : Bits)
         → write (memberTree (treeIn types members) m) (8 * base + firstBit m) ts z
         ≡ write (treeIn types members t) (8 * (base + start)) ts z
@@ -152,12 +161,14 @@ module _ {types members : List ℕ} {i row base : ℕ} {image : List ℕ} {t sta
     one-write ts z = rw (held-tree, held-at, eq-eqb n 0 none) refl
 
   module _ (some : n ≡ 0 → ⊥) where
+    -- any other count: the bytes of so many structures lie in the image
     pub all-here : AllHere types t n (base + start) image
     all-here =
         let e : sizesIn types t * n ≡ sizesIn types t * times n
         = ap (λ (k : ℕ). sizesIn types t * k) (times-same n some) in
         record { low = held-low; inside = omega (arith, held-inside) }
 
+    -- any other count: writing the member is writing an array of the structure at its start
     pub all-write : (ts : List Token) (z : Bits)
         → write (memberTree (treeIn types members) m) (8 * base + firstBit m) ts z
         ≡ write (array n (treeIn types members t)) (8 * (base + start)) ts z
@@ -166,10 +177,12 @@ module _ {types members : List ℕ} {i row base : ℕ} {image : List ℕ} {t sta
 
 -- ---- a value is an atomic or a structure, one or an array
 
+-- the bytes of a value's atomics are in its image
 pub atomics-fit : {types : List ℕ} {n : ℕ} {image : List ℕ} {t : Ty} {a : Atomic} → ValueImage types t n image
     → t ≡ ty.Atomic a → sizeOf a * times n ≤ length image
 atomics-fit v is = let w = rw is at v in omega (arith, w .long)
 
+-- where a value has fewer than 2^64 bytes, its atomic's size times its count is below 2^64
 pub atomics-few : (types : List ℕ) (n : ℕ) {t : Ty} {a : Atomic} → sizeIn (sizesIn types) t * times n < 2 ^ 64
     → t ≡ ty.Atomic a → sizeOf a * n < 2 ^ 64
 atomics-few types n {t} {a} l is = go (ℕ-discrete n 0)
@@ -183,18 +196,20 @@ atomics-few types n {t} {a} l is = go (ℕ-discrete n 0)
 
 module _ {types : List ℕ} {n : ℕ} {image : List ℕ} {t : Ty} {i : ℕ} (v : ValueImage types t n image)
     (is : t ≡ ty.Struct i) where
-  value-low : i < 200
+  value-low : i < mostTypes
   value-low = rw is at (v .fits)
 
   value-long : length image ≡ sizesIn types i * times n
   value-long = rw is at (v .long)
 
+  -- a value that is one structure lies in its image from byte 0 on
   pub value-here : n ≡ 0 → Here types i 0 image
   value-here none =
       let e : sizesIn types i ≡ sizesIn types i * times n
       = sym (mul-one (sizesIn types i)) ∙ ap (λ (k : ℕ). sizesIn types i * k) (times-one n none) in
       record { low = value-low; inside = omega (arith, value-long) }
 
+  -- a value that is an array of structures lies in its image from byte 0 on
   pub values-here : (n ≡ 0 → ⊥) → AllHere types i n 0 image
   values-here some =
       let e : sizesIn types i * n ≡ sizesIn types i * times n
@@ -202,16 +217,19 @@ module _ {types : List ℕ} {n : ℕ} {image : List ℕ} {t : Ty} {i : ℕ} (v :
       record { low = value-low; inside = omega (arith, value-long) }
 
 module _ (types members : List ℕ) (n : ℕ) (ts : List Token) (z : Bits) {t : Ty} where
+  -- writing a value of an atomic type is writing these atomics
   pub atomics-write : {a : Atomic} → t ≡ ty.Atomic a
       → write (treeOfValue (knownIn types members) t n) 0 ts z ≡ write (atomicsTree a n) 0 ts z
   unfolding treeOfValue
   atomics-write is = rw is refl
 
+  -- writing a value of a structure type and count 0 is writing that structure
   pub value-write : {i : ℕ} → t ≡ ty.Struct i → n ≡ 0
       → write (treeOfValue (knownIn types members) t n) 0 ts z ≡ write (treeIn types members i) 0 ts z
   unfolding treeOfValue structsTree
   value-write is none = rw (is, eq-eqb n 0 none) refl
 
+  -- writing a value of a structure type and any other count is writing an array of it
   pub values-write : {i : ℕ} → t ≡ ty.Struct i → (n ≡ 0 → ⊥)
       → write (treeOfValue (knownIn types members) t n) 0 ts z ≡ write (array n (treeIn types members i)) 0 ts z
   unfolding treeOfValue structsTree

@@ -1,6 +1,6 @@
 -- The check step by step (document 01, "Writing"): how an answer at one entry is an answer at an earlier one, and what
 -- the steps of writing answer where an entry is missing, refused, or taken.
-use Prim.Native.Nat.{ℕ, suc, _+_, _-_, _*_, _/_, _%_, _^_, _<_, _≤_}
+use Prim.Native.Nat.{ℕ, suc, _+_, _*_, _/_, _%_, _^_, _<_, _≤_}
 use native.Mathlib.Decide.{decLt}
 use native.Mathlib.Omega.{arith}
 use mathlib.Core.Path.{_≡_, refl, sym, ap, _∙_}
@@ -15,9 +15,9 @@ use Rattle.values.specs.writing.Effects.{Effect}
 use Rattle.values.specs.writing.Writing.{Outcome, ok, bad, andThen, writeOne, opened, elements, membersIn}
 use Rattle.values.proofs.stream.LeftLaws.{There, by-kind, few-entries, kind-there, none-left, there}
 use Rattle.values.proofs.writing.OutcomeLaws.{one-is, one-none, opened-none, opened-null, opened-inner}
-use Rattle.values.proofs.writing.OutcomeLaws.{opened-other}
-use Rattle.values.proofs.writing.OutcomeLaws.{elements-none, elements-close, elements-full, elements-next}
-use Rattle.values.proofs.writing.OutcomeLaws.{members-none, members-close, members-next, members-other}
+use Rattle.values.proofs.writing.OutcomeLaws.{opened-other, elements-none, elements-close, elements-full}
+use Rattle.values.proofs.writing.OutcomeLaws.{elements-next, members-none, members-close, members-next}
+use Rattle.values.proofs.writing.OutcomeLaws.{members-other}
 
 -- ---- answers
 
@@ -63,11 +63,13 @@ checked-as e c =
 
 -- ---- what is left: any answer from here on is an answer from the start
 
+-- at entry p the rest is left: what the check answers of it is its answer from entry k on
 pub record Onward (s : List ℕ) (k : ℕ) (f : Bits → Outcome) (p : ℕ) (g : Bits → Outcome) : Type 0 where
   pub further : k ≤ p
   pub inside : p ≤ countIn s
   pub onward : (r : ℕ) → Checked s p r g → Checked s k r f
 
+-- at the first entry all is left to be checked
 pub onward-start : {s : List ℕ} {k : ℕ} {f : Bits → Outcome} → k ≤ countIn s → Onward s k f k f
 onward-start l = record { further = omega arith; inside = l; onward = λ r c. c }
 
@@ -91,6 +93,7 @@ onward-from {s} {k} {p} {f} {g} a b e =
       };
     }
 
+-- what is left of what is left is left of the whole
 pub onward-on : {s : List ℕ} {k p q : ℕ} {f g h : Bits → Outcome} → Onward s k f p g → Onward s p g q h
     → Onward s k f q h
 onward-on a b =
@@ -122,12 +125,14 @@ refused-then next e l c =
 -- ---- one entry
 
 module _ {s : List ℕ} {k : ℕ} (form : streamOk s ≡ true) where
+  -- no entry is left: the check answers 18 at the entry count
   pub one-missing : {r : ℕ} (takes : Token → Effect) (w p : ℕ) → k ≡ countIn s → r ≡ 2 ^ 32 * 18 + k
       → Checked s k r (writeOne takes w p (leftAt s k))
   one-missing {r} takes w p e a =
       let none = none-left s k (omega arith) in
       refuses-at 18 k form (omega arith) (omega arith) a (λ z. one-none takes w p z none ∙ ap (bad 18) (sym none))
 
+  -- an entry that is judged with 0: the check goes on to the next one
   pub one-judged : {number : ℕ} (takes : Token → Effect) (w p : ℕ) (t : There s k)
       → Judged (takes (t .token)) number → number ≡ 0 → Checked s k (k + 1) (writeOne takes w p (leftAt s k))
   one-judged takes w p t (kept n e) o =
@@ -138,6 +143,7 @@ module _ {s : List ℕ} {k : ℕ} (form : streamOk s ≡ true) where
       (λ z. (stamp p w b z, one-is takes w p (t .token) (leftAt s (k + 1)) z (t .left) ∙ rw e refl))
   one-judged takes w p t (refused n e) o = absurd (let z : ⊥ = omega arith in z)
 
+  -- an entry that is judged with a refusal: the check answers its number at this entry
   pub one-refused : {r number : ℕ} (takes : Token → Effect) (w p : ℕ) (t : There s k)
       → Judged (takes (t .token)) number → (number ≡ 0 → ⊥) → r ≡ 2 ^ 32 * number + k
       → Checked s k r (writeOne takes w p (leftAt s k))
@@ -149,6 +155,7 @@ module _ {s : List ℕ} {k : ℕ} (form : streamOk s ≡ true) where
 
   -- ---- a null, or an opening
 
+  -- a null: the check goes on to the next entry
   pub opened-keeps : (start : ℕ) (inner : List Token → Bits → Outcome) → firstKind (leftAt s k) ≡ 0
       → Checked s k (k + 1) (opened start inner (leftAt s k))
   opened-keeps start inner e =
@@ -157,6 +164,7 @@ module _ {s : List ℕ} {k : ℕ} (form : streamOk s ≡ true) where
       goes-on (k + 1) form (omega arith) (let l = t .inside in omega arith)
       (λ z. (z, opened-null start inner (t .token) (leftAt s (k + 1)) z (t .left) (sym kind ∙ e)))
 
+  -- the opening: what the check answers of the inside is its answer
   pub opened-goes : {r : ℕ} (start : ℕ) (inner : List Token → Bits → Outcome) → 1 ≤ start → start < 12
       → firstKind (leftAt s k) ≡ start
       → Checked s (k + 1) r (inner (leftAt s (k + 1))) → Checked s k r (opened start inner (leftAt s k))
@@ -173,6 +181,7 @@ module _ {s : List ℕ} {k : ℕ} (form : streamOk s ≡ true) where
       ))
       .onward r c
 
+  -- neither null nor the opening, or no entry left: the check answers 18 here
   pub opened-refuses : {r : ℕ} (start : ℕ) (inner : List Token → Bits → Outcome) → k ≤ countIn s
       → (firstKind (leftAt s k) ≡ 0 → ⊥) → (firstKind (leftAt s k) ≡ start → ⊥) → r ≡ 2 ^ 32 * 18 + k
       → Checked s k r (opened start inner (leftAt s k))
@@ -192,6 +201,7 @@ module _ {s : List ℕ} {k : ℕ} (form : streamOk s ≡ true) where
   -- ---- elements
 
   module _ (one : ℕ → List Token → Bits → Outcome) (w : ℕ) where
+    -- elements, and no entry is left: the check answers 18 at the entry count
     pub elements-missing : {r : ℕ} (n p : ℕ) → k ≡ countIn s → r ≡ 2 ^ 32 * 18 + k
         → Checked s k r (elements n one w p (leftAt s k))
     elements-missing n p e a =
@@ -199,6 +209,7 @@ module _ {s : List ℕ} {k : ℕ} (form : streamOk s ≡ true) where
         refuses-at 18 k form (omega arith) (omega arith) a
         (λ z. elements-none one w n p z none ∙ ap (bad 18) (sym none))
 
+    -- the array's close: the check goes on to the next entry
     pub elements-closes : (n p : ℕ) → firstKind (leftAt s k) ≡ 11
         → Checked s k (k + 1) (elements n one w p (leftAt s k))
     elements-closes n p e =
@@ -207,6 +218,7 @@ module _ {s : List ℕ} {k : ℕ} (form : streamOk s ≡ true) where
         goes-on (k + 1) form (omega arith) (let l = t .inside in omega arith)
         (λ z. (z, elements-close one w n p (t .token) (leftAt s (k + 1)) z (t .left) (sym kind ∙ e)))
 
+    -- past the last place an entry that is no close: the check answers 20 here
     pub elements-refuse : {r : ℕ} (p : ℕ) (t : There s k) → (firstKind (leftAt s k) ≡ 11 → ⊥) → r ≡ 2 ^ 32 * 20 + k
         → Checked s k r (elements 0 one w p (leftAt s k))
     elements-refuse p t a e =
@@ -214,6 +226,7 @@ module _ {s : List ℕ} {k : ℕ} (form : streamOk s ≡ true) where
         refuses-at 20 k form (let l = t .inside in omega arith) (omega arith) e
         (λ z. elements-full one w p (t .token) (leftAt s (k + 1)) z (t .left) (λ q. a (kind ∙ q)))
 
+    -- an entry that is no close is an element's, and the other elements come after it
     pub elements-go : (n p : ℕ) (t : There s k) → (firstKind (leftAt s k) ≡ 11 → ⊥) → (z : Bits)
         → elements (suc n) one w p (leftAt s k) z ≡ andThen (one p (leftAt s k) z) (elements n one w (p + w))
     elements-go n p t a z =
@@ -223,6 +236,7 @@ module _ {s : List ℕ} {k : ℕ} (form : streamOk s ≡ true) where
   -- ---- members
 
   module _ (one : Token → List Token → Bits → Outcome) where
+    -- members, and no entry is left: the check answers 18 at the entry count
     pub members-missing : {r : ℕ} (most : ℕ) → k ≡ countIn s → r ≡ 2 ^ 32 * 18 + k
         → Checked s k r (membersIn most one (leftAt s k))
     members-missing most e a =
@@ -230,6 +244,7 @@ module _ {s : List ℕ} {k : ℕ} (form : streamOk s ≡ true) where
         refuses-at 18 k form (omega arith) (omega arith) a
         (λ z. members-none one most z none ∙ ap (bad 18) (sym none))
 
+    -- the structure's close: the check goes on to the next entry
     pub members-closes : (most : ℕ) → firstKind (leftAt s k) ≡ 9
         → Checked s k (k + 1) (membersIn (suc most) one (leftAt s k))
     members-closes most e =
@@ -238,6 +253,7 @@ module _ {s : List ℕ} {k : ℕ} (form : streamOk s ≡ true) where
         goes-on (k + 1) form (omega arith) (let l = t .inside in omega arith)
         (λ z. (z, members-close one most (t .token) (leftAt s (k + 1)) z (t .left) (sym kind ∙ e)))
 
+    -- neither the close nor a member number: the check answers 18 here
     pub members-refuse : {r : ℕ} (most : ℕ) (t : There s k) → (firstKind (leftAt s k) ≡ 9 → ⊥)
         → (firstKind (leftAt s k) ≡ 7 → ⊥) → r ≡ 2 ^ 32 * 18 + k
         → Checked s k r (membersIn (suc most) one (leftAt s k))
@@ -246,6 +262,7 @@ module _ {s : List ℕ} {k : ℕ} (form : streamOk s ≡ true) where
         refuses-at 18 k form (let l = t .inside in omega arith) (omega arith) e
         (λ z. members-other one most (t .token) (leftAt s (k + 1)) z (t .left) (λ q. a (kind ∙ q)) (λ q. b (kind ∙ q)))
 
+    -- an entry of kind 7 has the member that it names written, and then the other members
     pub members-go : (most : ℕ) (t : There s k) → firstKind (leftAt s k) ≡ 7 → (z : Bits)
         → membersIn (suc most) one (leftAt s k) z
         ≡ andThen (one (t .token) (leftAt s (k + 1)) z) (membersIn most one)

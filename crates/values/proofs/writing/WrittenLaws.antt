@@ -101,6 +101,7 @@ module _ (types members : List ℕ) (t : Ty) (n : ℕ) (s image : List ℕ) (for
       at-bad (EntryMisfit place) low (omega arith) over
 
   module _ {r : ℕ} (c : Checked s 0 r entries) (l : r < 2 ^ 32) (all : countIn s ≤ r) where
+    -- where the check went past the last entry, the entries are accepted over this image
     pub all-accepted : accepted (entries (flat image)) ≡ true
     all-accepted = ap accepted (c .goes l .gives (flat image) .1)
 
@@ -122,20 +123,24 @@ module _ (types members : List ℕ) (t : Ty) (n : ℕ) (s image : List ℕ) (for
 -- ---- the call
 
 module _ (types members : List ℕ) (t : Ty) (n : ℕ) (s image : List ℕ) where
+  -- the way out with 15: no such type, and the image is as it was
   pub no-type : isThere types t ≡ false → Done types members t n s image (Refused NoSuchType) image
   unfolding writeResult
   no-type e = record { answer = rw e refl; leaves = rw e refl }
 
   module _ (there-is : isThere types t ≡ true) where
+    -- the way out with 14: the image's length does not fit, and the image is as it was
     pub no-image : imageFits types t n image ≡ false → Done types members t n s image (Refused ImageLength) image
     unfolding writeResult
     no-image e = record { answer = rw (there-is, e) refl; leaves = rw (there-is, e) refl }
 
+    -- the way out with 17: the stream is malformed, and the image is as it was
     pub no-stream : imageFits types t n image ≡ true → streamOk s ≡ false
         → Done types members t n s image (Refused StreamMalformed) image
     unfolding writeResult
     no-stream e f = record { answer = rw (there-is, e, f) refl; leaves = rw (there-is, e, f) refl }
 
+    -- past these three tests the call answers and leaves what the entries do
     pub entered-done : {r : Taken} {new : List ℕ} → imageFits types t n image ≡ true → streamOk s ≡ true
         → Entered types members t n s image r new → Done types members t n s image r new
     unfolding writeResult

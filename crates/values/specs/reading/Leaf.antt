@@ -8,11 +8,17 @@ use Rattle.types.specs.declared.atomics.atomic.Atomic.{Atomic}
 use Rattle.types.specs.declared.atomics.atomic.Atomic.the-variants as atomic
 use Rattle.values.specs.stream.Stream.{Token, bool, number, text}
 
+-- a leaf, by the bits that it takes
 pub data Leaf : Type 0 where
+  -- a BOOL of a structure: one bit
   flag : Leaf
+  -- a BOOL outside a structure: one byte
   byte : Leaf
+  -- a signed number of so many bits
   int : ℕ → Leaf
+  -- a number without a sign, given as an entry of a kind, of so many bits
   word : ℕ → ℕ → Leaf
+  -- a string of a capacity
   str : ℕ → Leaf
 
 -- flag is a BOOL of a structure, byte a BOOL outside one, int a signed number of so many bits, word any other of a kind

@@ -17,11 +17,11 @@ use Rattle.types.specs.declared.tables.member.Ty.the-variants as ty
 use Rattle.values.specs.reading.Leaf.{clipped}
 use Rattle.values.specs.reading.Trees.{isString}
 
--- ---- strings
-
+-- min(LEN, capacity)
 abbrev pub textLength : ℕ → List ℕ → ℕ
 textLength capacity image = clipped capacity (flat image)
 
+-- the text: so many bytes of DATA, which begins after LEN
 abbrev pub textIn : ℕ → List ℕ → List ℕ
 textIn capacity image = part image 4 (textLength capacity image)
 

@@ -6,17 +6,21 @@ use Rattle.words.specs.Bits.{Bits, from}
 use Rattle.values.specs.reading.Leaf.{Leaf, flag, byte, int, word, str, emit}
 use Rattle.values.specs.stream.Stream.{Token, member, mark}
 
--- bits w n is a bit string of w bits, or n of them where n is not 0; array n has n elements; struct has a size in bits;
--- a branch of it a member's number among all, and its first bit
 mutual
+  -- the tree of a type
   pub data Tree : Type 0 where
     leaf : Leaf → Tree
+    -- a bit string of so many bits, or n of them where n is not 0
     bits : ℕ → ℕ → Tree
+    -- so many elements
     array : ℕ → Tree → Tree
+    -- a structure of so many bits
     struct : ℕ → Branches → Tree
 
+  -- the visible members of a structure
   pub data Branches : Type 0 where
     none : Branches
+    -- a member's number among all, its first bit, its tree
     branch : ℕ → ℕ → Tree → Branches → Branches
 
 -- the bits that a leaf takes: a string's DATA is rounded up to 4 bytes
@@ -39,9 +43,11 @@ span (bits w n) = allBits w n
 span (array n t) = n * span t
 span (struct size bs) = size
 
--- an entry that is the same for every image, or a leaf at a bit
+-- what a reading goes through, one after the other
 pub data Item : Type 0 where
+  -- an entry that is the same for every image
   say : Token → Item
+  -- a leaf at a bit
   at : ℕ → Leaf → Item
 
 -- n times f, from bit p on, w bits apart

@@ -7,6 +7,7 @@ use lib.Dec.{eqb}
 use Rattle.types.specs.atomics.Atomic.{bitString, sizeOf}
 use Rattle.types.specs.layout.Laid.{firstBit}
 use Rattle.types.specs.tables.Lent.{memberAt, typeAt}
+use Rattle.types.specs.tables.Limits.{mostTypes}
 use Rattle.types.specs.declared.atomics.atomic.Atomic.{Atomic}
 use Rattle.types.specs.declared.tables.member.Bit.{Bit}
 use Rattle.types.specs.declared.tables.member.Bit.the-variants.{None, At}
@@ -94,7 +95,7 @@ treeWithin known (suc f) i = structTree (treeWithin known f) (known i)
 
 -- structure i: there are at most 200
 unfoldable pub treeOf : (ℕ → Known) → ℕ → Tree
-treeOf known i = treeWithin known 200 i
+treeOf known i = treeWithin known mostTypes i
 
 -- a value
 unfoldable pub treeOfValue : (ℕ → Known) → Ty → ℕ → Tree

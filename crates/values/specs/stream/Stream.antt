@@ -7,41 +7,44 @@ use lib.ListN.{length}
 use Rattle.words.specs.Bits.{digit}
 use Rattle.words.specs.Words.{bytesOf}
 
--- an entry; a text together with its bytes
+-- an entry of a stream
 pub data Token : Type 0 where
-  null : Token
-  bool : Bool → Token
-  number : ℕ → ℕ → Token
+  -- its kind and its payload
+  plain : ℕ → ℕ → Token
+  -- a text, together with its bytes
   text : List ℕ → Token
-  member : ℕ → Token
-  mark : ℕ → Token
 
--- number k has the kinds 2 to 5: signed, unsigned, REAL bits, LREAL bits; mark k the kinds 8 to 11: structure open and
--- close, array open and close
+-- 0 null, 1 bool, 2 signed, 3 unsigned, 4 REAL bits, 5 LREAL bits, 6 text, 7 member number, 8 and 9 structure open and
+-- close, 10 and 11 array open and close
 abbrev pub kindOf : Token → ℕ
-kindOf null = 0
-kindOf (bool b) = 1
-kindOf (number k x) = k
+kindOf (plain kind x) = kind
 kindOf (text s) = 6
-kindOf (member j) = 7
-kindOf (mark k) = k
 
 -- the payload as a number of 64 bits; a text's place is the low half, its length the high one
 abbrev pub payloadOf : ℕ → Token → ℕ
-payloadOf place null = 0
-payloadOf place (bool b) = digit b
-payloadOf place (number k x) = x
+payloadOf place (plain kind x) = x
 payloadOf place (text s) = place + 2 ^ 32 * length s
-payloadOf place (member j) = j
-payloadOf place (mark k) = 0
 
 abbrev pub bodyOf : Token → List ℕ
-bodyOf null = []
-bodyOf (bool b) = []
-bodyOf (number k x) = []
+bodyOf (plain kind x) = []
 bodyOf (text s) = s
-bodyOf (member j) = []
-bodyOf (mark k) = []
+
+abbrev pub null : Token
+null = plain 0 0
+
+abbrev pub bool : Bool → Token
+bool b = plain 1 (digit b)
+
+-- of the kinds 2 to 5
+abbrev pub number : ℕ → ℕ → Token
+number kind x = plain kind x
+
+abbrev pub member : ℕ → Token
+member j = plain 7 j
+
+-- of the kinds 8 to 11
+abbrev pub mark : ℕ → Token
+mark kind = plain kind 0
 
 -- twelve bytes: the kind, three zeros, the payload
 unfoldable pub entryBytes : ℕ → ℕ → List ℕ

@@ -10,9 +10,13 @@ use Rattle.words.specs.Words.{bytesOf}
 use Rattle.values.specs.reading.Leaf.{Leaf, flag, byte, int, word, str}
 use Rattle.values.specs.stream.Stream.{Token, kindOf, payloadOf, bodyOf}
 
+-- what an entry does to its place
 pub data Effect : Type 0 where
+  -- it keeps what stands
   keep : Effect
+  -- it sets these bits
   put : Bits → Effect
+  -- it is refused, with this number
   refuse : ℕ → Effect
 
 -- the bits of an entry's payload

@@ -12,9 +12,11 @@ use Rattle.values.specs.reading.Tree.{Tree, leaf, bits, array, struct, B
 use Rattle.values.specs.stream.Stream.{Token, kindOf, payloadOf}
 use Rattle.values.specs.writing.Effects.{Effect, keep, put, refuse, orNull, taken, bitsWhole}
 
--- the entries that are left, and the image; or a refusal's number, and the entries from the bad one on
+-- what came of some entries
 pub data Outcome : Type 0 where
+  -- the entries that are left, and the image
   ok : List Token → Bits → Outcome
+  -- a refusal's number, and the entries from the bad one on
   bad : ℕ → List Token → Outcome
 
 abbrev pub andThen : Outcome → (List Token → Bits → Outcome) → Outcome

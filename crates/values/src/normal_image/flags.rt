@@ -1,8 +1,8 @@
 // The BOOLs of a structure kept aside and put back (document 01, "Normal image"), each by its number among all members,
 // while what is between the other members is cleared.
 ghost use mathlib.Core.Path.{_≡_};
-ghost use mathlib.Core.Bool.{true, cond};
 ghost use Prim.Native.Nat.{ℕ, _+_, _*_, _%_, _<_, _≤_};
+ghost use mathlib.Core.Bool.{true, cond};
 ghost use lib.ListN.{length};
 ghost use Rattle.words.specs.Bits.{flat, from, stamp};
 ghost use Rattle.types.specs.layout.Laid.{firstBit};

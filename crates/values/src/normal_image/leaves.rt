@@ -12,6 +12,7 @@ ghost use Rattle.values.specs.reading.Tree.{leaf};
 ghost use Rattle.values.specs.reading.Trees.{atomicsTree};
 use crate::reading::numbers::form_of;
 use crate::reading::rows::times_of;
+use crate::stream::kinds;
 use crate::writing::sets::clear;
 use types::Atomic;
 use words::load32;
@@ -49,7 +50,7 @@ pub fn normal_atomics(a: Atomic, n: usize, image: &mut [u8], base: usize)
 {
     let form = form_of(a);
     let kind = form.kind;
-    if kind == 1 {
+    if kind == kinds::BOOL {
         normal_bools(times_of(n), image, base);
     }
 }

@@ -6,8 +6,8 @@ ghost use Rattle.values.specs.inside.normal_image.Placed.{Sweepable};
 ghost use Rattle.values.specs.inside.reading.Walkable.{ValueImage};
 ghost use Rattle.values.specs.normal_image.Normalised.{MadeNormal, valueNormal};
 use crate::normal_image::leaves::normal_atomics;
-use crate::normal_image::structs::normal_elements;
-use crate::normal_image::structs::normal_struct;
+use crate::normal_image::walk::normal_elements;
+use crate::normal_image::walk::normal_struct;
 use crate::reading::read::is_product;
 use crate::reading::read::size_of_ty;
 use crate::reading::rows::times_of;
@@ -52,13 +52,11 @@ pub fn normal(
     ensures { λ r. ⌜ MadeNormal (now (types .entry)) (now (members .entry)) ty count (now (image .entry)) r
         (now (image .exit)) ⌝ }
 {
-    let there = is_there(types, ty);
-    if !there {
+    if !is_there(types, ty) {
         return Taken::Refused(Refusal::NoSuchType);
     }
     let n = as_size(count);
-    let fits = is_product(image.len(), size_of_ty(types, ty), times_of(n));
-    if !fits {
+    if !is_product(image.len(), size_of_ty(types, ty), times_of(n)) {
         return Taken::Refused(Refusal::ImageLength);
     }
     normal_value(types, members, ty, n, image);

@@ -11,6 +11,7 @@ ghost use Rattle.values.specs.inside.reading.Walk.{atomicsOut, bitToken,
 ghost use Rattle.values.specs.inside.stream.Laying.{Put};
 use crate::reading::runs::put_run;
 use crate::stream::entry::put_entry;
+use crate::stream::kinds;
 use types::Atomic;
 use types::is_bits;
 
@@ -27,14 +28,14 @@ fn put_eight(x: u8, out: &mut [u8], at: usize)
     requires { ⌜ at + 96 ≤ length (now out) ⌝ }
     ensures { λ _. ⌜ Put (now (out .entry)) at (upTo (bitToken (x ∷ [])) 8) (now (out .exit)) (at + 96) ⌝ }
 {
-    put_entry(out, at, 1, bit_of(x, 0));
-    put_entry(out, at + 12, 1, bit_of(x, 1));
-    put_entry(out, at + 24, 1, bit_of(x, 2));
-    put_entry(out, at + 36, 1, bit_of(x, 3));
-    put_entry(out, at + 48, 1, bit_of(x, 4));
-    put_entry(out, at + 60, 1, bit_of(x, 5));
-    put_entry(out, at + 72, 1, bit_of(x, 6));
-    put_entry(out, at + 84, 1, bit_of(x, 7));
+    put_entry(out, at, kinds::BOOL, bit_of(x, 0));
+    put_entry(out, at + 12, kinds::BOOL, bit_of(x, 1));
+    put_entry(out, at + 24, kinds::BOOL, bit_of(x, 2));
+    put_entry(out, at + 36, kinds::BOOL, bit_of(x, 3));
+    put_entry(out, at + 48, kinds::BOOL, bit_of(x, 4));
+    put_entry(out, at + 60, kinds::BOOL, bit_of(x, 5));
+    put_entry(out, at + 72, kinds::BOOL, bit_of(x, 6));
+    put_entry(out, at + 84, kinds::BOOL, bit_of(x, 7));
 }
 
 // All bits of some bytes as an array.
@@ -43,7 +44,7 @@ fn put_bits(s: &[u8], out: &mut [u8], at: usize) -> usize
     ensures { λ r. ⌜ Put (now (out .entry)) at (bitsOut (now (s .entry)) (8 * length (now (s .entry))))
         (now (out .exit)) r ⌝ }
 {
-    put_entry(out, at, 10, 0);
+    put_entry(out, at, kinds::ARRAY_OPEN, 0);
     let mut p = at + 12;
     let mut i: usize = 0;
     while i < s.len() {
@@ -51,7 +52,7 @@ fn put_bits(s: &[u8], out: &mut [u8], at: usize) -> usize
         p += 96;
         i += 1;
     }
-    put_entry(out, p, 11, 0);
+    put_entry(out, p, kinds::ARRAY_CLOSE, 0);
     p + 12
 }
 
@@ -61,9 +62,9 @@ fn put_numbers(a: Atomic, n: usize, s: &[u8], out: &mut [u8], at: usize) -> usiz
         × (at + 12 * length (numbersOut a n (now s)) ≤ length (now out)) ⌝ }
     ensures { λ r. ⌜ Put (now (out .entry)) at (numbersOut a n (now (s .entry))) (now (out .exit)) r ⌝ }
 {
-    put_entry(out, at, 10, 0);
+    put_entry(out, at, kinds::ARRAY_OPEN, 0);
     let p = put_run(a, n, s, out, at + 12);
-    put_entry(out, p, 11, 0);
+    put_entry(out, p, kinds::ARRAY_CLOSE, 0);
     p + 12
 }
 
@@ -73,8 +74,7 @@ pub fn put_atomics(a: Atomic, n: usize, s: &[u8], out: &mut [u8], at: usize) -> 
         × (at + 12 * length (atomicsOut a n (now s)) ≤ length (now out)) ⌝ }
     ensures { λ r. ⌜ Put (now (out .entry)) at (atomicsOut a n (now (s .entry))) (now (out .exit)) r ⌝ }
 {
-    let bits = is_bits(a);
-    if bits {
+    if is_bits(a) {
         return put_bits(s, out, at);
     }
     if n == 0 {

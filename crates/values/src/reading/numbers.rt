@@ -5,6 +5,7 @@ ghost use Prim.Native.Nat.{_+_, _^_, _<_};
 ghost use Rattle.words.specs.Bits.{digit};
 ghost use Rattle.values.specs.inside.reading.Numbers.{formOf, extended};
 ghost use Rattle.values.specs.reading.Leaf.{isTrue};
+use crate::stream::kinds;
 use types::Atomic;
 
 // The kind of a number's entry; from which number on it is negative, and what then stands above it.
@@ -29,7 +30,7 @@ fn signed(half: u64, fill: u64) -> Form
     ensures { λ r. ⌜ r ≡ record { kind = 2; half = half; fill = fill } ⌝ }
 {
     Form {
-        kind: 2,
+        kind: kinds::SIGNED,
         half,
         fill,
     }
@@ -39,21 +40,21 @@ pub fn form_of(a: Atomic) -> Form
     ensures { λ r. ⌜ r ≡ formOf a ⌝ }
 {
     match a {
-        Atomic::Bool => plain(1),
+        Atomic::Bool => plain(kinds::BOOL),
         Atomic::SInt => signed(0x80, 0xFFFF_FFFF_FFFF_FF00),
         Atomic::Int => signed(0x8000, 0xFFFF_FFFF_FFFF_0000),
         Atomic::DInt => signed(0x8000_0000, 0xFFFF_FFFF_0000_0000),
-        Atomic::LInt => plain(2),
-        Atomic::USInt => plain(3),
-        Atomic::UInt => plain(3),
-        Atomic::UDInt => plain(3),
-        Atomic::ULInt => plain(3),
-        Atomic::Real => plain(4),
-        Atomic::LReal => plain(5),
-        Atomic::Byte => plain(3),
-        Atomic::Word => plain(3),
-        Atomic::DWord => plain(3),
-        Atomic::LWord => plain(3),
+        Atomic::LInt => plain(kinds::SIGNED),
+        Atomic::USInt => plain(kinds::UNSIGNED),
+        Atomic::UInt => plain(kinds::UNSIGNED),
+        Atomic::UDInt => plain(kinds::UNSIGNED),
+        Atomic::ULInt => plain(kinds::UNSIGNED),
+        Atomic::Real => plain(kinds::REAL),
+        Atomic::LReal => plain(kinds::LREAL),
+        Atomic::Byte => plain(kinds::UNSIGNED),
+        Atomic::Word => plain(kinds::UNSIGNED),
+        Atomic::DWord => plain(kinds::UNSIGNED),
+        Atomic::LWord => plain(kinds::UNSIGNED),
     }
 }
 

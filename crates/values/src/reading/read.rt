@@ -1,9 +1,9 @@
 // Reading (document 01, "Reading"): the value stream of a tag's bytes. Everything is counted before the first byte is
 // written, so that a refusal leaves the buffer as it was.
 ghost use mathlib.Core.Path.{_≡_};
+ghost use Prim.Native.Nat.{_+_, _*_, _≤_, min};
 ghost use mathlib.Core.Bool.{false};
 ghost use mathlib.Core.List.{[]};
-ghost use Prim.Native.Nat.{_+_, _*_, _≤_, min};
 ghost use lib.Dec.{eqb};
 ghost use lib.ListN.{length};
 ghost use Rattle.types.specs.inside.tables.Lent.{TyFits};
@@ -16,7 +16,7 @@ ghost use Rattle.values.specs.inside.reading.Walkable.{ImagesOf, ValueIm
 ghost use Rattle.values.specs.inside.stream.Counting.{Counted, Texts};
 ghost use Rattle.values.specs.inside.stream.Laying.{Room, Wrote};
 ghost use Rattle.values.specs.reading.Read.{Answered};
-ghost use Rattle.values.specs.stream.Stream.{bodies};
+ghost use Rattle.values.specs.stream.Stream.{mostBytes, bodies};
 use crate::reading::atomics::put_atomics;
 use crate::reading::rows::struct_size;
 use crate::reading::rows::times_of;
@@ -24,6 +24,7 @@ use crate::reading::walk::read_elements;
 use crate::reading::walk::read_struct;
 use crate::stream::count::count_atomics;
 use crate::stream::count::count_structs;
+use crate::stream::form::MOST_BYTES;
 use crate::stream::lengths::text_elements;
 use crate::stream::lengths::text_struct;
 use crate::stream::place::Place;
@@ -36,9 +37,6 @@ use types::is_there;
 use types::size_of;
 use words::least;
 use words::store32;
-
-// The longest stream.
-const MOST: usize = 2147483648;
 
 // The stream's length, or a refusal.
 pub enum Streamed {
@@ -78,7 +76,7 @@ fn count_value(
     most: usize,
     texts: &mut bool,
 ) -> usize
-    requires { ⌜ Walkable (now types) (now members) × (TyFits ty × (most ≤ 2147483648)) ⌝ }
+    requires { ⌜ Walkable (now types) (now members) × (TyFits ty × (most ≤ mostBytes)) ⌝ }
     ensures { λ r. ⌜ Counted most 0 (valueOut (now (types .entry)) (now (members .entry)) ty n)
         (now (texts .entry)) (now (texts .exit)) r ⌝ }
 {
@@ -98,7 +96,7 @@ fn text_structs(
     room: usize,
 ) -> usize
     requires { ⌜ Walkable (now types) (now members) × (ImagesOf (now types) i (times n) (now image)
-        × (room ≤ 2147483648)) ⌝ }
+        × (room ≤ mostBytes)) ⌝ }
     ensures { λ r. ⌜ Texts room (valueOut (now (types .entry)) (now (members .entry)) (Ty.Struct i) n
         (now (image .entry))) r ⌝ }
 {
@@ -118,7 +116,7 @@ fn text_value(
     room: usize,
     texts: bool,
 ) -> usize
-    requires { ⌜ Walkable (now types) (now members) × ((room ≤ 2147483648)
+    requires { ⌜ Walkable (now types) (now members) × ((room ≤ mostBytes)
         × ValueImage (now types) ty n (now image)) ⌝ }
     requires { ⌜ (texts ≡ false → bodies (valueOut (now types) (now members) ty n (now image)) ≡ []) ⌝ }
     ensures { λ r. ⌜ Texts room (valueOut (now (types .entry)) (now (members .entry)) ty n (now (image .entry))) r ⌝ }
@@ -193,7 +191,7 @@ fn read_within(
     room: usize,
 ) -> Streamed
     requires { ⌜ Walkable (now types) (now members) × ValueImage (now types) ty n (now image) ⌝ }
-    requires { ⌜ room + 4 ≡ min (length (now out)) 2147483648 ⌝ }
+    requires { ⌜ room + 4 ≡ min (length (now out)) mostBytes ⌝ }
     ensures { λ r. ⌜ StreamWritten (now (types .entry)) (now (members .entry)) ty n (now (image .entry))
         (now (out .entry)) r (now (out .exit)) ⌝ }
 {
@@ -228,16 +226,14 @@ pub fn read(
     ensures { λ r. ⌜ Answered (now (types .entry)) (now (members .entry)) ty count (now (image .entry))
         (now (out .entry)) r (now (out .exit)) ⌝ }
 {
-    let there = is_there(types, ty);
-    if !there {
+    if !is_there(types, ty) {
         return Streamed::Refused(Refusal::NoSuchType);
     }
     let n = as_size(count);
-    let fits = is_product(image.len(), size_of_ty(types, ty), times_of(n));
-    if !fits {
+    if !is_product(image.len(), size_of_ty(types, ty), times_of(n)) {
         return Streamed::Refused(Refusal::ImageLength);
     }
-    let most = least(out.len(), MOST);
+    let most = least(out.len(), MOST_BYTES);
     if most < 4 {
         return Streamed::Refused(Refusal::NoRoom);
     }

@@ -3,6 +3,7 @@ ghost use mathlib.Core.Path.{_≡_};
 ghost use Prim.Native.Nat.{_+_, _<_};
 ghost use Rattle.types.specs.layout.Placing.{times};
 ghost use Rattle.types.specs.tables.Lent.{memberAt};
+ghost use Rattle.types.specs.tables.Limits.{mostTypes, mostMembers};
 ghost use Rattle.types.specs.tables.Sizes.{sizesIn};
 ghost use Rattle.values.specs.inside.normal_image.InPlace.{isPlain};
 ghost use Rattle.values.specs.inside.reading.Walk.{isNested};
@@ -29,7 +30,7 @@ pub fn times_of(n: usize) -> usize
 
 // The bytes of structure i.
 pub fn struct_size(types: &TypeTable, i: usize) -> usize
-    requires { ⌜ i < 200 ⌝ }
+    requires { ⌜ i < mostTypes ⌝ }
     ensures { λ r. ⌜ r ≡ sizesIn (now (types .entry)) i ⌝ }
 {
     let d = type_row(types, i);
@@ -58,7 +59,7 @@ pub fn capacity_at(members: &MemberTable, first: usize) -> u32
 
 // A row holds a visible structure, or an array of structures.
 pub fn is_nested(members: &MemberTable, row: usize) -> bool
-    requires { ⌜ row < 2000 ⌝ }
+    requires { ⌜ row < mostMembers ⌝ }
     ensures { λ r. ⌜ r ≡ isNested (memberAt (now (members .entry)) row) ⌝ }
 {
     let m = member_row(members, row);
@@ -87,7 +88,7 @@ pub fn is_nested(members: &MemberTable, row: usize) -> bool
 
 // A row holds a visible member that is no BOOL of a host.
 pub fn is_plain(members: &MemberTable, row: usize) -> bool
-    requires { ⌜ row < 2000 ⌝ }
+    requires { ⌜ row < mostMembers ⌝ }
     ensures { λ r. ⌜ r ≡ isPlain (memberAt (now (members .entry)) row) ⌝ }
 {
     let m = member_row(members, row);

@@ -10,6 +10,7 @@ use crate::reading::numbers::extend;
 use crate::reading::numbers::form_of;
 use crate::reading::numbers::truth;
 use crate::stream::entry::put_entry;
+use crate::stream::kinds;
 use types::Atomic;
 use words::load8;
 use words::load16;
@@ -28,7 +29,7 @@ fn put_truths(n: usize, s: &[u8], out: &mut [u8], at: usize) -> usize
     let mut p = at;
     let mut i: usize = 0;
     while i < n {
-        put_entry(out, p, 1, truth(s[i]));
+        put_entry(out, p, kinds::BOOL, truth(s[i]));
         p += 12;
         i += 1;
     }

@@ -2,6 +2,7 @@
 ghost use mathlib.Core.Path.{_≡_};
 ghost use Prim.Native.Nat.{_<_};
 ghost use Rattle.types.specs.tables.Kept.{KeptRows};
+ghost use Rattle.types.specs.tables.Limits.{mostTypes};
 ghost use Rattle.values.specs.inside.reading.Texts.{TextHeld};
 ghost use Rattle.values.specs.inside.reading.Walkable.{Walkable};
 ghost use Rattle.values.specs.reading.Texts.{Stored, stringNumber, textNumber};
@@ -18,13 +19,12 @@ use words::wide;
 
 // 0 where an image of so many bytes holds a text of structure i, else the refusal's number.
 fn string_number(types: &TypeTable, i: usize, long: usize) -> u8
-    requires { ⌜ i < 200 ⌝ }
+    requires { ⌜ i < mostTypes ⌝ }
     ensures { λ r. ⌜ r ≡ stringNumber (now (types .entry)) i long ⌝ }
 {
     let d = type_row(types, i);
     let kind = d.kind;
-    let string = is_string(kind);
-    if string {
+    if is_string(kind) {
         if long == wide(d.size) {
             return 0;
         }
@@ -37,8 +37,7 @@ fn string_number(types: &TypeTable, i: usize, long: usize) -> u8
 fn text_number(types: &TypeTable, ty: Ty, image: &[u8]) -> u8
     ensures { λ r. ⌜ r ≡ textNumber (now (types .entry)) ty (now (image .entry)) ⌝ }
 {
-    let there = is_there(types, ty);
-    if there {
+    if is_there(types, ty) {
         match ty {
             Ty::Atomic(_) => {
                 return Refusal::NoSuchType.number();

@@ -6,6 +6,7 @@ ghost use Rattle.values.specs.inside.reading.Walk.{textOut};
 ghost use Rattle.values.specs.inside.stream.Laying.{Room, Wrote};
 ghost use Rattle.values.specs.reading.Texts.{textLength};
 use crate::stream::entry::put_entry;
+use crate::stream::kinds;
 use crate::stream::place::Place;
 use words::copy;
 use words::load32;
@@ -38,7 +39,12 @@ pub fn put_text(
         (now (out .exit)) r ⌝ }
 {
     let n = text_length(capacity, image);
-    put_entry(out, at, 6, (text as u64) + 0x1_0000_0000 * (n as u64));
+    put_entry(
+        out,
+        at,
+        kinds::TEXT,
+        (text as u64) + 0x1_0000_0000 * (n as u64),
+    );
     let end = 4 + n;
     copy(out, base + text, &image[4..end]);
     Place {

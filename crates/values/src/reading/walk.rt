@@ -16,6 +16,7 @@ use crate::reading::rows::struct_size;
 use crate::reading::rows::times_of;
 use crate::reading::texts::put_text;
 use crate::stream::entry::put_entry;
+use crate::stream::kinds;
 use crate::stream::place::Place;
 use types::Bit;
 use types::MemberTable;
@@ -48,7 +49,7 @@ fn read_leaf(
     if hidden {
         return at;
     }
-    put_entry(out, at, 7, j as u64);
+    put_entry(out, at, kinds::MEMBER, j as u64);
     let p = at + 12;
     let start = wide(m.offset);
     let n = wide(m.count);
@@ -56,7 +57,7 @@ fn read_leaf(
     let ty = m.ty;
     match bit {
         Bit::At(b) => {
-            put_entry(out, p, 1, truth_of(bit_at(image, start, b)));
+            put_entry(out, p, kinds::BOOL, truth_of(bit_at(image, start, b)));
             return p + 12;
         }
         Bit::None => {
@@ -91,8 +92,7 @@ pub fn read_struct(
 {
     let d = type_row(types, i);
     let kind = d.kind;
-    let string = is_string(kind);
-    if string {
+    if is_string(kind) {
         let capacity = capacity_at(members, wide(d.first));
         return put_text(capacity, image, out, base, at, text);
     }
@@ -120,14 +120,13 @@ fn read_members(
     let d = type_row(types, i);
     let first = wide(d.first);
     let n = wide(d.count);
-    put_entry(out, at, 8, 0);
+    put_entry(out, at, kinds::OPEN, 0);
     let mut p = at + 12;
     let mut t = text;
     let mut j: usize = 0;
     while j < n {
         let row = first + j;
-        let nested = is_nested(members, row);
-        if nested {
+        if is_nested(members, row) {
             let next = read_nested(types, members, i, row, j, image, out, base, p, t);
             p = next.at;
             t = next.text;
@@ -137,7 +136,7 @@ fn read_members(
             j += 1;
         }
     }
-    put_entry(out, p, 9, 0);
+    put_entry(out, p, kinds::CLOSE, 0);
     Place {
         at: p + 12,
         text: t,
@@ -167,7 +166,7 @@ fn read_nested(
         (memberBy (now (types .entry)) (now (members .entry)) (structOut (now (types .entry)) (now (members .entry))) j
         (memberAt (now (members .entry)) row) (now (image .entry))) (now (out .exit)) r ⌝ }
 {
-    put_entry(out, at, 7, j as u64);
+    put_entry(out, at, kinds::MEMBER, j as u64);
     let m = member_row(members, row);
     let start = wide(m.offset);
     let n = wide(m.count);
@@ -227,7 +226,7 @@ pub fn read_elements(
         i n (now (image .entry))) (now (out .exit)) r ⌝ }
 {
     let size = struct_size(types, i);
-    put_entry(out, at, 10, 0);
+    put_entry(out, at, kinds::ARRAY_OPEN, 0);
     let mut p = at + 12;
     let mut t = text;
     let mut k: usize = 0;
@@ -239,7 +238,7 @@ pub fn read_elements(
         t = next.text;
         k += 1;
     }
-    put_entry(out, p, 11, 0);
+    put_entry(out, p, kinds::ARRAY_CLOSE, 0);
     Place {
         at: p + 12,
         text: t,

@@ -1,13 +1,15 @@
 // The count of a reading (document 01, "Value stream"): how many entries a value has, and whether one is a text. It
 // depends on the type alone, so that an array takes one product. It counts on from what was counted before, and stops
 // where `most` is passed: the sum is then any number above `most`.
-ghost use mathlib.Core.Bool.{Bool};
 ghost use Prim.Native.Nat.{ℕ, _+_, _<_, _≤_};
+ghost use mathlib.Core.Bool.{Bool};
 ghost use Rattle.types.specs.tables.Lent.{memberAt};
+ghost use Rattle.types.specs.tables.Limits.{mostTypes, mostMembers};
 ghost use Rattle.values.specs.inside.reading.Walk.{atomicsOut, leafOut, memberBy, membersBy, structOut};
 ghost use Rattle.values.specs.inside.reading.Walk.{structsBy};
 ghost use Rattle.values.specs.inside.reading.Walkable.{NestedRow, Walkable};
 ghost use Rattle.values.specs.inside.stream.Counting.{Counted, TextFree};
+ghost use Rattle.values.specs.stream.Stream.{mostBytes};
 use crate::reading::rows::is_nested;
 use crate::reading::rows::is_string;
 use crate::reading::rows::times_of;
@@ -27,8 +29,7 @@ pub fn atomic_entries(a: Atomic, n: usize) -> usize
     requires { ⌜ n ≤ 4294967296 ⌝ }
     ensures { λ r. ⌜ TextFree (atomicsOut a n) r ⌝ }
 {
-    let bits = is_bits(a);
-    if bits {
+    if is_bits(a) {
         return 2 + 8 * (size_of(a) * times_of(n));
     }
     if n == 0 {
@@ -39,7 +40,7 @@ pub fn atomic_entries(a: Atomic, n: usize) -> usize
 
 // The same within `most`.
 pub fn count_atomics(a: Atomic, n: usize, most: usize) -> usize
-    requires { ⌜ most ≤ 2147483648 ⌝ }
+    requires { ⌜ most ≤ mostBytes ⌝ }
     ensures { λ r. ⌜ ((b : Bool) → Counted most 0 (atomicsOut a n) b b r) ⌝ }
 {
     if most < n {
@@ -50,7 +51,7 @@ pub fn count_atomics(a: Atomic, n: usize, most: usize) -> usize
 
 // The member in a row, where it is no structure.
 fn leaf_entries(members: &MemberTable, row: usize) -> usize
-    requires { ⌜ row < 2000 ⌝ }
+    requires { ⌜ row < mostMembers ⌝ }
     ensures { λ r. ⌜ ((j : ℕ) → TextFree (leafOut j (memberAt (now (members .entry)) row)) r)
         × (r ≤ 1099511627776) ⌝ }
 {
@@ -89,7 +90,7 @@ pub fn count_structs(
     most: usize,
     texts: &mut bool,
 ) -> usize
-    requires { ⌜ Walkable (now types) (now members) × ((i < 200) × ((most ≤ 2147483648) × (from ≤ most + 1))) ⌝ }
+    requires { ⌜ Walkable (now types) (now members) × ((i < mostTypes) × ((most ≤ mostBytes) × (from ≤ most + 1))) ⌝ }
     ensures { λ r. ⌜ Counted most from
         (structsBy (now (types .entry)) (now (members .entry))
         (structOut (now (types .entry)) (now (members .entry))) i n) (now (texts .entry)) (now (texts .exit)) r ⌝ }
@@ -116,14 +117,13 @@ fn count_struct(
     most: usize,
     texts: &mut bool,
 ) -> usize
-    requires { ⌜ Walkable (now types) (now members) × ((i < 200) × ((most ≤ 2147483648) × (from ≤ most + 1))) ⌝ }
+    requires { ⌜ Walkable (now types) (now members) × ((i < mostTypes) × ((most ≤ mostBytes) × (from ≤ most + 1))) ⌝ }
     ensures { λ r. ⌜ Counted most from (structOut (now (types .entry)) (now (members .entry)) i)
         (now (texts .entry)) (now (texts .exit)) r ⌝ }
 {
     let d = type_row(types, i);
     let kind = d.kind;
-    let string = is_string(kind);
-    if string {
+    if is_string(kind) {
         *texts = true;
         return from + 1;
     }
@@ -139,7 +139,7 @@ fn count_members(
     most: usize,
     texts: &mut bool,
 ) -> usize
-    requires { ⌜ Walkable (now types) (now members) × ((i < 200) × ((most ≤ 2147483648) × (from ≤ most + 1))) ⌝ }
+    requires { ⌜ Walkable (now types) (now members) × ((i < mostTypes) × ((most ≤ mostBytes) × (from ≤ most + 1))) ⌝ }
     ensures { λ r. ⌜ Counted most from
         (membersBy (now (types .entry)) (now (members .entry))
         (structOut (now (types .entry)) (now (members .entry))) i) (now (texts .entry)) (now (texts .exit)) r ⌝ }
@@ -154,8 +154,7 @@ fn count_members(
             return sum;
         }
         let row = first + j;
-        let nested = is_nested(members, row);
-        if nested {
+        if is_nested(members, row) {
             if j + 1 == n {
                 return count_nested(types, members, i, row, sum, most, texts);
             }
@@ -180,7 +179,7 @@ fn count_nested(
     texts: &mut bool,
 ) -> usize
     requires { ⌜ Walkable (now types) (now members)
-        × (NestedRow (now types) (now members) i row × ((most ≤ 2147483648) × (from ≤ most))) ⌝ }
+        × (NestedRow (now types) (now members) i row × ((most ≤ mostBytes) × (from ≤ most))) ⌝ }
     ensures { λ r. ⌜ ((j : ℕ) → Counted most from
         (memberBy (now (types .entry)) (now (members .entry)) (structOut (now (types .entry)) (now (members .entry))) j
         (memberAt (now (members .entry)) row)) (now (texts .entry)) (now (texts .exit)) r) ⌝ }

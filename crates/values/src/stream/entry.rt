@@ -4,11 +4,12 @@ ghost use mathlib.Core.Path.{_≡_};
 ghost use Prim.Native.Nat.{_+_, _≤_};
 ghost use lib.ListN.{length};
 ghost use lib.Dec.{leb};
-ghost use Rattle.values.specs.stream.Entry.{EntryStored, entryAt, entryIn, entryKind, entryPayload, loadedOf};
-ghost use Rattle.values.specs.stream.Entry.{saidBy, bareIn, lowIn, textEntry, truthIn};
 ghost use lib.Seq.{sets};
+ghost use Rattle.values.specs.inside.stream.Entry.{bareIn, entryIn, loadedOf, lowIn, textEntry, truthIn};
+ghost use Rattle.values.specs.stream.Entry.{EntryStored, entryAt, entryKind, entryPayload, saidBy};
 ghost use Rattle.values.specs.stream.Stream.{entryBytes};
 use crate::reading::numbers::truth_of;
+use crate::stream::kinds;
 use crate::stream::tokens::high;
 use crate::stream::tokens::low;
 use words::load64;
@@ -45,18 +46,18 @@ impl Entry {
         ensures { λ r. ⌜ r ≡ entryKind self ⌝ }
     {
         match self {
-            Entry::Null => 0,
-            Entry::Bool(_) => 1,
-            Entry::Signed(_) => 2,
-            Entry::Unsigned(_) => 3,
-            Entry::Real(_) => 4,
-            Entry::LReal(_) => 5,
-            Entry::Text(_, _) => 6,
-            Entry::Member(_) => 7,
-            Entry::Open => 8,
-            Entry::Close => 9,
-            Entry::ArrayOpen => 10,
-            Entry::ArrayClose => 11,
+            Entry::Null => kinds::NULL,
+            Entry::Bool(_) => kinds::BOOL,
+            Entry::Signed(_) => kinds::SIGNED,
+            Entry::Unsigned(_) => kinds::UNSIGNED,
+            Entry::Real(_) => kinds::REAL,
+            Entry::LReal(_) => kinds::LREAL,
+            Entry::Text(_, _) => kinds::TEXT,
+            Entry::Member(_) => kinds::MEMBER,
+            Entry::Open => kinds::OPEN,
+            Entry::Close => kinds::CLOSE,
+            Entry::ArrayOpen => kinds::ARRAY_OPEN,
+            Entry::ArrayClose => kinds::ARRAY_CLOSE,
         }
     }
 
@@ -95,8 +96,7 @@ fn is_inside(long: usize, at: usize) -> bool
 pub fn store_entry(out: &mut [u8], at: usize, e: Entry) -> bool
     ensures { λ r. ⌜ EntryStored (now (out .entry)) at e r (now (out .exit)) ⌝ }
 {
-    let room = is_inside(out.len(), at);
-    if room {
+    if is_inside(out.len(), at) {
         put_entry(out, at, e.kind(), e.payload());
         return true;
     }
@@ -154,18 +154,18 @@ fn loaded_of(kind: u8, x: u64) -> Loaded
     ensures { λ r. ⌜ r ≡ loadedOf kind x ⌝ }
 {
     match kind {
-        0 => bare_in(Entry::Null, x),
-        1 => truth_in(x),
-        2 => Loaded::Is(Entry::Signed(x)),
-        3 => Loaded::Is(Entry::Unsigned(x)),
-        4 => real_in(x),
-        5 => Loaded::Is(Entry::LReal(x)),
-        6 => text_in(x),
-        7 => member_in(x),
-        8 => bare_in(Entry::Open, x),
-        9 => bare_in(Entry::Close, x),
-        10 => bare_in(Entry::ArrayOpen, x),
-        11 => bare_in(Entry::ArrayClose, x),
+        kinds::NULL => bare_in(Entry::Null, x),
+        kinds::BOOL => truth_in(x),
+        kinds::SIGNED => Loaded::Is(Entry::Signed(x)),
+        kinds::UNSIGNED => Loaded::Is(Entry::Unsigned(x)),
+        kinds::REAL => real_in(x),
+        kinds::LREAL => Loaded::Is(Entry::LReal(x)),
+        kinds::TEXT => text_in(x),
+        kinds::MEMBER => member_in(x),
+        kinds::OPEN => bare_in(Entry::Open, x),
+        kinds::CLOSE => bare_in(Entry::Close, x),
+        kinds::ARRAY_OPEN => bare_in(Entry::ArrayOpen, x),
+        kinds::ARRAY_CLOSE => bare_in(Entry::ArrayClose, x),
         _ => Loaded::Malformed,
     }
 }
@@ -191,8 +191,7 @@ fn load_entry(s: &[u8], at: usize) -> Loaded
 pub fn entry_at(s: &[u8], at: usize) -> Loaded
     ensures { λ r. ⌜ saidBy r ≡ entryAt (now (s .entry)) at ⌝ }
 {
-    let inside = is_inside(s.len(), at);
-    if inside {
+    if is_inside(s.len(), at) {
         return load_entry(s, at);
     }
     Loaded::Malformed

@@ -3,9 +3,10 @@
 ghost use mathlib.Core.Path.{_≡_};
 ghost use Prim.Native.Nat.{_+_, _*_, _^_, _≤_};
 ghost use lib.ListN.{length};
-ghost use Rattle.values.specs.inside.stream.Steps.{Moved, mostOf};
-ghost use Rattle.values.specs.stream.Entry.{loadedOf};
-ghost use Rattle.values.specs.stream.Form.{formed, loadedStep, streamOk};
+ghost use Rattle.values.specs.inside.stream.Steps.{Moved, mostOf, stepOf};
+ghost use Rattle.values.specs.stream.Form.{formed, streamOk};
+ghost use Rattle.values.specs.stream.Stream.{mostBytes};
+use crate::stream::kinds;
 use crate::stream::tokens::high;
 use crate::stream::tokens::low;
 use words::load32;
@@ -13,7 +14,24 @@ use words::wide;
 use words::wide64;
 
 // The longest stream.
-const MOST: usize = 2147483648;
+pub const MOST_BYTES: usize = 2147483648;
+
+// The kinds as the first four bytes of an entry say them: the three after the kind are zeros.
+const BOOL: u32 = kinds::BOOL as u32;
+
+const SIGNED: u32 = kinds::SIGNED as u32;
+
+const UNSIGNED: u32 = kinds::UNSIGNED as u32;
+
+const REAL: u32 = kinds::REAL as u32;
+
+const LREAL: u32 = kinds::LREAL as u32;
+
+const TEXT: u32 = kinds::TEXT as u32;
+
+const MEMBER: u32 = kinds::MEMBER as u32;
+
+const NO_KIND: u32 = kinds::NO_KIND as u32;
 
 // Above every place: that the stream is malformed.
 const NOWHERE: usize = 0x4000_0000_0000_0000;
@@ -23,12 +41,12 @@ fn most_of(kind: u32) -> u64
     ensures { λ r. ⌜ r ≡ mostOf kind ⌝ }
 {
     match kind {
-        1 => 1,
-        2 => 0xFFFF_FFFF_FFFF_FFFF,
-        3 => 0xFFFF_FFFF_FFFF_FFFF,
-        4 => 0xFFFF_FFFF,
-        5 => 0xFFFF_FFFF_FFFF_FFFF,
-        7 => 0xFFFF_FFFF,
+        BOOL => 1,
+        SIGNED => 0xFFFF_FFFF_FFFF_FFFF,
+        UNSIGNED => 0xFFFF_FFFF_FFFF_FFFF,
+        REAL => 0xFFFF_FFFF,
+        LREAL => 0xFFFF_FFFF_FFFF_FFFF,
+        MEMBER => 0xFFFF_FFFF,
         _ => 0,
     }
 }
@@ -37,12 +55,12 @@ fn most_of(kind: u32) -> u64
 // ended.
 fn other_place(head: u32, x: u64, place: usize) -> usize
     requires { ⌜ place ≤ 1152921504606846976 ⌝ }
-    ensures { λ r. ⌜ Moved place (loadedStep (loadedOf head x) place) r ⌝ }
+    ensures { λ r. ⌜ Moved place (stepOf head x place) r ⌝ }
 {
-    if 12 <= head {
+    if NO_KIND <= head {
         return NOWHERE;
     }
-    if head == 6 {
+    if head == TEXT {
         if wide(low(x)) == place {
             return place + wide(high(x));
         }
@@ -59,12 +77,12 @@ fn other_place(head: u32, x: u64, place: usize) -> usize
 // since these kinds need no more than a look at each.
 fn next_place(head: u32, low: u32, high: u32, place: usize) -> usize
     requires { ⌜ place ≤ 1152921504606846976 ⌝ }
-    ensures { λ r. ⌜ Moved place (loadedStep (loadedOf head (low + 2 ^ 32 * high)) place) r ⌝ }
+    ensures { λ r. ⌜ Moved place (stepOf head (low + 2 ^ 32 * high) place) r ⌝ }
 {
-    if head == 2 {
+    if head == SIGNED {
         return place;
     }
-    if head == 1 {
+    if head == BOOL {
         if high == 0 {
             if low < 2 {
                 return place;
@@ -73,10 +91,10 @@ fn next_place(head: u32, low: u32, high: u32, place: usize) -> usize
         }
         return NOWHERE;
     }
-    if 7 <= head {
-        if head < 12 {
+    if MEMBER <= head {
+        if head < NO_KIND {
             if high == 0 {
-                if head == 7 {
+                if head == MEMBER {
                     return place;
                 }
                 if low == 0 {
@@ -93,7 +111,7 @@ fn next_place(head: u32, low: u32, high: u32, place: usize) -> usize
 
 // The n entries of a stream whose bodies begin at a place.
 fn entries_ok(s: &[u8], base: usize, n: usize) -> bool
-    requires { ⌜ (base ≡ 4 + 12 * n) × ((base ≤ length (now s)) × (length (now s) ≤ 2147483648)) ⌝ }
+    requires { ⌜ (base ≡ 4 + 12 * n) × ((base ≤ length (now s)) × (length (now s) ≤ mostBytes)) ⌝ }
     ensures { λ r. ⌜ r ≡ formed (now (s .entry)) base 0 n 0 ⌝ }
 {
     let mut place: usize = 0;
@@ -117,7 +135,7 @@ pub fn stream_ok(s: &[u8]) -> bool
     if s.len() < 4 {
         return false;
     }
-    if MOST < s.len() {
+    if MOST_BYTES < s.len() {
         return false;
     }
     let n = wide(load32(s, 0));

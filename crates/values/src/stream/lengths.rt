@@ -5,6 +5,7 @@ ghost use Rattle.types.specs.tables.Lent.{memberAt};
 ghost use Rattle.values.specs.inside.reading.Walk.{elementsBy, memberBy, membersBy, structOut};
 ghost use Rattle.values.specs.inside.reading.Walkable.{ImageOf, ImagesOf, NestedRow, Walkable};
 ghost use Rattle.values.specs.inside.stream.Counting.{Texts};
+ghost use Rattle.values.specs.stream.Stream.{mostBytes};
 use crate::reading::rows::capacity_at;
 use crate::reading::rows::is_nested;
 use crate::reading::rows::is_string;
@@ -26,13 +27,12 @@ pub fn text_struct(
     room: usize,
 ) -> usize
     requires { ⌜ Walkable (now types) (now members)
-        × (ImageOf (now types) i (now image) × (room ≤ 2147483648)) ⌝ }
+        × (ImageOf (now types) i (now image) × (room ≤ mostBytes)) ⌝ }
     ensures { λ r. ⌜ Texts room (structOut (now (types .entry)) (now (members .entry)) i (now (image .entry))) r ⌝ }
 {
     let d = type_row(types, i);
     let kind = d.kind;
-    let string = is_string(kind);
-    if string {
+    if is_string(kind) {
         let capacity = capacity_at(members, wide(d.first));
         return text_length(capacity, image);
     }
@@ -48,7 +48,7 @@ fn text_members(
     room: usize,
 ) -> usize
     requires { ⌜ Walkable (now types) (now members)
-        × (ImageOf (now types) i (now image) × (room ≤ 2147483648)) ⌝ }
+        × (ImageOf (now types) i (now image) × (room ≤ mostBytes)) ⌝ }
     ensures { λ r. ⌜ Texts room
         (membersBy (now (types .entry)) (now (members .entry)) (structOut (now (types .entry)) (now (members .entry))) i
         (now (image .entry))) r ⌝ }
@@ -63,8 +63,7 @@ fn text_members(
             return t;
         }
         let row = first + j;
-        let nested = is_nested(members, row);
-        if nested {
+        if is_nested(members, row) {
             t += text_nested(types, members, i, row, image, room - t);
             j += 1;
         } else {
@@ -84,7 +83,7 @@ fn text_nested(
     room: usize,
 ) -> usize
     requires { ⌜ Walkable (now types) (now members) × (NestedRow (now types) (now members) i row
-        × (ImageOf (now types) i (now image) × (room ≤ 2147483648))) ⌝ }
+        × (ImageOf (now types) i (now image) × (room ≤ mostBytes))) ⌝ }
     ensures { λ r. ⌜ ((j : ℕ) → Texts room
         (memberBy (now (types .entry)) (now (members .entry)) (structOut (now (types .entry)) (now (members .entry))) j
         (memberAt (now (members .entry)) row) (now (image .entry))) r) ⌝ }
@@ -119,7 +118,7 @@ pub fn text_elements(
     room: usize,
 ) -> usize
     requires { ⌜ Walkable (now types) (now members)
-        × (ImagesOf (now types) i n (now image) × (room ≤ 2147483648)) ⌝ }
+        × (ImagesOf (now types) i n (now image) × (room ≤ mostBytes)) ⌝ }
     ensures { λ r. ⌜ Texts room
         (elementsBy (now (types .entry)) (now (members .entry)) (structOut (now (types .entry)) (now (members .entry)))
         i n (now (image .entry))) r ⌝ }

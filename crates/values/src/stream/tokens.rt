@@ -1,15 +1,26 @@
 // One entry of a stream whose form is good (document 01, "Value stream"), by its number: its kind and its payload.
 // Refusals here are one number: the refusal's above 32 bits, and the place.
 ghost use mathlib.Core.Path.{_≡_};
-ghost use mathlib.Core.Bool.{true};
 ghost use Prim.Native.Nat.{_+_, _*_, _/_, _%_, _^_, _<_};
+ghost use mathlib.Core.Bool.{true};
 ghost use Rattle.words.specs.Words.{wordAt};
 ghost use Rattle.values.specs.inside.writing.Passes.{WellFormed, firstKind, leftAt};
 ghost use Rattle.values.specs.stream.Form.{countIn, streamOk};
+use crate::stream::kinds;
 use words::load64;
 
 // The first number that is a refusal.
 pub const REFUSED: usize = 0x1_0000_0000;
+
+// The numbers of the refusals of an entry: it does not fit here, its number is out of range, it comes after an array's
+// last place, its text is longer than the capacity.
+pub const MISFIT: usize = 18;
+
+pub const OUT_OF_RANGE: usize = 19;
+
+pub const PAST_LAST: usize = 20;
+
+pub const TOO_LONG: usize = 21;
 
 // A refusal at an entry.
 pub fn refused(number: usize, k: usize) -> usize
@@ -33,7 +44,7 @@ pub fn kind_at(s: &[u8], n: usize, k: usize) -> u8
     ensures { λ r. ⌜ r ≡ firstKind (leftAt (now (s .entry)) k) ⌝ }
 {
     if n <= k {
-        return 12;
+        return kinds::NO_KIND;
     }
     kind_of(s, k)
 }

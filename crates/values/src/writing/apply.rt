@@ -1,8 +1,8 @@
 // Structures and their arrays set in an image (document 01, "Writing"), once the check has accepted every entry.
 // Structures call arrays and arrays structures; a structure holds only earlier ones, so the number falls.
 ghost use mathlib.Core.Path.{_≡_};
-ghost use mathlib.Core.Bool.{true};
 ghost use Prim.Native.Nat.{_+_, _*_};
+ghost use mathlib.Core.Bool.{true};
 ghost use Rattle.words.specs.Bits.{flat};
 ghost use Rattle.types.specs.layout.Laid.{firstBit};
 ghost use Rattle.types.specs.tables.Lent.{memberAt};
@@ -17,6 +17,7 @@ use crate::reading::rows::capacity_at;
 use crate::reading::rows::is_nested;
 use crate::reading::rows::is_string;
 use crate::reading::rows::struct_size;
+use crate::stream::kinds;
 use crate::stream::tokens::as_size;
 use crate::stream::tokens::kind_of;
 use crate::stream::tokens::payload_of;
@@ -48,8 +49,7 @@ pub fn apply_struct(
 {
     let d = type_row(types, i);
     let kind = d.kind;
-    let string = is_string(kind);
-    if string {
+    if is_string(kind) {
         let capacity = capacity_at(members, wide(d.first));
         return set_text(capacity, s, k, image, base);
     }
@@ -75,7 +75,7 @@ fn apply_members(
         (branchesIn (now (types .entry)) (now (members .entry)) i)) (8 * base) (leftAt (now (s .entry)) k)) ⌝ }
 {
     let start = kind_of(s, k);
-    if start == 0 {
+    if start == kinds::NULL {
         return k + 1;
     }
     let d = type_row(types, i);
@@ -83,12 +83,11 @@ fn apply_members(
     let mut p = k + 1;
     loop {
         let kind = kind_of(s, p);
-        if kind == 9 {
+        if kind == kinds::CLOSE {
             return p + 1;
         }
         let row = first + as_size(payload_of(s, p));
-        let nested = is_nested(members, row);
-        if nested {
+        if is_nested(members, row) {
             p = apply_nested(types, members, i, row, s, p + 1, image, base);
         } else {
             p = set_leaf(members, row, s, p + 1, image, base);
@@ -152,7 +151,7 @@ pub fn apply_elements(
         (leftAt (now (s .entry)) k)) ⌝ }
 {
     let start = kind_of(s, k);
-    if start == 0 {
+    if start == kinds::NULL {
         return k + 1;
     }
     let size = struct_size(types, i);
@@ -160,7 +159,7 @@ pub fn apply_elements(
     let mut e: usize = 0;
     while e < count {
         let kind = kind_of(s, p);
-        if kind == 11 {
+        if kind == kinds::ARRAY_CLOSE {
             return p + 1;
         }
         p = apply_struct(types, members, i, s, p, image, base + size * e);

@@ -1,13 +1,14 @@
 // Bools set as bits (document 01, "Writing"): a run of bools up to its close, eight at a time. The bits that no bool
 // names keep what stands.
 ghost use mathlib.Core.Path.{_≡_};
-ghost use mathlib.Core.Bool.{true};
 ghost use Prim.Native.Nat.{ℕ, _+_, _*_, _<_, _≤_};
+ghost use mathlib.Core.Bool.{true};
 ghost use lib.ListN.{length};
 ghost use Rattle.words.specs.Bits.{flat, stamp, val};
 ghost use Rattle.values.specs.inside.writing.Bools.{AtLeast, Bools, BoolRun, truths};
 ghost use Rattle.values.specs.inside.writing.Passes.{Applied, accepted, leftAt};
 ghost use Rattle.values.specs.writing.Writing.{boolsIn};
+use crate::stream::kinds;
 use crate::stream::tokens::kind_of;
 use words::set_bit;
 
@@ -19,7 +20,7 @@ fn close_of(s: &[u8], k: usize) -> usize
     let mut p = k;
     loop {
         let kind = kind_of(s, p);
-        if kind == 11 {
+        if kind == kinds::ARRAY_CLOSE {
             return p;
         }
         p += 1;

@@ -1,9 +1,9 @@
 // The check of atomics, arrays of them and texts (document 01, "Writing"): whether the entries fit, with no image. Each
 // answers the number of the entry after its own, or a refusal.
 ghost use mathlib.Core.Path.{_≡_};
+ghost use Prim.Native.Nat.{ℕ, _+_, _*_, _^_, _<_, _≤_, min};
 ghost use mathlib.Core.Bool.{true};
 ghost use mathlib.Core.List.{List};
-ghost use Prim.Native.Nat.{ℕ, _+_, _*_, _^_, _<_, _≤_, min};
 ghost use Rattle.words.specs.Bits.{Bits};
 ghost use Rattle.types.specs.atomics.Atomic.{bitString, sizeOf};
 ghost use Rattle.types.specs.tables.Lent.{memberAt};
@@ -15,6 +15,10 @@ ghost use Rattle.values.specs.reading.Trees.{atomicsTree};
 ghost use Rattle.values.specs.stream.Stream.{Token};
 ghost use Rattle.values.specs.writing.Effects.{asText, orNull};
 ghost use Rattle.values.specs.writing.Writing.{Outcome, boolsIn, elements, write, writeOne};
+use crate::stream::kinds;
+use crate::stream::tokens::MISFIT;
+use crate::stream::tokens::PAST_LAST;
+use crate::stream::tokens::TOO_LONG;
 use crate::stream::tokens::high;
 use crate::stream::tokens::kind_at;
 use crate::stream::tokens::kind_of;
@@ -38,7 +42,7 @@ pub fn check_atomic(a: Atomic, s: &[u8], n: usize, k: usize) -> usize
         (writeOne (orNull (atomicTakes a)) w p (leftAt (now (s .entry)) k))) ⌝ }
 {
     if n <= k {
-        return refused(18, k);
+        return refused(MISFIT, k);
     }
     let number = misfit(limits_of(a), kind_of(s, k), payload_of(s, k));
     if number == 0 {
@@ -54,17 +58,17 @@ pub fn check_text(capacity: u32, s: &[u8], n: usize, k: usize) -> usize
         (writeOne (orNull (asText capacity)) w p (leftAt (now (s .entry)) k))) ⌝ }
 {
     let kind = kind_at(s, n, k);
-    if kind == 0 {
+    if kind == kinds::NULL {
         return k + 1;
     }
-    if kind == 6 {
+    if kind == kinds::TEXT {
         let long = high(payload_of(s, k));
         if capacity < long {
-            return refused(21, k);
+            return refused(TOO_LONG, k);
         }
         return k + 1;
     }
-    refused(18, k)
+    refused(MISFIT, k)
 }
 
 // After the last place of an array only the close fits.
@@ -74,13 +78,13 @@ fn close_at(s: &[u8], n: usize, k: usize) -> usize
         → Checked (now (s .entry)) k r (elements m one w p (leftAt (now (s .entry)) k))) ⌝ }
 {
     if n <= k {
-        return refused(18, k);
+        return refused(MISFIT, k);
     }
     let kind = kind_of(s, k);
-    if kind == 11 {
+    if kind == kinds::ARRAY_CLOSE {
         return k + 1;
     }
-    refused(20, k)
+    refused(PAST_LAST, k)
 }
 
 // The entry after 8 places for each byte, or the end of the entries if it comes first.
@@ -115,11 +119,11 @@ fn check_bools(bytes: usize, s: &[u8], n: usize, k: usize) -> usize
     let mut p = k;
     while p < last {
         let kind = kind_of(s, p);
-        if kind != 1 {
-            if kind == 11 {
+        if kind != kinds::BOOL {
+            if kind == kinds::ARRAY_CLOSE {
                 return p + 1;
             }
-            return refused(18, p);
+            return refused(MISFIT, p);
         }
         p += 1;
     }
@@ -139,7 +143,7 @@ fn check_numbers(a: Atomic, count: usize, s: &[u8], n: usize, k: usize) -> usize
         let kind = kind_of(s, p);
         let number = misfit(limits, kind, payload_of(s, p));
         if number != 0 {
-            if kind == 11 {
+            if kind == kinds::ARRAY_CLOSE {
                 return p + 1;
             }
             return refused(number, p);
@@ -157,7 +161,7 @@ fn check_bits(a: Atomic, s: &[u8], n: usize, k: usize) -> usize
         (write (atomicsTree a 0) p (leftAt (now (s .entry)) k))) ⌝ }
 {
     let kind = kind_at(s, n, k);
-    if kind == 10 {
+    if kind == kinds::ARRAY_OPEN {
         return check_bools(size_of(a), s, n, k + 1);
     }
     check_atomic(a, s, n, k)
@@ -173,7 +177,7 @@ fn check_run(a: Atomic, count: usize, s: &[u8], n: usize, k: usize) -> usize
     let bits = is_bits(a);
     let kind = kind_at(s, n, k);
     if bits {
-        if kind == 1 {
+        if kind == kinds::BOOL {
             return check_bools(size_of(a) * count, s, n, k);
         }
         return check_numbers(a, count, s, n, k);
@@ -189,13 +193,13 @@ fn check_array(a: Atomic, count: usize, s: &[u8], n: usize, k: usize) -> usize
         (write (atomicsTree a count) p (leftAt (now (s .entry)) k))) ⌝ }
 {
     let kind = kind_at(s, n, k);
-    if kind == 0 {
+    if kind == kinds::NULL {
         return k + 1;
     }
-    if kind == 10 {
+    if kind == kinds::ARRAY_OPEN {
         return check_run(a, count, s, n, k + 1);
     }
-    refused(18, k)
+    refused(MISFIT, k)
 }
 
 // An atomic, or an array of them where `count` is not 0.
@@ -206,8 +210,7 @@ pub fn check_atomics(a: Atomic, count: usize, s: &[u8], n: usize, k: usize) -> u
         (write (atomicsTree a count) p (leftAt (now (s .entry)) k))) ⌝ }
 {
     if count == 0 {
-        let bits = is_bits(a);
-        if bits {
+        if is_bits(a) {
             return check_bits(a, s, n, k);
         }
         return check_atomic(a, s, n, k);
@@ -236,7 +239,7 @@ pub fn check_leaf(members: &MemberTable, row: usize, s: &[u8], n: usize, k: usiz
                     return check_atomics(a, count, s, n, k);
                 }
                 Ty::Struct(_) => {
-                    return refused(18, k);
+                    return refused(MISFIT, k);
                 }
             }
         }

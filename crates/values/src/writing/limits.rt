@@ -3,6 +3,9 @@
 ghost use mathlib.Core.Path.{_≡_};
 ghost use Rattle.values.specs.inside.writing.Limits.{aboveMisfit, limitsOf, misfit as misfitOf, signedMisfit};
 ghost use Rattle.values.specs.inside.writing.Limits.{wholeMisfit};
+use crate::stream::kinds;
+use crate::stream::tokens::MISFIT;
+use crate::stream::tokens::OUT_OF_RANGE;
 use types::Atomic;
 
 // The one kind that is taken, or 2 for whole numbers: these have a greatest number, and a greatest that is too low, a
@@ -27,7 +30,7 @@ fn wholes(under: u64, most: u64) -> Limits
     ensures { λ r. ⌜ r ≡ record { kind = 2; under = under; most = most } ⌝ }
 {
     Limits {
-        kind: 2,
+        kind: kinds::SIGNED,
         under,
         most,
     }
@@ -37,7 +40,7 @@ pub fn limits_of(a: Atomic) -> Limits
     ensures { λ r. ⌜ r ≡ limitsOf a ⌝ }
 {
     match a {
-        Atomic::Bool => one_kind(1),
+        Atomic::Bool => one_kind(kinds::BOOL),
         Atomic::SInt => wholes(0xFFFF_FFFF_FFFF_FF7F, 0x7F),
         Atomic::Int => wholes(0xFFFF_FFFF_FFFF_7FFF, 0x7FFF),
         Atomic::DInt => wholes(0xFFFF_FFFF_7FFF_FFFF, 0x7FFF_FFFF),
@@ -46,8 +49,8 @@ pub fn limits_of(a: Atomic) -> Limits
         Atomic::UInt => wholes(0xFFFF_FFFF_FFFF_FFFF, 0xFFFF),
         Atomic::UDInt => wholes(0xFFFF_FFFF_FFFF_FFFF, 0xFFFF_FFFF),
         Atomic::ULInt => wholes(0xFFFF_FFFF_FFFF_FFFF, 0xFFFF_FFFF_FFFF_FFFF),
-        Atomic::Real => one_kind(4),
-        Atomic::LReal => one_kind(5),
+        Atomic::Real => one_kind(kinds::REAL),
+        Atomic::LReal => one_kind(kinds::LREAL),
         Atomic::Byte => wholes(0xFFFF_FFFF_FFFF_FF7F, 0xFF),
         Atomic::Word => wholes(0xFFFF_FFFF_FFFF_7FFF, 0xFFFF),
         Atomic::DWord => wholes(0xFFFF_FFFF_7FFF_FFFF, 0xFFFF_FFFF),
@@ -62,7 +65,7 @@ fn above_misfit(f: Limits, x: u64) -> usize
     if x <= most {
         return 0;
     }
-    19
+    OUT_OF_RANGE
 }
 
 fn signed_misfit(f: Limits, x: u64) -> usize
@@ -73,7 +76,7 @@ fn signed_misfit(f: Limits, x: u64) -> usize
         if under < x {
             return 0;
         }
-        return 19;
+        return OUT_OF_RANGE;
     }
     above_misfit(f, x)
 }
@@ -81,28 +84,28 @@ fn signed_misfit(f: Limits, x: u64) -> usize
 fn whole_misfit(f: Limits, kind: u8, x: u64) -> usize
     ensures { λ r. ⌜ r ≡ wholeMisfit f kind x ⌝ }
 {
-    if kind == 2 {
+    if kind == kinds::SIGNED {
         return signed_misfit(f, x);
     }
-    if kind == 3 {
+    if kind == kinds::UNSIGNED {
         return above_misfit(f, x);
     }
-    18
+    MISFIT
 }
 
 // 0 where an entry of a kind and a payload is taken, null among them; else the refusal's number.
 pub fn misfit(f: Limits, kind: u8, x: u64) -> usize
     ensures { λ r. ⌜ r ≡ misfitOf f kind x ⌝ }
 {
-    if kind == 0 {
+    if kind == kinds::NULL {
         return 0;
     }
     let one = f.kind;
-    if one == 2 {
+    if one == kinds::SIGNED {
         return whole_misfit(f, kind, x);
     }
     if kind == one {
         return 0;
     }
-    18
+    MISFIT
 }

@@ -1,8 +1,8 @@
 // Atomics, arrays of them and texts set in an image (document 01, "Writing"), once the check has accepted every entry.
 // Each answers the number of the entry after its own.
 ghost use mathlib.Core.Path.{_≡_};
-ghost use mathlib.Core.Bool.{true};
 ghost use Prim.Native.Nat.{ℕ, _+_, _*_, _%_, _^_, _<_, _≤_};
+ghost use mathlib.Core.Bool.{true};
 ghost use lib.ListN.{length, replicate};
 ghost use lib.Seq.{sets};
 ghost use Rattle.words.specs.Bits.{flat};
@@ -20,6 +20,7 @@ ghost use Rattle.values.specs.reading.Trees.{atomicsTree};
 ghost use Rattle.values.specs.stream.Form.{streamOk};
 ghost use Rattle.values.specs.writing.Effects.{asText, orNull, taken};
 ghost use Rattle.values.specs.writing.Writing.{elements, write, writeOne};
+use crate::stream::kinds;
 use crate::stream::tokens::high;
 use crate::stream::tokens::kind_of;
 use crate::stream::tokens::low;
@@ -94,7 +95,7 @@ pub fn set_atomic(a: Atomic, s: &[u8], k: usize, image: &mut [u8], base: usize) 
         (writeOne (orNull (atomicTakes a)) (8 * sizeOf a) (8 * base) (leftAt (now (s .entry)) k)) ⌝ }
 {
     let kind = kind_of(s, k);
-    if kind == 0 {
+    if kind == kinds::NULL {
         return k + 1;
     }
     put_low(image, base, size_of(a), payload_of(s, k));
@@ -110,7 +111,7 @@ fn set_flag(s: &[u8], k: usize, image: &mut [u8], at: usize, bit: u8) -> usize
         (writeOne (orNull (taken flag)) 1 (8 * at + bit) (leftAt (now (s .entry)) k)) ⌝ }
 {
     let kind = kind_of(s, k);
-    if kind == 0 {
+    if kind == kinds::NULL {
         return k + 1;
     }
     put_bit(image, at, bit, payload_of(s, k) == 1);
@@ -126,7 +127,7 @@ pub fn set_text(capacity: u32, s: &[u8], k: usize, image: &mut [u8], base: usize
         (writeOne (orNull (asText capacity)) (32 + 8 * capacity) (8 * base) (leftAt (now (s .entry)) k)) ⌝ }
 {
     let kind = kind_of(s, k);
-    if kind == 0 {
+    if kind == kinds::NULL {
         return k + 1;
     }
     let x = payload_of(s, k);
@@ -152,10 +153,10 @@ fn set_numbers(a: Atomic, count: usize, s: &[u8], k: usize, image: &mut [u8], ba
     let mut p = k;
     while p - k < count {
         let kind = kind_of(s, p);
-        if kind == 11 {
+        if kind == kinds::ARRAY_CLOSE {
             return p + 1;
         }
-        if kind == 0 {
+        if kind == kinds::NULL {
             p += 1;
         } else {
             put_low(image, base + size * (p - k), size, payload_of(s, p));
@@ -174,7 +175,7 @@ fn set_bits(a: Atomic, s: &[u8], k: usize, image: &mut [u8], base: usize) -> usi
         (write (atomicsTree a 0) (8 * base) (leftAt (now (s .entry)) k)) ⌝ }
 {
     let kind = kind_of(s, k);
-    if kind == 10 {
+    if kind == kinds::ARRAY_OPEN {
         put_low(image, base, size_of(a), 0);
         return set_bools(s, k + 1, image, base);
     }
@@ -188,10 +189,9 @@ fn set_run(a: Atomic, count: usize, s: &[u8], k: usize, image: &mut [u8], base: 
     ensures { λ r. ⌜ Applied (now (s .entry)) k r (now (image .entry)) (now (image .exit))
         (runIn a count (8 * base) (leftAt (now (s .entry)) k)) ⌝ }
 {
-    let bits = is_bits(a);
-    if bits {
+    if is_bits(a) {
         let kind = kind_of(s, k);
-        if kind == 1 {
+        if kind == kinds::BOOL {
             return set_bools(s, k, image, base);
         }
         return set_numbers(a, count, s, k, image, base);
@@ -208,7 +208,7 @@ fn set_array(a: Atomic, count: usize, s: &[u8], k: usize, image: &mut [u8], base
         (write (atomicsTree a count) (8 * base) (leftAt (now (s .entry)) k)) ⌝ }
 {
     let kind = kind_of(s, k);
-    if kind == 0 {
+    if kind == kinds::NULL {
         return k + 1;
     }
     set_run(a, count, s, k + 1, image, base)
@@ -229,8 +229,7 @@ pub fn set_atomics(
         (write (atomicsTree a count) (8 * base) (leftAt (now (s .entry)) k)) ⌝ }
 {
     if count == 0 {
-        let bits = is_bits(a);
-        if bits {
+        if is_bits(a) {
             return set_bits(a, s, k, image, base);
         }
         return set_atomic(a, s, k, image, base);

@@ -1,8 +1,8 @@
 // Writing (document 01, "Writing"): the entries of a value stream set in a tag's bytes. Every entry is checked before
 // the first byte is set, so that a refusal leaves the image as it was.
 ghost use mathlib.Core.Path.{_≡_};
-ghost use mathlib.Core.Bool.{true};
 ghost use Prim.Native.Nat.{_*_, _%_, _^_, _<_, _≤_};
+ghost use mathlib.Core.Bool.{true};
 ghost use Rattle.words.specs.Bits.{flat};
 ghost use Rattle.types.specs.inside.tables.Lent.{TyFits};
 ghost use Rattle.types.specs.layout.Placing.{times};
@@ -24,8 +24,8 @@ use crate::stream::tokens::REFUSED;
 use crate::stream::tokens::as_size;
 use crate::writing::apply::apply_elements;
 use crate::writing::apply::apply_struct;
-use crate::writing::checks::check_elements;
-use crate::writing::checks::check_struct;
+use crate::writing::check::check_elements;
+use crate::writing::check::check_struct;
 use crate::writing::fits::check_atomics;
 use crate::writing::sets::set_atomics;
 use types::MemberTable;
@@ -157,17 +157,14 @@ pub fn write(
     ensures { λ r. ⌜ Done (now (types .entry)) (now (members .entry)) ty count (now (s .entry)) (now (image .entry)) r
         (now (image .exit)) ⌝ }
 {
-    let there = is_there(types, ty);
-    if !there {
+    if !is_there(types, ty) {
         return Taken::Refused(Refusal::NoSuchType);
     }
     let n = as_size(count);
-    let fits = is_product(image.len(), size_of_ty(types, ty), times_of(n));
-    if !fits {
+    if !is_product(image.len(), size_of_ty(types, ty), times_of(n)) {
         return Taken::Refused(Refusal::ImageLength);
     }
-    let good = stream_ok(s);
-    if !good {
+    if !stream_ok(s) {
         return Taken::Refused(Refusal::StreamMalformed);
     }
     write_entries(types, members, ty, n, s, image)

@@ -16,30 +16,12 @@ slice-aggregate-same : tie.Need-slice-aggregate-same
 slice-aggregate-same c =
     let s = c .before .before .before in sym (length-take-le 5 (s .args .answer .now) (s .pre))
 
-slice-aggregate-same-2 : tie.Need-slice-aggregate-same-2
-slice-aggregate-same-2 c = search needs
-
-same-requires : tie.Need-same-requires
-same-requires c κs = search needs
-
-sub-same : tie.Need-sub-same
-sub-same c = search needs
-
-part-same-start : tie.Need-part-same-start
-part-same-start c = search needs
-
-part-same-end : tie.Need-part-same-end
-part-same-end c = search needs
-
-same-requires-2 : tie.Need-same-requires-2
-same-requires-2 c κs = search needs
-
 returns : tie.Need-returns
 returns c =
     let branch = c .before .before in
     let a = branch .before .before .before .before .before .before .args in
     accepts-rest (a .bytes .now) (a .answer .now) (head (branch .before)) (branch .if1 .taken)
-    (told-rest (a .answer .now) 5 _ _ (c .same2 .ensures))
+    (told-rest (a .answer .now) 5 (c .same2 .ensures))
 
 returns-2 : tie.Need-returns-2
 returns-2 c =
@@ -51,11 +33,11 @@ accepted-spec =
     tie.close
     (tie.spec
     slice-aggregate-same
-    slice-aggregate-same-2
-    same-requires
-    sub-same
-    part-same-start
-    part-same-end
-    same-requires-2
+    (λ c. search needs)
+    (λ c κs. search needs)
+    (λ c. search needs)
+    (λ c. search needs)
+    (λ c. search needs)
+    (λ c κs. search needs)
     returns
     returns-2)

@@ -1,8 +1,8 @@
 -- `cases::agrees` meets its contract.
 use borrow.Author.Needs.{needs}
 use mathlib.Core.Path.{_∙_}
-use Rattle.cases.proofs.ExpectedLaws.{told, rest-lent, agrees-empty, agrees-short, agrees-bytes}
-use Rattle.cases.proofs.ExpectedLaws.{agrees-refused, agrees-exactly, agrees-unknown}
+use Rattle.cases.proofs.ExpectedLaws.{told, rest-lent, agrees-empty, agrees-short, agrees-bytes, agrees-refused}
+use Rattle.cases.proofs.ExpectedLaws.{agrees-exactly, agrees-unknown}
 use Rattle.cases.proofs.expected.agrees.Statement.{statement}
 use Rattle.cases.proofs.expected.agrees.Tie as tie
 
@@ -16,21 +16,6 @@ returns-2 c =
     let a = c .before .before .before .before .args in
     agrees-short (a .kind) (a .expected .now) (a .answer .now) (c .before .if1 .left) (c .if2 .taken)
 
-shared-slice-read-form : tie.Need-shared-slice-read-form
-shared-slice-read-form c = search needs
-
-sub-rest : tie.Need-sub-rest
-sub-rest c = search needs
-
-part-rest-start : tie.Need-part-rest-start
-part-rest-start c = search needs
-
-part-rest-end : tie.Need-part-rest-end
-part-rest-end c = search needs
-
-accepted-requires : tie.Need-accepted-requires
-accepted-requires c κs = search needs
-
 returns-3 : tie.Need-returns-3
 returns-3 c =
     let long = c .before .before .before .before in
@@ -38,18 +23,12 @@ returns-3 c =
     agrees-bytes (a .kind) (a .expected .now) (a .answer .now) (long .before .if1 .left) (long .if2 .left)
     (c .before .if3 .taken) (c .accepted .ensures ∙ rw rest-lent)
 
-refused-requires : tie.Need-refused-requires
-refused-requires c κs = search needs
-
 returns-4 : tie.Need-returns-4
 returns-4 c =
     let long = c .before .before .before .before .before in
     let a = long .before .before .before .before .args in
     agrees-refused (a .kind) (a .expected .now) (a .answer .now) (long .before .if1 .left) (long .if2 .left)
     (c .before .if4 .taken) (c .refused .ensures ∙ rw rest-lent)
-
-same-requires : tie.Need-same-requires
-same-requires c κs = search needs
 
 returns-5 : tie.Need-returns-5
 returns-5 c =
@@ -71,14 +50,14 @@ agrees-spec =
     (tie.spec
     returns
     returns-2
-    shared-slice-read-form
-    sub-rest
-    part-rest-start
-    part-rest-end
-    accepted-requires
+    (λ c. search needs)
+    (λ c. search needs)
+    (λ c. search needs)
+    (λ c. search needs)
+    (λ c κs. search needs)
     returns-3
-    refused-requires
+    (λ c κs. search needs)
     returns-4
-    same-requires
+    (λ c κs. search needs)
     returns-5
     returns-6)

@@ -4,9 +4,6 @@ use Rattle.cases.proofs.ExpectedLaws.{told-rest, refuses-none, refuses-
 use Rattle.cases.proofs.expected.refused.Statement.{statement}
 use Rattle.cases.proofs.expected.refused.Tie as tie
 
-shared-slice-read-number : tie.Need-shared-slice-read-number
-shared-slice-read-number c = search needs
-
 returns : tie.Need-returns
 returns c =
     let a = c .before .before .before .before .args in
@@ -17,24 +14,12 @@ returns-2 c =
     let a = c .before .before .before .before .before .args in
     refuses-not (a .kind) (a .image .now) (a .answer .now) (c .before .if1 .left) (c .if2 .taken)
 
-sub-same : tie.Need-sub-same
-sub-same c = search needs
-
-part-same-start : tie.Need-part-same-start
-part-same-start c = search needs
-
-part-same-end : tie.Need-part-same-end
-part-same-end c = search needs
-
-same-requires : tie.Need-same-requires
-same-requires c κs = search needs
-
 returns-3 : tie.Need-returns-3
 returns-3 c =
     let t = c .before .before in
     let a = t .before .before .before .before .before .before .args in
     refuses-write (a .kind) (a .image .now) (a .answer .now) (t .before .before .if1 .left) (t .before .if2 .left)
-    (t .if3 .taken) (told-rest (a .answer .now) 5 _ _ (c .same .ensures))
+    (t .if3 .taken) (told-rest (a .answer .now) 5 (c .same .ensures))
 
 returns-4 : tie.Need-returns-4
 returns-4 c =
@@ -46,12 +31,12 @@ pub refused-spec : {M : Type 1} → statement M
 refused-spec =
     tie.close
     (tie.spec
-    shared-slice-read-number
+    (λ c. search needs)
     returns
     returns-2
-    sub-same
-    part-same-start
-    part-same-end
-    same-requires
+    (λ c. search needs)
+    (λ c. search needs)
+    (λ c. search needs)
+    (λ c κs. search needs)
     returns-3
     returns-4)

@@ -14,8 +14,8 @@ use lib.ListN.{length, getD, set, drop, length-set, drop-of-length-le}
 use lib.Seq.{drop-cons, getD-set-same, getD-set-other}
 use Rattle.types.specs.adding.Checks.{entryOf, entriesFrom, among, checked}
 use Rattle.types.specs.book.Names.{lowerOf, sameName, goodName}
-use Rattle.types.specs.inside.adding.Checks.{memberName, EntriesInside, namesBefore}
-use Rattle.types.specs.inside.adding.Checks.{markFrom, markOf, Marked, Marks, Looked, CheckedOne}
+use Rattle.types.specs.inside.adding.Checks.{memberName, EntriesInside, namesBefore, markFrom, markOf, Marked}
+use Rattle.types.specs.inside.adding.Checks.{Marks, Looked, CheckedOne}
 use Rattle.types.specs.tables.Defs.{nameIn}
 use Rattle.types.specs.declared.adding.checks.Checked.{Checked}
 use Rattle.types.specs.declared.adding.checks.Checked.the-variants.{Good, NameWrong, Twice, LocalOutside}
@@ -46,10 +46,12 @@ pub record Marking (s : List ℕ) (h i : ℕ) : Type 0 where
   pub small : h < 16384
   pub rest : markOf s ≡ markFrom h (drop i s)
 
+-- at the start of a name its mark so far is 0, and all its bytes are left
 pub marking-start : (s : List ℕ) → Marking s 0 0
 marking-start s = record { inside = omega arith; small = omega arith; rest = refl }
 
 module _ {s : List ℕ} {h i : ℕ} (m : Marking s h i) where
+  -- the next byte of a name, as its small letter, goes into the mark so far
   pub marking-on : i < length s → {x : ℕ} → x ≡ lowerOf (getD s i 0) → Marking s ((h * 327 + x) % 16384) (i + 1)
   unfolding markFrom
   marking-on l e =
@@ -59,6 +61,7 @@ module _ {s : List ℕ} {h i : ℕ} (m : Marking s h i) where
         rest = m .rest ∙ rw (add-one, drop-cons s i 0 l, e);
       }
 
+  -- where no byte is left, the mark so far is the name's
   pub marking-done : length s ≤ i → {r : ℕ} → r ≡ h → Marked s r
   unfolding markFrom
   marking-done l e =
@@ -79,18 +82,21 @@ module _ (names : ℕ → List ℕ) where
   before-cons k m e = rw e
 
   module _ (s : List ℕ) (k : ℕ) (l : 0 < k) (b : Bool) (e : b ≡ sameName (names (k - 1)) s) where
+    -- a name that is the same as the last of those before stands among them
     pub among-here : b ≡ true → true ≡ among s (namesBefore names k)
     unfolding among
     among-here q =
         let g : sameName (names (k - 1)) s ≡ true = sym e ∙ q in
         rw (before-cons k (k - 1) (omega arith)) (rw g)
 
+    -- a name that differs from the last of those before stands among them just where it does among the others
     pub among-on : b ≡ false → among s (namesBefore names k) ≡ among s (namesBefore names (k - 1))
     unfolding among
     among-on q =
         let g : sameName (names (k - 1)) s ≡ false = sym e ∙ q in
         rw (before-cons k (k - 1) (omega arith)) (rw g)
 
+  -- where no names came before, no name stands among them
   pub among-none : (s : List ℕ) (k : ℕ) → k ≤ 0 → false ≡ among s (namesBefore names k)
   unfolding among namesBefore
   among-none s zero l = refl
@@ -140,6 +146,7 @@ module _ (book : List ℕ) (at j : ℕ) {seen s : List ℕ} {m : ℕ} (e : s ≡
   mark-here : m ≡ markOf (memberName book at j)
   mark-here = p .is ∙ ap markOf e
 
+  -- a member's name whose mark was not set is new, and its mark is set then
   pub looked-new : getD seen m 0 ≡ 0 → Looked book at j (set seen m 1) false
   looked-new z =
       record {
@@ -148,6 +155,7 @@ module _ (book : List ℕ) (at j : ℕ) {seen s : List ℕ} {m : ℕ} (e : s ≡
             (rw (← mark-here) (set-here seen m (rw (k .long) (p .small))));
       }
 
+  -- a member's name whose mark was set is looked up among those before, and the marks stay
   pub looked-on : (getD seen m 0 ≡ 0 → ⊥) → {r : Bool} → r ≡ among s (namesBefore (memberName book at) j)
       → Looked book at j seen r
   looked-on n q =
@@ -178,15 +186,18 @@ module _ (book : List ℕ) (aoi : Bool) (at j : ℕ) where
   one-is p q r = rw (p, q, r)
 
   module _ {good : Bool} (e : good ≡ goodName (memberName book at j)) where
+    -- a member whose name is outside the rule is answered as wrongly named
     pub one-misnamed : good ≡ false → (seen : List ℕ) → CheckedOne book aoi at j seen NameWrong
     one-misnamed q seen = record { is = one-is (sym e ∙ q) refl refl; marks = λ h. absurd (stopped refl h) }
 
     module _ (q : good ≡ true) {seen : List ℕ} {known : Bool} (w : Looked book at j seen known) where
+      -- a member with a good name that stands among those before is answered as there twice
       pub one-twice : known ≡ true → CheckedOne book aoi at j seen Twice
       one-twice r =
           record { is = one-is (sym e ∙ q) (sym (w .is) ∙ r) refl; marks = λ h. absurd (stopped refl h) }
 
       module _ (r : known ≡ false) {local : ℕ} (p : local ≡ entryOf book at j .local) where
+        -- a member with a good, new name that is no local is good
         pub one-shown : (local ≡ 1 → ⊥) → CheckedOne book aoi at j seen Good
         one-shown n =
             let i : eqb (entryOf book at j .local) 1 ≡ false = rw (← p) (ne-eqb local 1 n) in
@@ -196,6 +207,7 @@ module _ (book : List ℕ) (aoi : Bool) (at j : ℕ) where
           is-local : eqb (entryOf book at j .local) 1 ≡ true
           is-local = rw (← p) (eq-eqb local 1 l)
 
+          -- a local with a good, new name is good in an AOI
           pub one-inside : aoi ≡ true → CheckedOne book aoi at j seen Good
           one-inside a =
               record {
@@ -203,6 +215,7 @@ module _ (book : List ℕ) (aoi : Bool) (at j : ℕ) where
                 marks = λ h. w .marks;
               }
 
+          -- a local with a good, new name outside an AOI is answered as that
           pub one-outside : aoi ≡ false → CheckedOne book aoi at j seen LocalOutside
           one-outside a =
               record {
@@ -212,6 +225,7 @@ module _ (book : List ℕ) (aoi : Bool) (at j : ℕ) where
 
 -- ---- the members one after the other
 
+-- where n entries and their names lie in the book, so do the first m of them
 pub inside-less : {book : List ℕ} {at n : ℕ} (m : ℕ) → EntriesInside book at n → m ≤ n → EntriesInside book at m
 inside-less m w l = record { inside = omega (arith, w .inside); names = λ k h. w .names k (omega arith) }
 
@@ -250,6 +264,7 @@ pub record Checking (book : List ℕ) (aoi : Bool) (at n : ℕ) (seen : List ℕ
   pub rest : checked book aoi [] (entriesFrom book at 0 n)
       ≡ checked book aoi (namesBefore (memberName book at) j) (entriesFrom book at j (n - j))
 
+-- before the first member all are still to be checked, whatever marks are set
 pub checking-start : (book : List ℕ) (aoi : Bool) (at n : ℕ) {seen : List ℕ} → length seen ≡ 16384
     → Checking book aoi at n seen 0
 unfolding namesBefore
@@ -269,12 +284,15 @@ module _ {book : List ℕ} {aoi : Bool} {at n : ℕ} {seen : List ℕ} {j : ℕ}
         let b = before-cons (memberName book at) (j + 1) j (omega arith) in
         w .rest ∙ rw (from-cons (entryOf book at) n j l, b, o .is) (checked-cons book aoi _ _ _)
 
+    -- after a good member, the answer for all is that for the members after it
     pub checking-on : r ≡ Good → Checking book aoi at n left (j + 1)
     checking-on q = record { inside = omega arith; marks = o .marks q; rest = one-then ∙ rw q }
 
+    -- the answer for a member that is not good is the answer for all
     pub checking-off : {x : Checked} → r ≡ x → stops x ≡ true → x ≡ checked book aoi [] (entriesFrom book at 0 n)
     checking-off {x} q s = sym (one-then ∙ rw q (onward-stops x _ s))
 
+  -- where no member is left, all are good
   pub checking-done : n ≤ j → Good ≡ checked book aoi [] (entriesFrom book at 0 n)
   unfolding checked
   checking-done l = sym (w .rest ∙ rw (from-none (entryOf book at) n j l))

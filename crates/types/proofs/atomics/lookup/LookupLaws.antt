@@ -4,8 +4,7 @@ use native.Mathlib.Omega.{arith}
 use mathlib.Core.Path.{_≡_, refl, sym, ap₂, _∙_}
 use mathlib.Core.Bool.{Bool, true, false, cond}
 use mathlib.Core.List.{List, [], _∷_}
-use Rattle.types.specs.atomics.Atomic.{atomicNamed}
-use Rattle.types.specs.atomics.Atomic.{saidBy as atomicSays}
+use Rattle.types.specs.atomics.Atomic.{atomicNamed, saidBy as atomicSays}
 use Rattle.types.specs.atomics.Lookup.{atomicOr, namedAmong, numberAmong, orElse, saidBy, typeAmong, wordAmong}
 use Rattle.types.specs.book.Contents.{listFrom}
 use Rattle.types.specs.book.Names.{sameName}
@@ -19,6 +18,7 @@ use Rattle.types.proofs.atomics.AtomicLaws.{named-said}
 
 module _ (name : ℕ → List ℕ) (s : List ℕ) (n i : ℕ) where
   module _ (l : i < n) (b : Bool) (e : b ≡ sameName (name i) s) where
+    -- where the i-th name is the same, the i-th structure is the first of those left with it
     pub named-here : b ≡ true → Is (Struct i) ≡ namedAmong (listFrom name i (n - i)) s i
     unfolding namedAmong listFrom
     named-here q =
@@ -26,6 +26,7 @@ module _ (name : ℕ → List ℕ) (s : List ℕ) (n i : ℕ) where
         let g : sameName (name i) s ≡ true = sym e ∙ q in
         rw f (rw g)
 
+    -- where the i-th name differs, the search has the same answer over the structures after it
     pub named-later : b ≡ false → namedAmong (listFrom name i (n - i)) s i
         ≡ namedAmong (listFrom name (i + 1) (n - (i + 1))) s (i + 1)
     unfolding namedAmong listFrom
@@ -34,6 +35,7 @@ module _ (name : ℕ → List ℕ) (s : List ℕ) (n i : ℕ) where
         let g : sameName (name i) s ≡ false = sym e ∙ q in
         rw f (rw g)
 
+  -- where no structure is left, none is found
   pub named-never : n ≤ i → Nothing ≡ namedAmong (listFrom name i (n - i)) s i
   unfolding namedAmong listFrom
   named-never l =

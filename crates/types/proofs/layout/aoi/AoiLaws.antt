@@ -13,6 +13,7 @@ use Rattle.types.specs.layout.HostNames.{bitHostName}
 use Rattle.types.specs.layout.Placing.{isBool}
 use Rattle.types.specs.layout.Structs.{named, namesOf, rowsOf, bools, bitHostAt, hostParts}
 use Rattle.types.specs.tables.Defs.{Part}
+use Rattle.types.specs.tables.Limits.{mostMembers, mostNames}
 use Rattle.types.specs.declared.layout.placing.Decl.{Decl}
 use Rattle.types.proofs.book.DeclLaws.{decls-cons, decls-none}
 use Rattle.types.proofs.layout.StoreLaws.{one-name, names-append, rows-then, names-then}
@@ -25,11 +26,13 @@ pub record Counting (types book tys : List ℕ) (at n count j : ℕ) : Type 0 wh
   pub most : count ≤ j
   pub same : bools (declsFrom types book tys at 0 n) ≡ count + bools (declsFrom types book tys at j (n - j))
 
+-- before the first member the count is 0
 pub counts : (types book tys : List ℕ) (at n : ℕ) → Found book tys at n → n ≤ 131072 → Counting types book tys at n 0 0
 counts types book tys at n f l =
     record { found = f; few = l; done = omega arith; most = omega arith; same = rw (sub-zero, zero-add) }
 
 module _ {types book tys : List ℕ} {at n count j : ℕ} (c : Counting types book tys at n count j) where
+  -- after the last member the count is that of all BOOLs
   pub counted : n ≤ j → BoolsCounted n (declsFrom types book tys at 0 n) count
   unfolding bools
   counted l =
@@ -38,6 +41,7 @@ module _ {types book tys : List ℕ} {at n count j : ℕ} (c : Counting types bo
         most = omega (arith, c .most, c .done);
       }
 
+  -- the j-th member adds one to the count where it is a BOOL, else nothing
   pub count-on : j < n → (d : Decl) (b : Bool) → d ≡ declAt types book tys at j → b ≡ isBool (d .ty) → {r : ℕ}
       → OneIf b r
       → Counting types book tys at n (count + r) (j + 1)
@@ -71,13 +75,15 @@ hosts-none h i l =
 -- what storing the hosts keeps: all stand once those that are left are stored after the others
 pub record Hosting (h row place : ℕ) (m₀ t₀ m t : List ℕ) (at i : ℕ) : Type 0 where
   pub done : i ≤ h
-  pub room : row + h ≤ 2000
-  pub bytes : at + length (namesOf (hostParts i (h - i))) ≤ 32768
+  pub room : row + h ≤ mostMembers
+  pub bytes : at + length (namesOf (hostParts i (h - i))) ≤ mostNames
   pub next : place + length (namesOf (hostParts 0 h)) ≡ at + length (namesOf (hostParts i (h - i)))
   pub rows : sets m₀ (8 * row) (rowsOf place (hostParts 0 h)) ≡ sets m (8 * (row + i)) (rowsOf at (hostParts i (h - i)))
   pub names : sets t₀ place (namesOf (hostParts 0 h)) ≡ sets t at (namesOf (hostParts i (h - i)))
 
-pub hosts-start : (h row place : ℕ) (m t : List ℕ) → row + h ≤ 2000 → place + length (namesOf (hostParts 0 h)) ≤ 32768
+-- before the first host the tables are as they were, with room for all hosts
+pub hosts-start : (h row place : ℕ) (m t : List ℕ) → row + h ≤ mostMembers
+    → place + length (namesOf (hostParts 0 h)) ≤ mostNames
     → Hosting h row place m t m t place 0
 hosts-start h row place m t r b =
     record {
@@ -90,6 +96,7 @@ hosts-start h row place m t r b =
     }
 
 module _ {h row place at i : ℕ} {m₀ t₀ m t : List ℕ} (s : Hosting h row place m₀ t₀ m t at i) where
+  -- after the last host all of them are stored
   pub hosts-done : h ≤ i → Put (hostParts 0 h) row place m₀ t₀ m t at
   unfolding namesOf rowsOf
   hosts-done l =
@@ -104,10 +111,12 @@ module _ {h row place at i : ℕ} {m₀ t₀ m t : List ℕ} (s : Hosting h row 
   host = named (bitHostName i) (bitHostAt i)
 
   module _ (l : i < h) where
-    pub host-room : at + length (bitHostName i) ≤ 32768
+    -- the names have room for that of the i-th host
+    pub host-room : at + length (bitHostName i) ≤ mostNames
     unfolding namesOf
     host-room = omega (arith, simp length-append at (rw (hosts-cons h i l) at (s .bytes)))
 
+    -- where the i-th host was stored, storing goes on with the next
     pub host-on : {m′ t′ : List ℕ} {r : ℕ} → HostPut i (row + i) at m t m′ t′ r
         → Hosting h row place m₀ t₀ m′ t′ (at + r) (i + 1)
     host-on {m′} {t′} {r} p =
@@ -151,10 +160,12 @@ pub record Adding (h long i : ℕ) : Type 0 where
   pub most : long ≤ 15 * i
   pub same : length (namesOf (hostParts 0 h)) ≡ long + length (namesOf (hostParts i (h - i)))
 
+-- before the first host the sum is 0
 pub adding-start : (h : ℕ) → h ≤ 131072 → Adding h 0 0
 adding-start h l = record { done = omega arith; few = l; most = omega arith; same = rw (sub-zero, zero-add) }
 
 module _ {h long i : ℕ} (s : Adding h long i) where
+  -- after the last host the sum is the length of all hosts' names
   pub adding-done : h ≤ i → HostsLong h long
   unfolding namesOf
   adding-done l =
@@ -163,6 +174,7 @@ module _ {h long i : ℕ} (s : Adding h long i) where
         most = omega (arith, s .most, s .done);
       }
 
+  -- with the length of the i-th host's name added, the sum has come one host further
   pub adding-on : i < h → {r : ℕ} → BitHostLong i r → Adding h (long + r) (i + 1)
   unfolding namesOf
   adding-on l b =

@@ -7,12 +7,11 @@ use mathlib.Core.List.{List, _++_}
 use lib.ListN.{length, length-append}
 use lib.Seq.{sets}
 use Rattle.types.specs.inside.book.Decls.{declsFrom}
-use Rattle.types.specs.inside.layout.Passes.{partsFrom}
-use Rattle.types.specs.inside.layout.Passes.{aoiParts}
-use Rattle.types.specs.inside.layout.Passes.{Put, Storable, StorableAoi}
+use Rattle.types.specs.inside.layout.Passes.{partsFrom, aoiParts, Put, Storable, StorableAoi}
 use Rattle.types.specs.layout.HostNames.{hostName}
 use Rattle.types.specs.layout.Structs.{namesOf, rowsOf, namedIn, hostParts, enableParts, aoiStart}
 use Rattle.types.specs.tables.Defs.{Part}
+use Rattle.types.specs.tables.Limits.{mostMembers, mostNames}
 use Rattle.types.proofs.layout.BoundLaws.{hosts-count}
 use Rattle.types.proofs.layout.StoreLaws.{names-append, rows-then, names-then}
 
@@ -26,20 +25,22 @@ module _ {types book tys type : List ℕ} {at n h row place : ℕ} (s : Storable
     parts = rw (s .hosts)
 
     -- how many rows and bytes of names the three take
-    pub rows-room : row + (h + (2 + length rest)) ≤ 2000
+    pub rows-room : row + (h + (2 + length rest)) ≤ mostMembers
     rows-room = omega (arith, hosts-count 0 h, simp (length-append, length-append) at (rw parts at (s .rows)))
 
-    pub names-room : place + (length (namesOf (hostParts 0 h)) + (17 + length (namesOf rest))) ≤ 32768
+    -- the names have room for the hosts' names, 17 bytes of EnableIn and EnableOut, and the members' names
+    pub names-room : place + (length (namesOf (hostParts 0 h)) + (17 + length (namesOf rest))) ≤ mostNames
     unfolding namesOf
     names-room =
         omega (arith, simp (names-append, length-append, names-append, length-append) at (rw parts at (s .names)))
 
+    -- the declared members can be stored after the hosts, EnableIn and EnableOut
     pub rest-storable : (at₂ : ℕ) → at₂ ≡ place + length (namesOf (hostParts 0 h)) + 17
         → Storable types book tys type at n (aoiStart h) (row + h + 2) at₂
     rest-storable at₂ e =
         record {
           found = s .found;
-          passed = 2000;
+          passed = mostMembers;
           few = omega (arith, s .few);
           far = record {
             offset = omega (arith, rows-room);
@@ -54,6 +55,7 @@ module _ {types book tys type : List ℕ} {at n h row place : ℕ} (s : Storable
 
     module _ {m₀ t₀ m₁ t₁ m₂ t₂ : List ℕ} {p₁ p₂ : ℕ} (a : Put (hostParts 0 h) row place m₀ t₀ m₁ t₁ p₁)
         (b : Put enableParts (row + h) p₁ m₁ t₁ m₂ t₂ p₂) where
+      -- the declared members' names begin 17 bytes after the hosts' names
       pub third : p₂ ≡ place + length (namesOf (hostParts 0 h)) + 17
       unfolding namesOf
       third = b .next ∙ rw (a .next)
@@ -66,6 +68,7 @@ module _ {types book tys type : List ℕ} {at n h row place : ℕ} (s : Storable
           (sym (rows-then m₀ row place (hostParts 0 h) (enableParts ++ rest)
           ∙ rw (hosts-count 0 h) (rows-then _ (row + h) _ enableParts rest)))
 
+      -- their names, one after the other, are the names of all parts
       pub all-names : {t : List ℕ} → t ≡ sets t₂ p₂ (namesOf rest)
           → t ≡ sets t₀ place (namesOf (aoiParts (namedIn book) type (declsFrom types book tys at 0 n)))
       all-names u =

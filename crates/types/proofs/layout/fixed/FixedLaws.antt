@@ -10,8 +10,8 @@ use lib.Seq.{sets}
 use Rattle.words.specs.Words.{part}
 use Rattle.words.proofs.Lists.{length-part}
 use Rattle.types.specs.inside.layout.Structs.{pairs}
-use Rattle.types.specs.layout.Structs.{named, namesOf, rowsOf, dintAt, dataOf, stringParts}
-use Rattle.types.specs.layout.Structs.{ctlAt, statusAt, statusParts, controlParts}
+use Rattle.types.specs.layout.Structs.{named, namesOf, rowsOf, dintAt, dataOf, stringParts, ctlAt, statusAt}
+use Rattle.types.specs.layout.Structs.{statusParts, controlParts}
 use Rattle.types.specs.tables.Defs.{Part}
 use Rattle.types.specs.declared.tables.member.Member.{Member}
 use Rattle.types.proofs.layout.StoreLaws.{one-name, rows-then, names-then}
@@ -38,6 +38,7 @@ lenName = 76 ∷ 69 ∷ 78 ∷ []
 abbrev pub dataName : List ℕ
 dataName = 68 ∷ 65 ∷ 84 ∷ 65 ∷ []
 
+-- the row of LEN and then that of DATA are a string's rows
 pub string-rows : (t : List ℕ) (row at c : ℕ)
     → sets (sets t (8 * row) (rowsOf at (named lenName (dintAt 0) ∷ []))) (8 * (row + 1))
     (rowsOf (at + 3) (named dataName (dataOf c) ∷ []))
@@ -45,6 +46,7 @@ pub string-rows : (t : List ℕ) (row at c : ℕ)
 unfolding stringParts
 string-rows t row at c = sym (rows-on t row at lenName (dintAt 0) 3 (named dataName (dataOf c) ∷ []) refl)
 
+-- the name LEN and then DATA are a string's names
 pub string-names : (t : List ℕ) (at c : ℕ)
     → sets (sets t at (namesOf (named lenName (dintAt 0) ∷ []))) (at + 3) (namesOf (named dataName (dataOf c) ∷ []))
     ≡ sets t at (namesOf (stringParts c))
@@ -58,6 +60,7 @@ pub lent-pair : (s : List ℕ) (i : ℕ) → take (2 * i + 2 - 2 * i) (drop (2 *
 unfolding part
 lent-pair s i = rw (add-sub-cancel-left (2 * i) 2)
 
+-- that part has two bytes
 pub pair-long : (s : List ℕ) (i : ℕ) → 2 * i + 2 ≤ length s → length (take (2 * i + 2 - 2 * i) (drop (2 * i) s)) ≡ 2
 pair-long s i h = ap length (lent-pair s i) ∙ length-part s (2 * i) 2 h
 
@@ -81,8 +84,9 @@ pub record Putting (bits m₀ t₀ : List ℕ) (row place n : ℕ) (m t : List �
   pub names : sets t₀ place (namesOf (statusParts 0 (pairs bits 0 n)))
       ≡ sets t (place + 2 * i) (namesOf (statusParts i (pairs bits i (n - i))))
 
-pub bits-start : (bits m t : List ℕ) (row place n : ℕ) → Putting bits m t row place n m t 0
-bits-start bits m t row place n =
+-- it is so before the first status bit
+pub bits-start : (bits m t : List ℕ) (row place : ℕ) {n : ℕ} → Putting bits m t row place n m t 0
+bits-start bits m t row place {n} =
     record {
       done = omega arith;
       rows = rw (add-zero, add-zero, sub-zero);
@@ -90,10 +94,12 @@ bits-start bits m t row place n =
     }
 
 module _ {bits m₀ t₀ m t : List ℕ} {row place n i : ℕ} (s : Putting bits m₀ t₀ row place n m t i) where
+  -- after the last status bit the rows of all are stored
   pub bits-rows : n ≤ i → m ≡ sets m₀ (8 * row) (rowsOf place (statusParts 0 (pairs bits 0 n)))
   unfolding statusParts rowsOf
   bits-rows l = sym (rw (pairs-none bits n i l) at (s .rows))
 
+  -- after the last status bit the names of all are stored
   pub bits-names : n ≤ i → t ≡ sets t₀ place (namesOf (statusParts 0 (pairs bits 0 n)))
   unfolding statusParts namesOf
   bits-names l = sym (rw (pairs-none bits n i l) at (s .names))
@@ -106,6 +112,7 @@ module _ {bits m₀ t₀ m t : List ℕ} {row place n i : ℕ} (s : Putting bits
     unfolding statusParts
     split = rw (pairs-cons bits n i l)
 
+    -- where the i-th status bit was stored, it is so at the next
     pub bits-on : {m′ t′ : List ℕ}
         → m′ ≡ sets m (8 * (row + i)) (rowsOf (place + 2 * i) (named (part bits (2 * i) 2) (statusAt i) ∷ []))
         → t′ ≡ sets t (place + 2 * i) (namesOf (named (part bits (2 * i) 2) (statusAt i) ∷ []))
@@ -130,6 +137,7 @@ ctlName = 67 ∷ 84 ∷ 76 ∷ []
 pub first-long : (s : List ℕ) → length s ≡ 6 → length (take 3 s) ≡ 3
 first-long s l = simp length-take (omega arith)
 
+-- the second word's name has three bytes
 pub second-long : (s : List ℕ) → length s ≡ 6 → length (take 3 (drop 3 s)) ≡ 3
 second-long s l = simp (length-take, length-drop) (omega arith)
 
@@ -140,6 +148,7 @@ module _ (words : List ℕ) (l : length words ≡ 6) (bits : List (List ℕ)) (t
   abbrev two : List ℕ
   two = take 3 (drop 3 words)
 
+  -- the rows of CTL, of the two words and of the status bits, one after the other, are a control type's
   pub control-rows : (row at : ℕ)
       → sets
       (sets
@@ -159,6 +168,7 @@ module _ (words : List ℕ) (l : length words ≡ 6) (bits : List (List ℕ)) (t
       ∙ rows-on _ (row + 1) (at + 3) one (dintAt 4) 3 _ (first-long words l)
       ∙ rows-on _ (row + 1 + 1) (at + 3 + 3) two (dintAt 8) 3 _ (second-long words l)))
 
+  -- the names of CTL, of the two words and of the status bits, one after the other, are a control type's
   pub control-names : (at : ℕ)
       → sets
       (sets

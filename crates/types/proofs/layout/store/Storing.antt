@@ -11,13 +11,14 @@ use lib.Seq.{sets}
 use Rattle.words.specs.Words.{Bytes}
 use Rattle.words.proofs.Lists.{length-part}
 use Rattle.types.specs.inside.book.Decls.{declAt, declsFrom, Found}
-use Rattle.types.specs.inside.layout.Passes.{thenParts, thenMeasure, thenNext, partsFrom, measureOne}
-use Rattle.types.specs.inside.layout.Passes.{oneParts, storedOne, Far, StepFits, Storable}
+use Rattle.types.specs.inside.layout.Passes.{thenParts, thenMeasure, thenNext, partsFrom, measureOne, oneParts}
+use Rattle.types.specs.inside.layout.Passes.{storedOne, Far, StepFits, Storable}
 use Rattle.types.specs.layout.HostNames.{hostName}
 use Rattle.types.specs.layout.Placing.{placed}
 use Rattle.types.specs.layout.Structs.{namesOf, rowsOf, namedIn}
 use Rattle.types.specs.tables.Defs.{Part}
-use Rattle.types.specs.declared.layout.measure.Measured.the-variants.{Laid}
+use Rattle.types.specs.tables.Limits.{mostMembers, mostNames}
+use Rattle.types.specs.declared.layout.measure.Measured.the-variants.{Came}
 use Rattle.types.specs.declared.layout.placing.Cursor.{Cursor}
 use Rattle.types.specs.declared.layout.placing.Decl.{Decl}
 use Rattle.types.specs.declared.layout.placing.Placed.{Placed}
@@ -71,7 +72,7 @@ stops TooFar a b host name rest row at q = refl
 
 -- where a step goes on, measuring goes on too
 goes : (p : Placed) (a b row at : ℕ) {c′ : Cursor} {row′ at′ : ℕ} → thenNext p a b row at ≡ Next c′ row′ at′
-    → (n : ℕ) × (thenMeasure p a b 0 (λ x y. Laid x y) ≡ Laid c′ n)
+    → (n : ℕ) × (thenMeasure p a b 0 (λ x y. Came x y) ≡ Came c′ n)
 goes (Hosted h m c) a b row at {c′} q = let e : c ≡ c′ = cc in (0 + a + b, rw e)
 goes (One m c) a b row at {c′} q = let e : c ≡ c′ = cc in (0 + b, rw e)
 goes AccessWrong a b row at q = let z : true ≡ false = cc in absurd (true≢false z)
@@ -79,6 +80,7 @@ goes TooFar a b row at q = let z : true ≡ false = cc in absurd (true≢false z
 
 -- ---- the loop
 
+-- all parts stand once those of the members from the j-th on are stored from this row and place on
 pub record Storing (types book tys type : List ℕ) (at n : ℕ) (c₀ : Cursor) (m₀ t₀ : List ℕ) (row₀ place₀ : ℕ)
     (c : Cursor) (m t : List ℕ) (row place j : ℕ) : Type 0 where
   pub passed : ℕ
@@ -88,9 +90,11 @@ pub record Storing (types book tys type : List ℕ) (at n : ℕ) (c₀ : Cursor)
   pub far : Far (passed + j) c 0
   pub inside : (k : ℕ) → k < n
       → declAt types book tys at k .name .at + declAt types book tys at k .name .long ≤ length book
-  pub room : row + length (partsFrom (namedIn book) (hostName type) c (declsFrom types book tys at j (n - j))) ≤ 2000
+  pub room : row + length (partsFrom (namedIn book) (hostName type) c (declsFrom types book tys at j (n - j)))
+      ≤ mostMembers
   pub bytes : place
-      + length (namesOf (partsFrom (namedIn book) (hostName type) c (declsFrom types book tys at j (n - j)))) ≤ 32768
+      + length (namesOf (partsFrom (namedIn book) (hostName type) c (declsFrom types book tys at j (n - j))))
+      ≤ mostNames
   pub rows : sets m₀ (8 * row₀) (rowsOf place₀
       (partsFrom (namedIn book) (hostName type) c₀ (declsFrom types book tys at 0 n)))
       ≡ sets m (8 * row) (rowsOf place
@@ -98,6 +102,7 @@ pub record Storing (types book tys type : List ℕ) (at n : ℕ) (c₀ : Cursor)
   pub names : sets t₀ place₀ (namesOf (partsFrom (namedIn book) (hostName type) c₀ (declsFrom types book tys at 0 n)))
       ≡ sets t place (namesOf (partsFrom (namedIn book) (hostName type) c (declsFrom types book tys at j (n - j))))
 
+-- it is so before the first member, where all can be stored
 pub starts : (types book tys type : List ℕ) (at n : ℕ) (c : Cursor) (m t : List ℕ) (row place : ℕ)
     → Storable types book tys type at n c row place
     → Storing types book tys type at n c m t row place c m t row place 0
@@ -120,10 +125,12 @@ module _ {types book tys type m₀ t₀ m t : List ℕ} {at n row₀ place₀ ro
   abbrev all : List Part
   all = partsFrom (namedIn book) (hostName type) c₀ (declsFrom types book tys at 0 n)
 
+  -- after the last member the rows of all parts are stored
   pub rows-done : n ≤ j → m ≡ sets m₀ (8 * row₀) (rowsOf place₀ all)
   unfolding partsFrom rowsOf
   rows-done l = sym (rw (decls-none types book tys at n j l) at (s .rows))
 
+  -- after the last member the names of all parts are stored
   pub names-done : n ≤ j → t ≡ sets t₀ place₀ (namesOf all)
   unfolding partsFrom namesOf
   names-done l = sym (rw (decls-none types book tys at n j l) at (s .names))
@@ -135,6 +142,7 @@ module _ {types book tys type m₀ t₀ m t : List ℕ} {at n row₀ place₀ ro
     abbrev rest : Cursor → List Part
     rest x = partsFrom (namedIn book) (hostName type) x (declsFrom types book tys at (j + 1) (n - (j + 1)))
 
+    -- the first j + 1 members were found
     pub one-found : Found book tys at (j + 1)
     one-found = found-first (j + 1) (omega arith) (s .found)
 
@@ -163,6 +171,7 @@ module _ {types book tys type m₀ t₀ m t : List ℕ} {at n row₀ place₀ ro
     least-names AccessWrong host name next = omega arith
     least-names TooFar host name next = omega arith
 
+    -- the book and the tables have what the parts of the j-th member ask
     pub one-fits : StepFits book type c d row place
     unfolding oneParts
     one-fits =
@@ -193,11 +202,13 @@ module _ {types book tys type m₀ t₀ m t : List ℕ} {at n row₀ place₀ ro
       unfolding storedOne oneParts
       nothing q = stops (placed c d) _ _ _ _ (λ x. []) row place (sym e ∙ q)
 
+      -- where storing stops at the j-th member, the rows of all parts are stored
       pub rows-stopped : {m′ : List ℕ} → one ≡ Stop → m′ ≡ sets m (8 * row) (rowsOf place (oneParts book type c d))
           → m′ ≡ sets m₀ (8 * row₀) (rowsOf place₀ all)
       unfolding rowsOf
       rows-stopped q v = rw (nothing q) at v ∙ sym (rw (stopped q) at (s .rows))
 
+      -- where storing stops at the j-th member, the names of all parts are stored
       pub names-stopped : {t′ : List ℕ} → one ≡ Stop → t′ ≡ sets t place (namesOf (oneParts book type c d))
           → t′ ≡ sets t₀ place₀ (namesOf all)
       unfolding namesOf
@@ -221,6 +232,7 @@ module _ {types book tys type m₀ t₀ m t : List ℕ} {at n row₀ place₀ ro
           (host-most type (c .members)) (g .1) in
           rw (← h) (record { offset = f .offset; members = f .members; bits = f .bits; names = omega arith })
 
+      -- where the parts of the j-th member were stored, it is so at the next
       pub goes-on : {c′ : Cursor} {row′ place′ : ℕ} {m′ t′ : List ℕ} → one ≡ Next c′ row′ place′
           → m′ ≡ sets m (8 * row) (rowsOf place (oneParts book type c d))
           → t′ ≡ sets t place (namesOf (oneParts book type c d))

@@ -10,8 +10,8 @@ use lib.ListN.{length, set, take, drop, replicate, length-append, length-drop, l
 use lib.Seq.{set-split, drop-at, length-take-le, length-sets, take-all}
 use Rattle.words.proofs.Lists.{sets-append}
 use Rattle.types.specs.atomics.Atomic.{nameOf}
-use Rattle.types.specs.inside.listing.Lines.{Short, StructNamed}
-use Rattle.types.specs.inside.listing.Lines.{TypeNamed, Listable, FieldFits, FieldPut, Lined, Spelt}
+use Rattle.types.specs.inside.listing.Lines.{Short, StructNamed, TypeNamed, Listable, FieldFits, FieldPut, Lined}
+use Rattle.types.specs.inside.listing.Lines.{Spelt}
 use Rattle.types.specs.layout.HostNames.{digitsIn, digits}
 use Rattle.types.specs.listing.Lines.{ended, line, typeWord, typeNumbers, typeLine, seen, bitText, memberPlace}
 use Rattle.types.specs.listing.Lines.{memberLine, refusedWord, refusedLine, printedType, structNames}
@@ -19,9 +19,8 @@ use Rattle.types.specs.tables.Defs.{nameIn}
 use Rattle.types.specs.tables.Lent.{memberAt, nameAt}
 use Rattle.types.specs.declared.atomics.atomic.Atomic.{Atomic as AtomicType}
 use Rattle.types.specs.declared.atomics.atomic.Atomic.the-variants.{Bool as BOOL, SInt, Int, DInt, LInt, USInt}
-use Rattle.types.specs.declared.atomics.atomic.Atomic.the-variants.{UInt}
-use Rattle.types.specs.declared.atomics.atomic.Atomic.the-variants.{UDInt}
-use Rattle.types.specs.declared.atomics.atomic.Atomic.the-variants.{ULInt, Real, LReal, Byte, Word, DWord, LWord}
+use Rattle.types.specs.declared.atomics.atomic.Atomic.the-variants.{UInt, UDInt, ULInt, Real, LReal, Byte, Word}
+use Rattle.types.specs.declared.atomics.atomic.Atomic.the-variants.{DWord, LWord}
 use Rattle.types.specs.declared.listing.lines.Decimal.{Decimal}
 use Rattle.types.specs.declared.tables.member.Bit.{Bit}
 use Rattle.types.specs.declared.tables.member.Bit.the-variants.{None, At}
@@ -42,6 +41,7 @@ pub record Spelling (x : ℕ) (bytes : List ℕ) (from y : ℕ) : Type 0 where
   pub small : y < 10 ^ suc from
   pub left : digits x ≡ digitsIn (suc from) y ++ drop (suc from) bytes
 
+-- before the first digit is stored all digits of a number of 64 bits are left, for twenty places
 pub spell-first : (x : ℕ) → x < 2 ^ 64 → Spelling x (replicate 20 0) 19 x
 unfolding digits
 spell-first x h =
@@ -56,6 +56,7 @@ stored : (l : List ℕ) (i v : ℕ) → i < length l → drop i (set l i v) ≡ 
 stored l i v h = rw (set-split l i v h) (drop-at (take i l) _ i (length-take-le i l (omega arith)))
 
 module _ {x from y v : ℕ} {bytes : List ℕ} (w : Spelling x bytes from y) (e : v ≡ digitOf y) where
+  -- where 10 or more is left, there is a place before this one
   pub spell-more : 10 ≤ y → 1 ≤ from
   spell-more h = at-least from (w .small)
     where
@@ -63,6 +64,7 @@ module _ {x from y v : ℕ} {bytes : List ℕ} (w : Spelling x bytes from y) (e 
       at-least zero k = omega arith
       at-least (suc n) k = omega arith
 
+  -- where 10 or more is left, its last digit is stored, and a tenth of it is left for the place before
   pub spell-on : 10 ≤ y → Spelling x (set bytes from v) (from - 1) (y / 10)
   spell-on h =
       let n : suc (from - 1) ≡ from = omega (arith, spell-more h) in
@@ -77,6 +79,7 @@ module _ {x from y v : ℕ} {bytes : List ℕ} (w : Spelling x bytes from y) (e 
       smaller : y < 10 ^ suc from → y / 10 < 10 ^ from
       smaller k = omega (arith, pow-suc 10 from)
 
+  -- where less than 10 is left, it is the first digit, and all of them stand from here on
   pub spell-done : y < 10 → Spelt x (record { bytes = set bytes from v; from = from })
   spell-done h =
       record {
@@ -92,6 +95,7 @@ spelt-part {x} {d} s =
 
 -- ---- bytes put one after the other
 
+-- bytes put, and others put after them, are both put as one
 pub added-both : {s t : List ℕ} {at m r : ℕ} {out mid left : List ℕ} → FieldPut s at out m mid → FieldPut t m mid r left
     → FieldPut (s ++ t) at out r left
 added-both {s} {t} {at} {m} {r} {out} {mid} {left} a b =
@@ -104,6 +108,7 @@ added-both {s} {t} {at} {m} {r} {out} {mid} {left} a b =
 pub fits-first : {at : ℕ} {out : List ℕ} (s t : List ℕ) → FieldFits (s ++ t) at out → FieldFits s at out
 fits-first s t h = record { room = omega (arith, h .room, length-append s t) }
 
+-- where bytes fit with others after them and were put, the others fit after them
 pub fits-then : {s t : List ℕ} {at m : ℕ} {out mid : List ℕ} → FieldFits (s ++ t) at out → FieldPut s at out m mid
     → FieldFits t m mid
 fits-then {s} {t} {at} {m} {out} {mid} h a =
@@ -126,7 +131,8 @@ pub record Left (whole : List ℕ) (start : ℕ) (first : List ℕ) (fs : List (
   pub fits : FieldFits (line fs) at now
   pub then : (r : ℕ) (last : List ℕ) → FieldPut (line fs) at now r last → FieldPut whole start first r last
 
-pub left-all : {at : ℕ} {out : List ℕ} (fs : List (List ℕ)) → FieldFits (line fs) at out → Left (line fs) at out fs at out
+pub left-all : {at : ℕ} {out : List ℕ} (fs : List (List ℕ)) → FieldFits (line fs) at out
+    → Left (line fs) at out fs at out
 left-all fs h = record { fits = h; then = λ r last a. a }
 
 module _ {whole : List ℕ} {start : ℕ} {first f : List ℕ} {at : ℕ} {now : List ℕ} where
@@ -161,6 +167,7 @@ pub numbers-left : (d : StructDef) (bits : ℕ) {id size count long bytes at : �
 numbers-left d bits {bytes = bytes} p q r s h =
     rw (p, q, r, s) (left-all (typeNumbers (d .id) (d .size) (d .count) bytes bits) h)
 
+-- all of a member's count, offset, bit and name is left, as the code has the count and the offset
 pub place-left : (m : Member) (name : List ℕ) {count offset at : ℕ} {out : List ℕ} → count ≡ m .count
     → offset ≡ m .offset → FieldFits (line (memberPlace m name)) at out
     → Left (line (memberPlace m name)) at out (digits count ∷ digits offset ∷ bitText (m .bit) ∷ name ∷ []) at out
@@ -203,9 +210,11 @@ type-long types names (Struct n) h = short-long names (h .name)
 
 -- a type's line
 module _ (names : List ℕ) (d : StructDef) (bytes bits : ℕ) where
+  -- the fields of a type's line: `type`, its name, and its numbers
   abbrev pub typeFields : List (List ℕ)
   typeFields = typeWord ∷ nameIn names (d .name) ∷ typeNumbers (d .id) (d .size) (d .count) bytes bits
 
+  -- a type's line with a short name fits into 512 bytes, and all of it is left
   pub type-left : {out : List ℕ} → Short (d .name) → 512 ≤ length out → Left (line typeFields) 0 out typeFields 0 out
   unfolding line
   type-left h k =
@@ -222,6 +231,7 @@ module _ (names : List ℕ) (d : StructDef) (bytes bits : ℕ) where
             ));
       }
 
+  -- the fields of a type put one after the other are its line
   pub type-lined : {r : ℕ} {out left : List ℕ} → Left (line typeFields) 0 out typeFields 0 out
       → FieldPut (line typeFields) 0 out r left
       → Lined (typeLine (nameIn names (d .name)) (d .id) (d .size) (d .count) bytes bits) out r left
@@ -230,9 +240,11 @@ module _ (names : List ℕ) (d : StructDef) (bytes bits : ℕ) where
 
 -- a member's line
 module _ (types names : List ℕ) (number : ℕ) (m : Member) (name : Span) where
+  -- the fields of a member's line: its number, hidden or visible, its type, and its place with its name
   abbrev pub memberFields : List (List ℕ)
   memberFields =
-      digits number ∷ seen (m .hidden) ∷ printedType (structNames types names) (m .ty) ∷ memberPlace m (nameIn names name)
+      digits number ∷ seen (m .hidden) ∷ printedType (structNames types names) (m .ty)
+      ∷ memberPlace m (nameIn names name)
 
   pub member-left : {out : List ℕ} → TypeNamed types (m .ty) → Short name → 512 ≤ length out
       → Left (line memberFields) 0 out memberFields 0 out
@@ -252,6 +264,7 @@ module _ (types names : List ℕ) (number : ℕ) (m : Member) (name : Span) wher
             ));
       }
 
+  -- the fields of a member put one after the other are its line
   pub member-lined : {r : ℕ} {out left : List ℕ} → Left (line memberFields) 0 out memberFields 0 out
       → FieldPut (line memberFields) 0 out r left
       → Lined (memberLine number (printedType (structNames types names) (m .ty)) m (nameIn names name)) out r left
@@ -260,9 +273,11 @@ module _ (types names : List ℕ) (number : ℕ) (m : Member) (name : Span) wher
 
 -- a refusal's line
 module _ (number place : ℕ) where
+  -- the fields of a refusal's line: `refused`, its number, and its place
   abbrev pub refusedFields : List (List ℕ)
   refusedFields = refusedWord ∷ digits number ∷ digits place ∷ []
 
+  -- a refusal's line fits into 512 bytes, and all of it is left
   pub refused-left : {out : List ℕ} → 512 ≤ length out → Left (line refusedFields) 0 out refusedFields 0 out
   unfolding line
   refused-left k =
@@ -270,6 +285,7 @@ module _ (number place : ℕ) where
         room = simp length-append (omega (arith, digits-20 number, digits-20 place));
       }
 
+  -- the fields of a refusal put one after the other are its line
   pub refused-lined : {r : ℕ} {out left : List ℕ} → Left (line refusedFields) 0 out refusedFields 0 out
       → FieldPut (line refusedFields) 0 out r left
       → Lined (refusedLine number place) out r left
@@ -282,21 +298,26 @@ module _ (number place : ℕ) where
 pub listed : {types members : List ℕ} {d e : StructDef} → d ≡ e → Listable types members e → Listable types members d
 listed q h = rw q h
 
+-- a type that can be printed and is structure n: n is a row, and the name there is short
 pub struct-named : {types : List ℕ} {t : Ty} {n : ℕ} → t ≡ Struct n → TypeNamed types t → StructNamed types n
 struct-named e h = rw e at h
 
 -- the k-th row of the structure that was read
 module _ {types members : List ℕ} {d e : StructDef} {first k : ℕ} (q : d ≡ e) (p : first ≡ d .first) (l : k < e .count)
     (h : Listable types members e) where
+  -- the row is the k-th of the structure that is asked for
   pub row-same : first + k ≡ e .first + k
   row-same = rw (p, q)
 
+  -- the k-th row lies in the table of members
   pub row-below : first + k < 2000
   row-below = rw row-same (omega (arith, h .rows .rows .rows))
 
+  -- the name in the k-th row is short
   pub row-short : {name : Span} → name ≡ nameAt members (first + k) → Short name
   row-short n = rw (n, row-same) (h .names k l)
 
+  -- the type in the k-th row is an atomic, or a structure with a short name
   pub row-named : {m : Member} → m ≡ memberAt members (first + k) → TypeNamed types (m .ty)
   row-named n = rw (n, row-same) (h .tys k l)
 

@@ -17,9 +17,9 @@ use Rattle.types.specs.layout.Predefined.{predefinedIds, predefined}
 use Rattle.types.specs.refusals.Said.{Why, whyOf}
 use Rattle.types.specs.rounds.Build.{buildOf, Ended}
 use Rattle.types.specs.rounds.Rounds.{Answer, refused}
-use Rattle.types.specs.rounds.Turns.{stuckAt}
-use Rattle.types.specs.rounds.Turns.{readyIn, addIn, roundsFrom}
+use Rattle.types.specs.rounds.Turns.{stuckAt, readyIn, addIn, roundsFrom}
 use Rattle.types.specs.tables.Defs.{Def}
+use Rattle.types.specs.tables.Limits.{mostTypes}
 use Rattle.types.specs.declared.adding.used.Used.{Used}
 use Rattle.types.specs.declared.layout.predefined.PredefinedIds.{PredefinedIds}
 use Rattle.types.specs.declared.refusals.refusal.Refusal.{Refusal}
@@ -47,6 +47,7 @@ pub record Going (book : List ℕ) (start : List Def) (T : ℕ) (tys₀ f₀ k�
   pub members : length k ≡ length k₀
   pub rows : length r ≡ length r₀
 
+-- before the first round all types are left, and the tables are those of the registry to begin with
 pub going-start : {book tys f k r t m n types members names : List ℕ} {T : ℕ} {ids : PredefinedIds} {ds : List Def}
     {u : Used}
     → RunIn book T ids types members names tys f k r → Bytes book → Reached book ds → Stands ds t m n u
@@ -58,7 +59,7 @@ going-start p bytes reached s =
           (rw (p .is) (p .scratch .flags (p .okay)));
       words = refl;
       flags = refl;
-      tries = tries-start _ (p .scratch .members (p .okay)) (p .scratch .rows (p .okay)) (p .scratch .untried);
+      tries = tries-start (p .scratch .members (p .okay)) (p .scratch .rows (p .okay)) (p .scratch .untried);
       members = refl;
       rows = refl;
     }
@@ -70,10 +71,12 @@ ended-refused : {t m n : List ℕ} (a : Answer (List Def) Why) (x : Refusal) →
 ended-refused a x e c =
     record { is = rw e; types = rw e (c .types); members = rw e (c .members); names = rw e (c .names) }
 
+-- between rounds at most 200 types are used
 pub going-few : {book tys₀ f₀ k₀ r₀ t m n tys f k r : List ℕ} {start : List Def} {T left : ℕ} {u : Used}
-    → Going book start T tys₀ f₀ k₀ r₀ t m n tys f k r u left → u .types ≤ 200
+    → Going book start T tys₀ f₀ k₀ r₀ t m n tys f k r u left → u .types ≤ mostTypes
 going-few g = rw (g .outer .stands .used) (reached-shown (g .const .bytes) (g .outer .reached) .few)
 
+-- where no type is left, the rounds end with so many types, and the tables are theirs
 pub ended-all : {book tys₀ f₀ k₀ r₀ t m n tys f k r : List ℕ} {start : List Def} {T left : ℕ} {u : Used}
     → Going book start T tys₀ f₀ k₀ r₀ t m n tys f k r u left → left ≡ 0
     → Ended (roundsFrom book start) t m n (Types (u .types))
@@ -87,6 +90,7 @@ ended-all g l =
 
 module _ {book tys₀ f₀ k₀ r₀ t m n tys f k r : List ℕ} {start : List Def} {T left : ℕ} {u : Used}
     (g : Going book start T tys₀ f₀ k₀ r₀ t m n tys f k r u left) where
+  -- between rounds the next one finds what it asks
   pub going-in : RoundIn book T u left t m n tys f k r
   going-in =
       let o = g .outer in
@@ -104,6 +108,7 @@ module _ {book tys₀ f₀ k₀ r₀ t m n tys f k r : List ℕ} {start : List D
 
   module _ {t′ m′ n′ f′ k′ r′ : List ℕ} {x : Round}
       (h : RoundMade book T u t m n f t′ m′ n′ f′ k′ r′ x) (l : 0 < left) where
+    -- where a round refused a type, the rounds end with its refusal and tables of zeros
     pub ended-no : {a b c : List ℕ} (y : Refusal) → x ≡ Stopped y → Cleared a b c
         → Ended (roundsFrom book start) a b c (Refused y)
     ended-no y e =
@@ -118,12 +123,14 @@ module _ {book tys₀ f₀ k₀ r₀ t m n tys f k r : List ℕ} {start : List D
           let o = g .outer in
           (rw e at h) .each (o .ds) (o .reached) (o .stands)
 
+      -- where a round left as many as before, the rounds end with refusal 10 at the first that waits, tables zero
       pub ended-stuck : {a b c : List ℕ} (p : ℕ) → left′ ≡ left → FirstWaits f′ T p → Cleared a b c
           → Ended (roundsFrom book start) a b c (Refused (TypesUnknown p))
       ended-stuck p q w =
           ended-refused (roundsFrom book start) (TypesUnknown p)
           (outer-stuck (g .outer) l (goes .is) (sym (goes .count) ∙ q) ∙ rw (w .is))
 
+      -- a round that left another number of types left fewer
       pub going-less : (left′ ≡ left → ⊥) → left′ < left
       going-less q =
           omega (
@@ -135,6 +142,7 @@ module _ {book tys₀ f₀ k₀ r₀ t m n tys f k r : List ℕ} {start : List D
             q,
           )
 
+      -- after a round that left fewer, the loop goes on with what it left
       pub going-next : {tys′ : List ℕ} → (left′ ≡ left → ⊥) → length tys′ ≡ length tys → length f′ ≡ length f
           → length k′ ≡ length k → length r′ ≡ length r
           → Going book start T tys₀ f₀ k₀ r₀ t′ m′ n′ tys′ f′ k′ r′ u′ left′
@@ -154,17 +162,20 @@ module _ {book tys₀ f₀ k₀ r₀ t m n tys f k r : List ℕ} {start : List D
 -- ---- before the rounds
 
 module _ (ids : PredefinedIds) (book : List ℕ) where
+  -- where the predefined ids are wrong, the build ends with 22 and tables of zeros
   pub ended-ids : {t m n : List ℕ} → predefinedIds ids ≡ false → Cleared t m n
       → Ended (buildOf ids book) t m n (Refused idsWrong)
   unfolding buildOf
   ended-ids q = ended-refused _ idsWrong (rw q)
 
   module _ (q : predefinedIds ids ≡ true) where
+    -- where the ids are right but the book is malformed, the build ends with 1 and tables of zeros
     pub ended-book : {t m n : List ℕ} → bookOk book ≡ false → Cleared t m n
         → Ended (buildOf ids book) t m n (Refused BookMalformed)
     unfolding buildOf
     ended-book p = ended-refused _ BookMalformed (rw (q, p))
 
+    -- where ids and book are right, the build ends as the rounds after the predefined types do
     pub ended-run : {t m n : List ℕ} {r : Built} → bookOk book ≡ true
         → Ended (roundsFrom book (predefined ids)) t m n r → Ended (buildOf ids book) t m n r
     unfolding buildOf

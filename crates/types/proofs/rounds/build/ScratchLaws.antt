@@ -17,19 +17,21 @@ use Rattle.types.proofs.book.BookLaws.{book-short}
 -- ---- how many types and members
 
 -- a book that is too short for its counts is not good
-pub few-short : (book : List ℕ) (t m : ℕ) → length book < 4 → AtMost book t m
-few-short book t m l = record { types = λ q. absurd (none q); members = λ q. absurd (none q) }
+pub few-short : {book : List ℕ} (t m : ℕ) → length book < 4 → AtMost book t m
+few-short {book} t m l = record { types = λ q. absurd (none q); members = λ q. absurd (none q) }
   where
     none : bookOk book ≡ true → ⊥
     none q = true≢false (sym q ∙ sym (book-short book l))
 
-pub few-read : (book : List ℕ) (t m a b : ℕ) → a ≡ typesIn book → b ≡ membersIn book → a ≤ t → leb b m ≡ true
+-- a book whose counts were read and are at most t and m has at most so many types and members
+pub few-read : {book : List ℕ} (t m a b : ℕ) → a ≡ typesIn book → b ≡ membersIn book → a ≤ t → leb b m ≡ true
     → AtMost book t m
-few-read book t m a b p q l h =
+few-read {book} t m a b p q l h =
     record { types = λ o. omega (arith, p, l); members = λ o. omega (arith, q, leb-true b m h) }
 
-pub few-all : (book : List ℕ) → Bytes book → AtMost book 65536 65536
-few-all book h =
+-- no good book has more than 65,536 types or members
+pub few-all : {book : List ℕ} → Bytes book → AtMost book 65536 65536
+few-all {book} h =
     record {
       types = λ o. omega (arith, word-below 2 book 0 h);
       members = λ o. omega (arith, word-below 2 book 2 h);
@@ -42,9 +44,10 @@ unset zero k = refl
 unset (suc n) zero = refl
 unset (suc n) (suc k) = unset n k
 
-pub scratch-local : (book : List ℕ) (t m : ℕ) → AtMost book t m
+-- m zeros and three times t zeros are a scratch for a book of at most t types and m members
+pub scratch-local : {book : List ℕ} (t m : ℕ) → AtMost book t m
     → Scratch book (replicate m 0) (replicate t 0) (replicate t 0) (replicate t 0)
-scratch-local book t m a =
+scratch-local {book} t m a =
     record {
       room = λ q. rw (length-replicate {A = ℕ} m 0) (a .members q);
       flags = λ q. rw (length-replicate {A = ℕ} t 0) (a .types q);

@@ -17,8 +17,7 @@ use Rattle.types.specs.book.Decls.{declared}
 use Rattle.types.specs.inside.adding.Add.{Took, Declared}
 use Rattle.types.specs.inside.adding.Checks.{EntriesInside}
 use Rattle.types.specs.inside.book.Decls.{declAt, declsFrom}
-use Rattle.types.specs.inside.rounds.Resolve.{thenWord, foundWords, Resolves}
-use Rattle.types.specs.inside.rounds.Resolve.{StillIn, Still}
+use Rattle.types.specs.inside.rounds.Resolve.{thenWord, foundWords, Resolves, StillIn, Still}
 use Rattle.types.specs.inside.rounds.Turns.{TurnIn, Turned, Missed, Tries}
 use Rattle.types.specs.inside.tables.Registry.{viewIn}
 use Rattle.types.specs.layout.Laid.{Earlier}
@@ -237,6 +236,7 @@ module _ (types members names book : List ℕ) (u : Used) (i at n : ℕ) (e : n 
         (omega (arith, w .is, uses-long)) in
         rw (getD-list (typeName book at) n r [] l) at (rw (← w .is) at f)
 
+    -- where a member's type is not found, the type waits, and it is remembered which and among how many types
     pub turn-waits : {ws stuck tried : List ℕ} → TurnIn types members names book ws stuck tried i at u → r < n
         → Turned known verdict u types members names types members names Waits
         × Tries book (rowNames types names (u .types)) (set stuck i r) (set tried i (u .types))
@@ -249,10 +249,12 @@ module _ (types members names book : List ℕ) (u : Used) (i at n : ℕ) (e : n 
       found-all : allKnown hasName (rowNames types names (u .types)) (typeNames book at 0 n) ≡ true
       found-all = all-found (rowNames types names (u .types)) (typeNames book at 0 n) (omega (arith, w .is, uses-long))
 
+      -- where all member types are found, the declared members lie in the book and have earlier types
       pub turn-ready : n ≤ length tys → EntriesInside book at n → n ≤ 65536 → Declared book tys′ (u .types) at n
       unfolding viewIn
       turn-ready k h f = rw (w .words) (turn-declared types names book tys u at n found-all k h f)
 
+      -- where all member types are found, the turn was taken once the verdict on the entry is carried out
       pub turn-takes : n ≤ length tys → {t′ m′ n′ : List ℕ} {x : Progress}
           → Took (addEntry (viewIn types names u) book i at (typeEntry book i) (nameIn book (typeEntry book i .name))
           (declsFrom types book tys′ at 0 n)) u types members names t′ m′ n′ x

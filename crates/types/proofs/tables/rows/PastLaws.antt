@@ -15,14 +15,17 @@ module _ (t : List ℕ) (i : ℕ) (past : length t ≤ 8 * i) where
   first : getD t (8 * i) 0 ≡ 0
   first = List·getD-eq-default t 0 past
 
+  -- the structure of such a row is that of a row of zeros
   pub type-past : noType ≡ typeAt t i
   unfolding typeAt kindOf
   type-past = rw (first, word 1, word 2, word 3, word 4, word 5, word 6, word 7)
 
+  -- the member of such a row is that of a row of zeros
   pub member-past : noMember ≡ memberAt t i
   unfolding memberAt tyOf bitOf atomicAt
   member-past = rw (word 2, word 3, word 4, word 5, word 6, word 7)
 
+  -- the name of such a row is at place 0 and has length 0
   pub name-past : noName ≡ nameAt t i
   unfolding nameAt
   name-past = rw (first, word 1)

@@ -13,8 +13,7 @@ use lib.ListN.{getD, List·getD-map}
 use Rattle.types.specs.atomics.Atomic.{atomics, atomicAt, numOf}
 use Rattle.types.specs.rounds.Turns.{upFrom}
 use Rattle.types.specs.tables.Lent.{bitOf, bitRead, bitWord, flagsOf, kindOf, kindRead, kindWord, memberAt}
-use Rattle.types.specs.tables.Lent.{memberSaid}
-use Rattle.types.specs.tables.Lent.{memberSays, tyOf, tyRead, tyWord, typeAt, typeRow, typeSaid}
+use Rattle.types.specs.tables.Lent.{memberSaid, memberSays, tyOf, tyRead, tyWord, typeAt, typeRow, typeSaid}
 use Rattle.types.specs.declared.atomics.atomic.Atomic.the-variants.{Bool as BOOL}
 use Rattle.types.specs.declared.tables.member.Bit.{Bit}
 use Rattle.types.specs.declared.tables.member.Bit.the-variants.{None, At}

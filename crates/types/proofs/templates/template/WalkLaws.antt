@@ -16,12 +16,12 @@ use Rattle.types.specs.declared.tables.member.StructDef.{StructDef}
 use Rattle.types.specs.declared.templates.sink.Sink.{Sink}
 use Rattle.types.proofs.templates.SinkLaws.{Left, left-all, left-room, left-on}
 use Rattle.types.proofs.templates.TemplateLaws.{infos-any, parts-long, infos-long, names-long, name-long}
-use Rattle.types.proofs.templates.TemplateLaws.{shown-long}
-use Rattle.types.proofs.templates.TemplateLaws.{padding-long, ids-long}
+use Rattle.types.proofs.templates.TemplateLaws.{shown-long, padding-long, ids-long}
 
 module _ (types members names : List ℕ) (d : StructDef) where
   -- ---- the pieces of a template
 
+  -- what every template has is the infos, the shown name and 0, then the member names
   pub front-is : frontIn types members names d
       ≡ infosIn types members d ++ (shownIn names d ++ (0 ∷ namesIn members names d))
   unfolding frontOf defOf
@@ -35,6 +35,7 @@ module _ (types members names : List ℕ) (d : StructDef) where
   unfolding templateOf defOf tail
   template-is = rw (parts-long members names (d .first) (d .count))
 
+  -- a sink that can take the template can take the part that every template has
   pub front-room : {k : Sink} {out : List ℕ} → Room (templateIn types members names d) k out
       → Room (frontIn types members names d) k out
   front-room h = left-room _ (tail (userId (d .id))) template-is (left-all h)
@@ -60,6 +61,7 @@ module _ (types members names : List ℕ) (d : StructDef) where
       simp length-append (omega (arith, padding-long (length (frontIn types members names d)), ids-long 0 (d .count)))
   tail-small false = omega arith
 
+  -- the template of a structure that can be read has at most 2^31 bytes
   pub template-small : Readable members d → length (templateIn types members names d) ≤ 2 ^ 31
   template-small r =
       let infos-are : length (infosIn types members d) ≡ 8 * d .count =
@@ -82,9 +84,10 @@ module _ (types members names : List ℕ) (d : StructDef) where
 
 -- ---- the start of a walk
 
-pub quiet-room : (s out : List ℕ) (fold : ℕ) → length s ≤ 2 ^ 31
+-- a sink at its start that does not write can take any bytes up to 2^31
+pub quiet-room : {s out : List ℕ} {fold : ℕ} → length s ≤ 2 ^ 31
     → Room s (record { at = 0; fold = fold; writes = false }) out
-quiet-room s out fold h =
+quiet-room {s} {out} {fold} h =
     record {
       small = omega arith;
       room = λ w.
@@ -92,6 +95,7 @@ quiet-room s out fold h =
           omega arith;
     }
 
-pub writing-room : (s out : List ℕ) (fold : ℕ) → length s ≤ 2 ^ 31 → length s ≤ length out
+-- a sink at its start that writes can take up to 2^31 bytes that the buffer has room for
+pub writing-room : {s out : List ℕ} {fold : ℕ} → length s ≤ 2 ^ 31 → length s ≤ length out
     → Room s (record { at = 0; fold = fold; writes = true }) out
-writing-room s out fold h l = record { small = omega arith; room = λ w. omega arith }
+writing-room {s} {out} {fold} h l = record { small = omega arith; room = λ w. omega arith }

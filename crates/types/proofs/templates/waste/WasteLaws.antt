@@ -19,6 +19,7 @@ use Rattle.types.proofs.templates.TemplateLaws.{row-type, parts-on, par
 
 -- ---- one member
 
+-- the bits of a visible member without a bit of its own are those of all its elements
 pub whole-bits : (types : List ℕ) (m : Member) {size n : ℕ} → m .hidden ≡ false → m .bit ≡ None
     → size ≡ sizeIn (sizesIn types) (m .ty) → n ≡ times (m .count) → Fitting types m → SeenBits types m (8 * (size * n))
 whole-bits types m e f p q h = record { is = rw (e, f, p, q); small = rw (p, q) (omega (arith, h .small f)) }
@@ -32,6 +33,7 @@ pub record Counting (types members : List ℕ) (first n bits i : ℕ) : Type 0 w
   pub rest : (names : List ℕ) → visibleBits (sizesIn types) (partsAt members names first n)
       ≡ bits + visibleBits (sizesIn types) (partsAt members names (first + i) (n - i))
 
+-- before the first row no bits are counted, and those of all rows are left
 pub count-first : (types members : List ℕ) (first n : ℕ) → Counting types members first n 0 0
 count-first types members first n =
     record { inside = omega arith; small = omega arith; rest = λ names. rw (add-zero, sub-zero) (omega arith) }
@@ -43,6 +45,7 @@ module _ {types members : List ℕ} {first n bits i : ℕ} (w : Counting types m
   unfolding visibleBits partAt
   count-step h s names = rw (parts-on members names first n i h) (omega (arith, s .is))
 
+  -- the bits of the next row are counted, and those of the rows after it are left
   pub count-on : {more : ℕ} → i < n → SeenBits types (memberAt members (first + i)) more
       → Counting types members first n (bits + more) (i + 1)
   count-on h s =
@@ -52,6 +55,7 @@ module _ {types members : List ℕ} {first n bits i : ℕ} (w : Counting types m
         rest = λ names. w .rest names ∙ count-step h s names;
       }
 
+  -- where no row is left, the size in bits less the bits that were counted is the waste
   pub count-done : {total : ℕ} (d : StructDef) → first ≡ d .first → n ≡ d .count → total ≡ 8 * d .size → n ≤ i
       → (names : List ℕ) → total - bits ≡ wasteIn types members names d
   unfolding wasteOf defOf visibleBits

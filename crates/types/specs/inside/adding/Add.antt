@@ -14,6 +14,7 @@ use Rattle.types.specs.layout.Laid.{Earlier}
 use Rattle.types.specs.layout.Structs.{rowsOf}
 use Rattle.types.specs.refusals.Said.{Why, whyOf}
 use Rattle.types.specs.tables.Lent.{typeRow, tyOf}
+use Rattle.types.specs.tables.Limits.{mostTypes, mostMembers, mostNames, memberWords}
 use Rattle.types.specs.tables.Registry.{ownNames, headOf}
 use Rattle.types.specs.declared.adding.progress.Progress.{Progress}
 use Rattle.types.specs.declared.adding.progress.Progress.the-variants.{Waits, Refused, Added}
@@ -21,10 +22,13 @@ use Rattle.types.specs.declared.adding.used.Used.{Used}
 
 -- ---- what the tables hold afterwards
 
--- what a turn says: a type waits, is refused, or was added, and so much is used then
+-- what a turn says of its type
 pub data ProgressSaid : Type 0 where
+  -- it waits
   waiting : ProgressSaid
+  -- it is refused
   refused : Why → ProgressSaid
+  -- it was added, and so much is used then
   added : Used → ProgressSaid
 
 abbrev pub saidBy : Progress → ProgressSaid
@@ -60,8 +64,8 @@ pub record Took (s : Verdict) (u : Used) (t₀ m₀ n₀ t m n : List ℕ) (r : 
 -- what our own calls leave: so much is used, the names of the types lie among the names, their ids are u16
 pub record Usable (types names : List ℕ) (u : Used) : Type 0 where
   pub rows : NamesInside types names (u .types)
-  pub members : u .members ≤ 2000
-  pub bytes : u .bytes ≤ 32768
+  pub members : u .members ≤ mostMembers
+  pub bytes : u .bytes ≤ mostNames
   pub ids : (k : ℕ) → k < u .types → idWord types k < 65536
 
 -- and the declared members of a type, resolved: their entries and names lie in the book, their types are earlier ones
@@ -75,29 +79,29 @@ pub record Declared (book tys : List ℕ) (known at n : ℕ) : Type 0 where
 pub record AddableEntry (types members names book tys : List ℕ) (u : Used) (at n : ℕ) : Type 0 where
   pub usable : Usable types names u
   pub declared : Declared book tys (u .types) at n
-  pub rows : length members ≡ 16000
-  pub bytes : length names ≡ 32768
+  pub rows : length members ≡ memberWords
+  pub bytes : length names ≡ mostNames
 
 -- the same without members, for a string
 pub record AddableString (types members names name : List ℕ) (u : Used) : Type 0 where
   pub usable : Usable types names u
   pub long : length name ≤ 40
-  pub rows : length members ≡ 16000
-  pub bytes : length names ≡ 32768
+  pub rows : length members ≡ memberWords
+  pub bytes : length names ≡ mostNames
 
 -- and with a name that meets the rule's length
 pub record Addable (types members names book tys name : List ℕ) (u : Used) (at n : ℕ) : Type 0 where
   pub usable : Usable types names u
   pub declared : Declared book tys (u .types) at n
   pub long : length name ≤ 40
-  pub rows : length members ≡ 16000
-  pub bytes : length names ≡ 32768
+  pub rows : length members ≡ memberWords
+  pub bytes : length names ≡ mostNames
 
 -- what our own calls leave, with room for a type of so many members and bytes of names
 pub record Ready (t m n : List ℕ) (u : Used) (parts long : ℕ) : Type 0 where
   pub usable : Usable t n u
-  pub members : length m ≡ 16000
-  pub names : length n ≡ 32768
-  pub few : u .types < 200
-  pub rows : u .members + parts ≤ 2000
-  pub bytes : u .bytes + long ≤ 32768
+  pub members : length m ≡ memberWords
+  pub names : length n ≡ mostNames
+  pub few : u .types < mostTypes
+  pub rows : u .members + parts ≤ mostMembers
+  pub bytes : u .bytes + long ≤ mostNames

@@ -9,6 +9,7 @@ use Rattle.types.specs.atomics.Atomic.{atomicNamed}
 use Rattle.types.specs.atomics.Lookup.{typeAmong, rowNames}
 use Rattle.types.specs.book.Names.{sameName}
 use Rattle.types.specs.tables.Lent.{typeAt}
+use Rattle.types.specs.tables.Limits.{mostTypes}
 use Rattle.types.specs.declared.atomics.atomic.FoundAtomic.the-variants.{Nothing as none}
 use Rattle.types.specs.declared.atomics.lookup.FoundTy.{FoundTy}
 
@@ -25,5 +26,5 @@ pub record Unseen (known : List (List ℕ)) (s : List ℕ) (n : ℕ) : Type 0 wh
 
 -- the names of the first n structures lie among the names
 pub record NamesInside (types names : List ℕ) (n : ℕ) : Type 0 where
-  pub few : n ≤ 200
+  pub few : n ≤ mostTypes
   pub inside : (i : ℕ) → i < n → typeAt types i .name .at + typeAt types i .name .long ≤ length names

@@ -10,13 +10,14 @@ use Rattle.types.specs.inside.book.Decls.{declAt, declsFrom, Found}
 use Rattle.types.specs.inside.layout.Placing.{sharedBits, Able}
 use Rattle.types.specs.inside.tables.Lent.{TyFits}
 use Rattle.types.specs.layout.HostNames.{hostName, bitHostName}
-use Rattle.types.specs.layout.Placing.{placed}
+use Rattle.types.specs.layout.Placing.{mostSize, placed}
 use Rattle.types.specs.layout.Structs.{namesOf, rowsOf, named, namedIn, udtStart, aoiHosts, hostParts}
 use Rattle.types.specs.layout.Structs.{enableParts, aoiStart, bitHostAt, bools}
 use Rattle.types.specs.tables.Defs.{Part, nameIn}
+use Rattle.types.specs.tables.Limits.{mostMembers, mostNames}
 use Rattle.types.specs.declared.adding.new_types.NewType.{NewType}
 use Rattle.types.specs.declared.layout.measure.Measured.{Measured}
-use Rattle.types.specs.declared.layout.measure.Measured.the-variants.{Laid, AccessWrong as accessWrong}
+use Rattle.types.specs.declared.layout.measure.Measured.the-variants.{Came, AccessWrong as accessWrong}
 use Rattle.types.specs.declared.layout.measure.Measured.the-variants.{TooFar as tooFar}
 use Rattle.types.specs.declared.layout.placing.Cursor.{Cursor}
 use Rattle.types.specs.declared.layout.placing.Decl.{Decl}
@@ -47,7 +48,7 @@ thenMeasure AccessWrong host name n rest = accessWrong
 thenMeasure TooFar host name n rest = tooFar
 
 unfoldable pub measured : (ℕ → List ℕ) → Cursor → ℕ → List Decl → Measured
-measured host c n [] = Laid c n
+measured host c n [] = Came c n
 measured host c n (d ∷ ds) =
     thenMeasure (placed c d) (length (host (c .members))) (d .name .long) n (λ c′ n′. measured host c′ n′ ds)
 
@@ -74,7 +75,7 @@ measuredOf false type ds = measured (hostName type) udtStart 0 ds
 -- ---- one member of a measured layout
 
 unfoldable pub measureOne : (ℕ → List ℕ) → Cursor → ℕ → Decl → Measured
-measureOne host c n d = thenMeasure (placed c d) (length (host (c .members))) (d .name .long) n (λ c′ n′. Laid c′ n′)
+measureOne host c n d = thenMeasure (placed c d) (length (host (c .members))) (d .name .long) n (λ c′ n′. Came c′ n′)
 
 -- what keeps the sums of one step inside 32 bits
 pub record Near (c : Cursor) (n : ℕ) (d : Decl) : Type 0 where
@@ -91,7 +92,7 @@ pub record Fair (d : Decl) : Type 0 where
 
 -- how far a layout can have come after k members, with n bytes of names
 pub record Far (k : ℕ) (c : Cursor) (n : ℕ) : Type 0 where
-  pub offset : c .offset ≤ 2 ^ 26 + k
+  pub offset : c .offset ≤ mostSize + k
   pub members : c .members ≤ 2 * k
   pub bits : sharedBits (c .host) ≤ k
   pub names : n ≤ 300 * k
@@ -124,8 +125,8 @@ pub record StepFits (book type : List ℕ) (c : Cursor) (d : Decl) (row at : ℕ
   pub near : Near c 0 d
   pub name : d .name .at + d .name .long ≤ length book
   pub ty : TyFits (d .ty)
-  pub rows : row + length (oneParts book type c d) ≤ 2000
-  pub names : at + length (namesOf (oneParts book type c d)) ≤ 32768
+  pub rows : row + length (oneParts book type c d) ≤ mostMembers
+  pub names : at + length (namesOf (oneParts book type c d)) ≤ mostNames
 
 -- n declared members can be stored from a cursor on, from a row and a place on
 pub record Storable (types book tys type : List ℕ) (at n : ℕ) (c : Cursor) (row place : ℕ) : Type 0 where
@@ -135,9 +136,9 @@ pub record Storable (types book tys type : List ℕ) (at n : ℕ) (c : Cursor) (
   pub far : Far passed c 0
   pub inside : (k : ℕ) → k < n
       → declAt types book tys at k .name .at + declAt types book tys at k .name .long ≤ length book
-  pub rows : row + length (partsFrom (namedIn book) (hostName type) c (declsFrom types book tys at 0 n)) ≤ 2000
+  pub rows : row + length (partsFrom (namedIn book) (hostName type) c (declsFrom types book tys at 0 n)) ≤ mostMembers
   pub names : place + length (namesOf (partsFrom (namedIn book) (hostName type) c (declsFrom types book tys at 0 n)))
-      ≤ 32768
+      ≤ mostNames
 
 -- ---- what an AOI's functions answer
 
@@ -168,10 +169,11 @@ pub record StorableType (types book tys type : List ℕ) (new : NewType) : Type 
   pub inside : (k : ℕ) → k < new .count
       → declAt types book tys (new .at) k .name .at + declAt types book tys (new .at) k .name .long ≤ length book
   pub rows : new .used .members
-      + length (partsOf (new .aoi) (namedIn book) type (declsFrom types book tys (new .at) 0 (new .count))) ≤ 2000
+      + length (partsOf (new .aoi) (namedIn book) type (declsFrom types book tys (new .at) 0 (new .count)))
+      ≤ mostMembers
   pub names : new .used .bytes + length type
       + length (namesOf (partsOf (new .aoi) (namedIn book) type (declsFrom types book tys (new .at) 0 (new .count))))
-      ≤ 32768
+      ≤ mostNames
 
 -- an AOI of n declared members and h hosts can be stored from a row and a place on
 pub record StorableAoi (types book tys type : List ℕ) (at n h row place : ℕ) : Type 0 where
@@ -180,8 +182,8 @@ pub record StorableAoi (types book tys type : List ℕ) (at n h row place : ℕ)
   pub hosts : h ≡ aoiHosts (declsFrom types book tys at 0 n)
   pub inside : (k : ℕ) → k < n
       → declAt types book tys at k .name .at + declAt types book tys at k .name .long ≤ length book
-  pub rows : row + length (aoiParts (namedIn book) type (declsFrom types book tys at 0 n)) ≤ 2000
-  pub names : place + length (namesOf (aoiParts (namedIn book) type (declsFrom types book tys at 0 n))) ≤ 32768
+  pub rows : row + length (aoiParts (namedIn book) type (declsFrom types book tys at 0 n)) ≤ mostMembers
+  pub names : place + length (namesOf (aoiParts (namedIn book) type (declsFrom types book tys at 0 n))) ≤ mostNames
 
 pub record BitHostLong (i r : ℕ) : Type 0 where
   pub is : r ≡ length (bitHostName i)

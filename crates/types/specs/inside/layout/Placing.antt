@@ -3,7 +3,7 @@
 use Prim.Native.Nat.{ℕ, _^_, _<_, _≤_}
 use mathlib.Core.Bool.{true}
 use mathlib.Core.Path.{_≡_}
-use Rattle.types.specs.layout.Placing.{times, most, accessOk, isBool, placed, opened}
+use Rattle.types.specs.layout.Placing.{times, accessOk, isBool, placed, opened}
 use Rattle.types.specs.declared.layout.placing.Cursor.{Cursor}
 use Rattle.types.specs.declared.layout.placing.Decl.{Decl}
 use Rattle.types.specs.declared.layout.placing.Host.{Host}

@@ -8,8 +8,6 @@ use Rattle.types.specs.inside.layout.Structs.{controlOf}
 use Rattle.types.specs.layout.Structs.{namesOf}
 use Rattle.types.specs.declared.adding.used.Used.{Used}
 
--- ---- in the tables
-
 -- what a control type with that name, and those names of its words and its bits, asks of the tables
 pub record ControlReady (t m n : List ℕ) (u : Used) (name words bits : List ℕ) : Type 0 where
   pub ready : Ready t m n u (3 + length bits / 2) (length name + 9 + length bits)

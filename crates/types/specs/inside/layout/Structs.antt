@@ -7,8 +7,7 @@ use lib.ListN.{length}
 use Rattle.words.specs.Words.{part}
 use Rattle.types.specs.layout.Structs.{controlParts}
 use Rattle.types.specs.tables.Defs.{Part}
-
--- ---- predefined, size 12
+use Rattle.types.specs.tables.Limits.{mostMembers, mostNames}
 
 -- the n names of two bytes each, from the i-th on
 unfoldable pub pairs : List ℕ → ℕ → ℕ → List (List ℕ)
@@ -23,8 +22,8 @@ controlOf words bits = controlParts (part words 0 3) (part words 3 3) (pairs bit
 -- type, whose two words have three bytes each
 pub record BitsFit (bits : List ℕ) (row place : ℕ) : Type 0 where
   pub few : length bits / 2 ≤ 32
-  pub rows : row + length bits / 2 ≤ 2000
-  pub names : place + length bits ≤ 32768
+  pub rows : row + length bits / 2 ≤ mostMembers
+  pub names : place + length bits ≤ mostNames
 
 pub record ControlFits (words bits : List ℕ) (row place : ℕ) : Type 0 where
   pub long : length words ≡ 6

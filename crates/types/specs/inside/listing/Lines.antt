@@ -8,22 +8,21 @@ use lib.Seq.{sets}
 use Rattle.types.specs.inside.templates.Waste.{Countable}
 use Rattle.types.specs.layout.HostNames.{digits}
 use Rattle.types.specs.tables.Lent.{memberAt, nameAt, typeAt}
+use Rattle.types.specs.tables.Limits.{mostTypes, mostNames}
 use Rattle.types.specs.declared.listing.lines.Decimal.{Decimal}
 use Rattle.types.specs.declared.tables.member.Span.{Span}
 use Rattle.types.specs.declared.tables.member.StructDef.{StructDef}
 use Rattle.types.specs.declared.tables.member.Ty.{Ty}
 use Rattle.types.specs.declared.tables.member.Ty.the-variants.{Atomic, Struct}
 
--- ---- what the functions ask and promise
-
 -- a name that lies inside the names, and is short enough for a line of 512 bytes
 pub record Short (s : Span) : Type 0 where
-  pub inside : s .at + s .long ≤ 32768
+  pub inside : s .at + s .long ≤ mostNames
   pub most : s .long ≤ 200
 
 -- a structure's number with such a name
 pub record StructNamed (types : List ℕ) (n : ℕ) : Type 0 where
-  pub row : n < 200
+  pub row : n < mostTypes
   pub name : Short (typeAt types n .name)
 
 abbrev pub TypeNamed : List ℕ → Ty → Type 0

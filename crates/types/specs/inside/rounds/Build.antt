@@ -12,8 +12,6 @@ use Rattle.types.specs.refusals.Said.{done}
 use Rattle.types.specs.tables.Registry.{noTypes, noMembers, noNames}
 use Rattle.types.specs.declared.layout.predefined.PredefinedIds.{PredefinedIds}
 
--- ---- in code
-
 -- the types that wait by their flags, n of them from the i-th on
 unfoldable pub waits : List ℕ → ℕ → ℕ → List ℕ
 waits f i zero = []

@@ -24,9 +24,11 @@ use Rattle.types.specs.declared.rounds.round.Round.the-variants.{Refused
 abbrev pub roundIn : List ℕ → List Def → List ℕ → Out (List Def) Why
 roundIn book ds ws = round stuckAt (readyIn book) (addIn book) ds ws
 
--- a registry that rounds over a book can reach: the predefined types under good ids, then types of the book
+-- a registry that rounds over a book can reach
 pub data Reached (book : List ℕ) : List Def → Type 0 where
+  -- the predefined types, under good ids
   first : (ids : PredefinedIds) → predefinedIds ids ≡ true → Reached book (predefined ids)
+  -- and then a type of the book more
   more : (ds ds′ : List Def) (i : ℕ) → Reached book ds → addIn book ds i ≡ ok ds′ → Reached book ds′
 
 -- what a round asks: a good book of t types; tables of a registry that rounds reach, of which so much is used; a flag

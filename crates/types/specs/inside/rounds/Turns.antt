@@ -14,11 +14,10 @@ use Rattle.types.specs.inside.adding.Checks.{EntriesInside}
 use Rattle.types.specs.inside.atomics.Lookup.{Unseen}
 use Rattle.types.specs.rounds.Resolve.{typeName}
 use Rattle.types.specs.rounds.Turns.{countOf, entriesAt}
+use Rattle.types.specs.tables.Limits.{mostNames, memberWords}
 use Rattle.types.specs.declared.adding.progress.Progress.{Progress}
 use Rattle.types.specs.declared.adding.progress.Progress.the-variants.{Waits}
 use Rattle.types.specs.declared.adding.used.Used.{Used}
-
--- ---- a turn in code
 
 -- the type of the k-th member of type i is not among the first n
 pub record Missed (book : List ℕ) (known : List (List ℕ)) (i k n : ℕ) : Type 0 where
@@ -36,8 +35,8 @@ pub record Tries (book : List ℕ) (known : List (List ℕ)) (stuck tried : List
 -- of earlier turns
 pub record TurnIn (types members names book tys stuck tried : List ℕ) (i at : ℕ) (u : Used) : Type 0 where
   pub usable : Usable types names u
-  pub rows : length members ≡ 16000
-  pub bytes : length names ≡ 32768
+  pub rows : length members ≡ memberWords
+  pub bytes : length names ≡ mostNames
   pub entry : 20 + 16 * i ≤ length book
   pub named : typeEntry book i .name .at + typeEntry book i .name .long ≤ length book
   pub inside : EntriesInside book at (countOf book i)

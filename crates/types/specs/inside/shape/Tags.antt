@@ -11,8 +11,6 @@ use Rattle.types.specs.declared.shape.tags.Product.{Product}
 use Rattle.types.specs.declared.shape.tags.Product.the-variants.{Is, Over}
 use Rattle.types.specs.declared.tables.member.Ty.{Ty}
 
--- ---- what the code's steps ask and give
-
 -- the product, where 64 bits hold it
 unfoldable pub productOf : List ℕ → Product
 productOf ns = cond (leb (product ns) (2 ^ 64 - 1)) (Is (product ns)) Over

@@ -2,6 +2,7 @@
 -- tables).
 use Prim.Native.Nat.{_<_}
 use mathlib.Core.Bool.{false}
+use Rattle.types.specs.tables.Limits.{mostTypes}
 use Rattle.types.specs.declared.atomics.atomic.Atomic.the-variants.{Bool as BOOL}
 use Rattle.types.specs.declared.tables.member.Bit.the-variants.{None}
 use Rattle.types.specs.declared.tables.member.Member.{Member}
@@ -14,7 +15,7 @@ use Rattle.types.specs.declared.tables.member.Ty.the-variants.{Atomic, S
 -- a structure's number is below the number of rows
 abbrev pub TyFits : Ty → Type 0
 TyFits (Atomic a) = Unit {0}
-TyFits (Struct n) = n < 200
+TyFits (Struct n) = n < mostTypes
 
 -- ---- a row of zeros: one that is not in use, and one past a table's end
 

@@ -7,6 +7,7 @@ use lib.ListN.{length}
 use Rattle.types.specs.inside.tables.Defs.{Readable}
 use Rattle.types.specs.inside.templates.Sink.{Room}
 use Rattle.types.specs.tables.Defs.{nameIn, partsAt, defOf}
+use Rattle.types.specs.tables.Limits.{mostNames}
 use Rattle.types.specs.tables.TypeWord.{idsIn}
 use Rattle.types.specs.templates.Handle.{foldFrom}
 use Rattle.types.specs.templates.Template.{infos, shownName, memberNames, frontOf}
@@ -37,7 +38,7 @@ frontIn types members names d = frontOf (idsIn types) (defOf members names d)
 -- the rows can be read, the table of names is whole, and the sink can take the bytes s
 pub record Emittable (members names : List ℕ) (d : StructDef) (s : List ℕ) (k : Sink) (out : List ℕ) : Type 0 where
   pub rows : Readable members d
-  pub table : length names ≡ 32768
+  pub table : length names ≡ mostNames
   pub room : Room s k out
 
 -- a sink that took the bytes s from the start on

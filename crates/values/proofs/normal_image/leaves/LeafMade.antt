@@ -14,6 +14,7 @@ use borrow.Author.Tests.{lt-ltb, le-ltb}
 use Rattle.words.specs.Bits.{Bits, bitOf, digit, flat, from, inside, stamp, val}
 use Rattle.words.specs.Words.{Bytes, bytesOf, wordAt}
 use Rattle.words.proofs.BitLaws.{Lies, among, beside, byte-val, flat-set, lies, word-val}
+use Rattle.words.proofs.StampLaws.{flat-word}
 use Rattle.types.specs.atomics.Atomic.{bitString, sizeOf}
 use Rattle.types.specs.layout.Placing.{times}
 use Rattle.types.specs.declared.atomics.atomic.Atomic.{Atomic}
@@ -28,7 +29,7 @@ use Rattle.values.specs.reading.Trees.{atomicsTree}
 use Rattle.values.proofs.normal_image.ArrayMade.{array-made}
 use Rattle.values.proofs.normal_image.MadeLaws.{normal-around}
 use Rattle.values.proofs.reading.SpanLaws.{Many, one, some, many}
-use Rattle.values.proofs.writing.StampLaws.{flat-word, zeros-cleared}
+use Rattle.values.proofs.writing.ClearLaws.{zeros-cleared}
 
 -- ---- a bit beside some others is after them, or before them
 
@@ -173,11 +174,13 @@ pub record Booling (first : List ℕ) (base n : ℕ) (image : List ℕ) (k : ℕ
   pub left : eachMade n (made (leaf byte)) 8 (8 * base) (flat first)
       ≡ eachMade (n - k) (made (leaf byte)) 8 (8 * (base + k)) (flat image)
 
+-- before the first BOOL all are still to be made normal
 pub bools-start : (image : List ℕ) (base n : ℕ) → Booling image base n image 0
 bools-start image base n =
     let e : n - 0 ≡ n = omega arith in
     record { inside = omega arith; long = refl; left = rw (add-zero, e) refl }
 
+-- one BOOL more: its byte is set to 1 where it is true, else to 0
 pub bools-on : {first image : List ℕ} {base n k x y : ℕ} → Booling first base n image k → k < n
     → base + n ≤ length first → x ≡ getD image (base + k) 0 → x < 256 → y ≡ digit (isTrue x)
     → Booling first base n (set image (base + k) y) (k + 1)
@@ -193,6 +196,7 @@ bools-on {first} {image} {base} {n} {k} {x} {y} w h room e small d =
           (sym (byte-made image (base + k) (omega (arith, w .long)) e small d));
     }
 
+-- after the last BOOL all are made normal
 pub bools-done : {first image : List ℕ} {base n k : ℕ} → Booling first base n image k → n ≤ k
     → flat image ≡ eachMade n (made (leaf byte)) 8 (8 * base) (flat first)
 unfolding eachMade

@@ -9,6 +9,7 @@ use Rattle.types.specs.layout.Laid.{Earlier, Laid, Plain, Rising, firstBit, pas
 use Rattle.types.specs.tables.Defs.{Part, partAt, partsAt}
 use Rattle.types.specs.tables.Kept.{KeptRows}
 use Rattle.types.specs.tables.Lent.{memberAt, typeAt}
+use Rattle.types.specs.tables.Limits.{mostTypes}
 use Rattle.types.specs.tables.Sizes.{sizesIn}
 use Rattle.types.specs.declared.tables.member.Member.{Member}
 use Rattle.types.specs.declared.tables.member.Ty.{Ty}
@@ -41,7 +42,7 @@ from-past sizes m (p ∷ ps) v (r, rs) = (r v, from-past sizes m ps v rs)
 
 -- ---- the tables
 
-earlier-low : {i : ℕ} (t : Ty) → i < 200 → Earlier i t → Earlier 200 t
+earlier-low : {i : ℕ} (t : Ty) → i < mostTypes → Earlier i t → Earlier mostTypes t
 earlier-low (ty.Atomic a) low l = tt
 earlier-low (ty.Struct n) low l = omega arith
 
@@ -49,7 +50,7 @@ module _ {types members : List ℕ} (k : KeptRows types members) where
   disjoint : Disjoint types members
   disjoint = kept-disjoint (k .kept)
 
-  module _ (i : ℕ) (low : i < 200) where
+  module _ (i : ℕ) (low : i < mostTypes) where
     -- the plain ones of some rows, from bit c on
     rows-stairs : (row n c : ℕ) → c ≤ 8 * sizesIn types i → From c (partsAt members (k .names) row n)
         → Laid (sizesIn types) i (sizesIn types i) (partsAt members (k .names) row n)
@@ -84,7 +85,7 @@ module _ {types members : List ℕ} (k : KeptRows types members) where
         go true e same next = (
           f (plain-is m e),
           (
-            member-placed (treeIn types members) 200 (disjoint .placed) (m .bit) (m .ty) (m .count)
+            member-placed (treeIn types members) mostTypes (disjoint .placed) (m .bit) (m .ty) (m .count)
                 (earlier-low (m .ty) low (d .earlier)),
             next (plain-is m e),
           ),

@@ -9,6 +9,7 @@ use mathlib.Core.List.{List}
 use lib.ListN.{length}
 use Rattle.words.specs.Bits.{Bits, flat, inside}
 use Rattle.words.specs.Words.{Bytes}
+use Rattle.words.proofs.StampLaws.{yes-inside}
 use Rattle.types.specs.tables.There.{isThere}
 use Rattle.types.specs.declared.atomics.atomic.Atomic.{Atomic}
 use Rattle.types.specs.declared.refusals.refusal.Refusal.the-variants.{ImageLength, NoSuchType}
@@ -27,7 +28,6 @@ use Rattle.values.specs.reading.Trees.{atomicsTree, knownIn, structsTree
 use Rattle.values.specs.declared.writing.write.Taken.the-variants.{Refused, Whole}
 use Rattle.values.proofs.normal_image.CharLaws.{chars-ext}
 use Rattle.values.proofs.normal_image.MadeLaws.{made-inside}
-use Rattle.values.proofs.normal_image.PlacedLaws.{yes-inside}
 use Rattle.values.proofs.normal_image.SweepableLaws.{sweepable-walkable}
 use Rattle.values.proofs.reading.SpanLaws.{tree-value-span}
 use Rattle.values.proofs.writing.WrittenLaws.{bytes-bits}
@@ -54,16 +54,19 @@ module _ {types members : List ℕ} (s : Sweepable types members) {t : Ty} {n : 
       (λ k l. ap (λ (x : Bits). x k) e ∙ made-inside tree 0 (flat image) k (all-inside k l))
 
   module _ {new : List ℕ} (long : length new ≡ length image) (b : Bytes new) where
+    -- a value of atomics made normal is its normal image
     pub atomics-normal : {a : Atomic} → t ≡ ty.Atomic a → flat new ≡ made (atomicsTree a n) 0 (flat image)
         → new ≡ valueNormal types members t n image
     unfolding treeOfValue
     atomics-normal is e = made-value long b (e ∙ rw is refl)
 
+    -- one structure made normal is the value's normal image
     pub one-normal : {i : ℕ} → t ≡ ty.Struct i → n ≡ 0 → flat new ≡ made (treeIn types members i) 0 (flat image)
         → new ≡ valueNormal types members t n image
     unfolding treeOfValue structsTree
     one-normal is none e = made-value long b (e ∙ rw (is, eq-eqb n 0 none) refl)
 
+    -- an array of structures made normal is the value's normal image
     pub all-normal : {i : ℕ} → t ≡ ty.Struct i → (n ≡ 0 → ⊥)
         → flat new ≡ made (array n (treeIn types members i)) 0 (flat image)
         → new ≡ valueNormal types members t n image
@@ -73,15 +76,18 @@ module _ {types members : List ℕ} (s : Sweepable types members) {t : Ty} {n : 
 -- ---- the call
 
 module _ (types members : List ℕ) (t : Ty) (n : ℕ) (image : List ℕ) where
+  -- the way out with 15: no such type, and the image is as it was
   pub no-type : isThere types t ≡ false → MadeNormal types members t n image (Refused NoSuchType) image
   unfolding normalResult
   no-type e = record { answer = rw e refl; leaves = rw e refl }
 
   module _ (there-is : isThere types t ≡ true) where
+    -- the way out with 14: the image's length does not fit, and the image is as it was
     pub no-image : imageFits types t n image ≡ false → MadeNormal types members t n image (Refused ImageLength) image
     unfolding normalResult
     no-image e = record { answer = rw (there-is, e) refl; leaves = rw (there-is, e) refl }
 
+    -- the answer where type and image fit: nothing is refused, and the normal image is left
     pub whole-normal : {new : List ℕ} → imageFits types t n image ≡ true → new ≡ valueNormal types members t n image
         → MadeNormal types members t n image Whole new
     unfolding normalResult

@@ -26,13 +26,16 @@ module _ (a : Atomic) (n : ℕ) (s : List ℕ) where
   elements-plain =
       up-bodies (elementOut a s) (λ k. textless-emit a (flat (part s (sizeOf a * k) (sizeOf a))) .none) n
 
+  -- n elements have n entries
   pub elements-long : length (upTo (elementOut a s) n) ≡ n
   elements-long = up-ones (elementOut a s) n (λ k. refl)
 
+  -- an array of n numbers has n entries and two brackets
   pub numbers-long : length (numbersOut a n s) ≡ n + 2
   unfolding numbersOut
   numbers-long = wrap-length 10 11 (upTo (elementOut a s) n) ∙ omega (arith, elements-long)
 
+  -- the open bracket, the elements and the close bracket are put: the array
   pub numbers-put : {out first new last : List ℕ} {at p : ℕ} → first ≡ sets out at (entryBytes 10 0)
       → Put first (at + 12) (upTo (elementOut a s) n) new p → last ≡ sets new p (entryBytes 11 0)
       → Put out at (numbersOut a n s) last (p + 12)
@@ -44,11 +47,13 @@ module _ (a : Atomic) (n : ℕ) (s : List ℕ) where
   unfolding atomicsOut
   atomics-bits b e = rw (b, e)
 
+  -- with a count of 0 there are as many bytes as one atomic has
   pub one-long : n ≡ 0 → length s ≡ sizeOf a * times n → length s ≡ sizeOf a
   one-long h e =
       let f : sizeOf a * times n ≡ sizeOf a * 1 = ap (λ (k : ℕ). sizeOf a * k) (sym (times-one n h)) in
       omega arith
 
+  -- no bit string, and a count of 0: the first element is the whole value
   pub atomics-one : bitString a ≡ false → n ≡ 0 → length s ≡ sizeOf a * times n
       → upTo (elementOut a s) 1 ≡ atomicsOut a n s
   unfolding atomicsOut upTo part
@@ -58,9 +63,11 @@ module _ (a : Atomic) (n : ℕ) (s : List ℕ) where
       ap (λ (k : ℕ). take (sizeOf a) (drop k s)) z ∙ take-all (sizeOf a) s (omega (arith, one-long h e)) in
       rw (b, eq-eqb n 0 h) (ap (numberOut a) w)
 
+  -- no bit string, and any other count: the value is the array
   pub atomics-array : bitString a ≡ false → (n ≡ 0 → ⊥) → numbersOut a n s ≡ atomicsOut a n s
   unfolding atomicsOut
   atomics-array b h = rw (b, ne-eqb n 0 h)
 
+  -- with any other count there are so many times the bytes of one atomic
   pub array-long : (n ≡ 0 → ⊥) → length s ≡ sizeOf a * times n → length s ≡ sizeOf a * n
   array-long h e = e ∙ ap (λ (k : ℕ). sizeOf a * k) (sym (times-same n h))

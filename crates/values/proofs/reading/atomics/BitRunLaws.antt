@@ -24,6 +24,7 @@ digit-of zero h = refl
 digit-of (suc zero) h = refl
 digit-of (suc (suc r)) h = absurd (omega arith)
 
+-- a number divided by 2^k, modulo 2, is the digit of its bit k
 pub bit-digit : (x k : ℕ) → x / 2 ^ k % 2 ≡ digit (bitOf x k)
 unfolding bitOf
 bit-digit x k = digit-of (x / 2 ^ k % 2) (omega arith)
@@ -62,6 +63,7 @@ no-bit x out at =
     let e : at + 12 * 0 ≡ at = omega arith in
     record { put = rw e (put-none out at); long = refl }
 
+-- the lowest bit of a byte is put
 pub first-bit : {x : ℕ} {out last : List ℕ} {at r : ℕ} → r ≡ digit (bitOf x 0) → last ≡ sets out at (entryBytes 1 r)
     → LowBits x out at 1 last
 first-bit {x} {out} {last} {at} {r} b e =
@@ -90,10 +92,12 @@ pub record FirstBytes (s first : List ℕ) (at : ℕ) (out : List ℕ) (p i : �
   pub long : length out ≡ length first
   pub put : Put first at (upTo (bitToken s) (8 * i)) out p
 
+-- before the first byte nothing is put
 pub no-byte : (s out : List ℕ) (at : ℕ) → FirstBytes s out at out at 0
 no-byte s out at =
     record { inside = omega arith; next = omega arith; long = refl; put = unfold upTo in put-none out at }
 
+-- the eight bits of the next byte are put: one byte more
 pub byte-more : {s first out new : List ℕ} {at p i : ℕ} → FirstBytes s first at out p i → i < length s
     → Put out p (upTo (bitToken (getD s i 0 ∷ [])) 8) new (p + 96) → FirstBytes s first at new (p + 96) (i + 1)
 byte-more {s} {first} {out} {new} {at} {p} {i} w h v =
@@ -109,6 +113,7 @@ pub bits-long : (s : List ℕ) (n : ℕ) → length (bitsOut s n) ≡ n + 2
 unfolding bitsOut
 bits-long s n = wrap-length 10 11 (upTo (bitToken s) n) ∙ omega (arith, bits-length s n)
 
+-- the open bracket, the bits of all bytes and the close bracket are put: the array
 pub bits-put : {s out first new last : List ℕ} {at p i : ℕ} → first ≡ sets out at (entryBytes 10 0)
     → FirstBytes s first (at + 12) new p i → length s ≤ i → last ≡ sets new p (entryBytes 11 0)
     → Put out at (bitsOut s (8 * length s)) last (p + 12)

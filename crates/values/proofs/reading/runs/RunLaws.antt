@@ -44,6 +44,7 @@ pub record Running (g : ℕ → Token) (n : ℕ) (first : List ℕ) (at : ℕ) (
   pub plain : bodies (ones g i) ≡ []
   pub put : Put first at (ones g i) out p
 
+-- before the first element nothing is put, and all have room
 pub run-start : {g : ℕ → Token} {n at : ℕ} {first : List ℕ} → at + 12 * n ≤ length first
     → Running g n first at first at 0
 unfolding upTo
@@ -76,6 +77,7 @@ module _ {g : ℕ → Token} {n at p i : ℕ} {first out : List ℕ} (w : Runnin
       let m : i ≡ n = let a = w .inside in omega arith in
       rw (up-ext h (λ k. g k ∷ []) n e, ← m) (w .put)
 
+  -- the buffer keeps its length
   pub run-length : length out ≡ length first
   run-length = put-length (w .put)
 
@@ -85,6 +87,7 @@ module _ {g : ℕ → Token} {n at p i : ℕ} {first out : List ℕ} (w : Runnin
 abbrev pub formed : Form → ℕ → List ℕ → ℕ → Token
 formed f w s k = number (f .kind) (extended f (wordAt w s (w * k)))
 
+-- the next number is put, widened by its form
 pub numbers-on : (f : Form) (w : ℕ) (s : List ℕ) {n at p i x y : ℕ} {first out new : List ℕ}
     → Running (formed f w s) n first at out p i → i < n → x ≡ wordAt w s (w * i) → y ≡ extended f x
     → new ≡ sets out p (entryBytes (f .kind) y) → Running (formed f w s) n first at new (p + 12) (i + 1)
@@ -95,6 +98,7 @@ module _ {a : Atomic} {f : Form} {w n : ℕ} {s : List ℕ} (e : f ≡ formOf a)
   pub number-fits : (at : ℕ) {x : ℕ} → x ≡ wordAt w s at → x + f .fill < 2 ^ 64
   number-fits at h = rw (h, e, ← r .size) (fill-fits a s at b)
 
+  -- all numbers are put: the elements of the array
   pub numbers-done : {at p i : ℕ} {first out : List ℕ} → Running (formed f w s) n first at out p i → n ≤ i
       → Put first at (upTo (elementOut a s) n) out p
   numbers-done v l =
@@ -103,9 +107,11 @@ module _ {a : Atomic} {f : Form} {w n : ℕ} {s : List ℕ} (e : f ≡ formOf a)
 
 -- ---- BOOLs, a byte each
 
+-- the entry of BOOL k: true where its byte is not 0
 abbrev pub truths : List ℕ → ℕ → Token
 truths s k = bool (isTrue (getD s k 0))
 
+-- all BOOLs are put: the elements of the array
 pub truths-done : (s : List ℕ) {n at p i : ℕ} {first out : List ℕ} → Bytes s → Running (truths s) n first at out p i
     → n ≤ i → Put first at (upTo (elementOut atomic.Bool s) n) out p
 unfolding sizeOf
@@ -128,10 +134,12 @@ run-given {a} {b} {n} {w} {s} e f g h =
     } in
     (run, h .1)
 
+-- bytes that hold n BOOLs are at least n
 pub truths-given : {a : Atomic} (n : ℕ) (s : List ℕ) → a ≡ atomic.Bool → sizeOf a * n ≤ length s → n ≤ length s
 unfolding sizeOf
 truths-given n s e h = let l : 1 * n ≤ length s = rw e at h in omega arith
 
+-- elements put as BOOLs are those of an atomic that is BOOL
 pub truths-put : {a : Atomic} (n : ℕ) (s : List ℕ) {at r : ℕ} {out new : List ℕ} → a ≡ atomic.Bool
     → Put out at (upTo (elementOut atomic.Bool s) n) new r → Put out at (upTo (elementOut a s) n) new r
 truths-put n s e w = rw e w

@@ -35,6 +35,7 @@ module _ (capacity : ℕ) (image : List ℕ) (inside : 4 + capacity ≤ length i
       let f : 4 + n - 4 ≡ textLength capacity image = omega arith in
       ap (λ (k : ℕ). take k (drop 4 image)) f
 
+  -- where a string's entry and text have room, the text ends inside the buffer
   pub text-room : {long base at text : ℕ} → Room long base at text (textOut capacity image)
       → base + text + textLength capacity image ≤ long
   text-room r = omega (arith, r .texts, bodies-long)

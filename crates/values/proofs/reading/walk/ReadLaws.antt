@@ -8,6 +8,7 @@ use mathlib.Core.List.{List, _∷_}
 use lib.ListN.{length}
 use lib.Seq.{sets}
 use Rattle.types.specs.tables.Lent.{memberAt, typeAt}
+use Rattle.types.specs.tables.Limits.{mostTypes}
 use Rattle.types.specs.tables.Sizes.{sizesIn}
 use Rattle.types.specs.declared.atomics.atomic.Atomic.{Atomic}
 use Rattle.types.specs.declared.tables.member.Member.{Member}
@@ -24,8 +25,7 @@ use Rattle.values.specs.declared.stream.place.Place.{Place}
 use Rattle.values.proofs.reading.LeafLaws.{textless-leaf}
 use Rattle.values.proofs.reading.MemberLaws.{nested-shown, never-atomic, nested-earlier, member-leaf, row-of}
 use Rattle.values.proofs.reading.PartLaws.{lent, element-fits, element-image, element-is, Held, one-image}
-use Rattle.values.proofs.reading.PartLaws.{one-is}
-use Rattle.values.proofs.reading.PartLaws.{some-images, some-is}
+use Rattle.values.proofs.reading.PartLaws.{one-is, some-images, some-is}
 use Rattle.values.proofs.reading.WalkLaws.{struct-out}
 use Rattle.values.proofs.stream.LayingLaws.{room-one, room-all, room-as, wrote-as, value-room, value-wrote}
 use Rattle.values.proofs.stream.LayingLaws.{Running, run-start, run-room, run-turn, run-end}
@@ -41,6 +41,7 @@ module _ {types members : List ℕ} (w : Walkable types members) {i : ℕ} {imag
   unfolding structBy
   struct-is = struct-out types members w i image (whole .low) ∙ rw (test, is)
 
+  -- a structure that is no string gives its members
   pub members-are : b ≡ false
       → structOut types members i image ≡ membersBy types members (structOut types members) i image
   members-are e = struct-is ∙ rw e
@@ -58,11 +59,13 @@ module _ {types members : List ℕ} (w : Walkable types members) {i : ℕ} {imag
     string-rows = omega (arith, first-is, w .each i (whole .low) .rows, type-string .rows)
 
     module _ {capacity : ℕ} (q : capacity ≡ capacityAt members first) where
+      -- LEN and a string's capacity lie in its image
       pub string-fits : 4 + capacity ≤ length image
       string-fits =
           let e : capacity ≡ capacityAt members (typeAt types i .first) = q ∙ ap (capacityAt members) first-is in
           omega (arith, whole .long, type-string .size)
 
+      -- a string gives its text
       pub string-is : structOut types members i image ≡ textOut capacity image
       string-is = struct-is ∙ rw (string, q, p)
 
@@ -92,6 +95,7 @@ module _ {types members image : List ℕ} {i first n : ℕ} {d : StructDef} (is 
     (c : n ≡ d .count) (out : List ℕ) {mid : List ℕ} {base at text : ℕ}
     (room : Room (length out) base at text (membersBy types members (structOut types members) i image))
     (put : mid ≡ sets out at (entryBytes 8 0)) where
+  -- the open bracket is put, and no row is written yet
   pub rows-start : Walkable types members → ImageOf types i image
       → Rows types members i image first n mid base (at + 12) text 0 mid (at + 12) text
   rows-start w whole =
@@ -104,6 +108,7 @@ module _ {types members image : List ℕ} {i first n : ℕ} {d : StructDef} (is 
             row-of w (whole .low) (f ∙ ap (λ (x : StructDef). x .first) is) (c ∙ ap (λ (x : StructDef). x .count) is) h;
       }
 
+  -- all rows are written and the close bracket is put: the structure's members
   pub rows-end : {j p t : ℕ} {new last : List ℕ}
       → Rows types members i image first n mid base (at + 12) text j new p t → n ≤ j
       → last ≡ sets new p (entryBytes 9 0)
@@ -124,12 +129,14 @@ module _ {types members image out new : List ℕ} {i first n base at text j p t 
 
   -- row j is a structure, or an array of structures
   module _ (nested : b ≡ true) where
+    -- a nested row in its turn: the tables, the row and the image are right, and it has room
     pub nested-asks : (Walkable types members × (NestedRow types members i (first + j) × ImageOf types i image))
         × Room (length new) base p t
         (memberBy types members (structOut types members) j (memberAt members (first + j)) image)
     nested-asks =
         ((w .walk, (record { row-of = w .rows j h; nested = sym test ∙ nested }, w .whole)), run-room (w .run) h)
 
+    -- a nested row is written: one row more
     pub nested-on : {last : List ℕ} {r : Place}
         → Wrote new base p t (memberBy types members (structOut types members) j (memberAt members (first + j)) image)
         last r
@@ -143,10 +150,12 @@ module _ {types members image out new : List ℕ} {i first n base at text j p t 
     row-leaf =
         member-leaf types members (structOut types members) j (memberAt members (first + j)) image (sym test ∙ leaf)
 
+    -- a row that is no structure, in its turn: the row and the image are right, and it has room
     pub leaf-asks : (RowOf types members i (first + j) × ImageOf types i image)
         × (p + 12 * length (leafOut j (memberAt members (first + j)) image) ≤ length new)
     leaf-asks = ((w .rows j h, w .whole), room-all (room-as row-leaf (run-room (w .run) h)))
 
+    -- a row that is no structure is put: one row more
     pub leaf-on : {last : List ℕ} {r : ℕ} → Put new p (leafOut j (memberAt members (first + j)) image) last r
         → Rows types members i image first n out base at text (j + 1) last r t
     leaf-on v = on (wrote-as row-leaf (put-wrote base t (textless-leaf j image _) v))
@@ -155,14 +164,17 @@ module _ {types members image out new : List ℕ} {i first n base at text j p t 
 
 module _ {types members : List ℕ} {i row : ℕ} {m : Member} (nested : NestedRow types members i row)
     (is : m ≡ memberAt members row) where
+  -- the type of a nested row is no atomic
   pub nested-not : {a : Atomic} → m .ty ≡ ty.Atomic a → ⊥
   nested-not {a} e =
       never-atomic (memberAt members row) (nested .nested) a (ap (λ (x : Member). x .ty) (sym is) ∙ e)
 
-  pub nested-low : {s : ℕ} → m .ty ≡ ty.Struct s → s < 200
+  -- the structure that a nested row names has a number below 200
+  pub nested-low : {s : ℕ} → m .ty ≡ ty.Struct s → s < mostTypes
   nested-low e =
       omega (arith, nested-earlier nested (ap (λ (x : Member). x .ty) (sym is) ∙ e), nested .row-of .low)
 
+  -- a nested row holds the structure that was read from it, with its start, count and size
   pub held-row : {image : List ℕ} {s start n size : ℕ} → ImageOf types i image → m .ty ≡ ty.Struct s
       → start ≡ m .offset → n ≡ m .count → size ≡ sizesIn types s → Held types members i row image s start n size
   held-row whole e s c z =
@@ -198,10 +210,12 @@ module _ {types members : List ℕ} {i row j : ℕ} {image out : List ℕ} {base
         ≡ member j ∷ structOut types members s (lent image start (start + size))
     one = sym (one-is (w .held) none (structOut types members) j)
 
+    -- one structure in a row: its bytes are an image of it, and it has room after the number
     pub one-asks : (Walkable types members × ImageOf types s (lent image start (start + size)))
         × Room (length mid) base (at + 12) text (structOut types members s (lent image start (start + size)))
     one-asks = ((w .walk, one-image (w .held) none), value-room out (room-as one (w .room)) (w .put))
 
+    -- one structure in a row: the number and then the structure are written, the whole member
     pub one-wrote : {new : List ℕ} {r : Place}
         → Wrote mid base (at + 12) text (structOut types members s (lent image start (start + size))) new r
         → Wrote out base at text (memberBy types members (structOut types members) j (memberAt members row) image) new r
@@ -212,11 +226,13 @@ module _ {types members : List ℕ} {i row j : ℕ} {image out : List ℕ} {base
         ≡ member j ∷ elementsBy types members (structOut types members) s n (lent image start (start + size * n))
     some = sym (some-is (w .held) many (structOut types members) j)
 
+    -- an array of structures in a row: its bytes are an image of them, and it has room after the number
     pub some-asks : (Walkable types members × ImagesOf types s n (lent image start (start + size * n)))
         × Room (length mid) base (at + 12) text
         (elementsBy types members (structOut types members) s n (lent image start (start + size * n)))
     some-asks = ((w .walk, some-images (w .held) many), value-room out (room-as some (w .room)) (w .put))
 
+    -- an array of structures in a row: the number and then the array are written, the whole member
     pub some-wrote : {new : List ℕ} {r : Place}
         → Wrote mid base (at + 12) text
         (elementsBy types members (structOut types members) s n (lent image start (start + size * n))) new r
@@ -242,11 +258,13 @@ elements-room types members rec i n image r = room-one r .0
 module _ {types members image : List ℕ} {i n : ℕ} (out : List ℕ) {mid : List ℕ} {base at text : ℕ}
     (room : Room (length out) base at text (elementsBy types members (structOut types members) i n image))
     (put : mid ≡ sets out at (entryBytes 10 0)) where
+  -- the open bracket is put, and no element is written yet
   pub elements-start : {size : ℕ} → Walkable types members → ImagesOf types i n image → size ≡ sizesIn types i
       → Elements types members i n image size mid base (at + 12) text 0 mid (at + 12) text
   unfolding elementsBy
   elements-start w whole z = record { run = run-start out room put; walk = w; whole = whole; long = z }
 
+  -- all elements are written and the close bracket is put: the array
   pub elements-end : {size k p t : ℕ} {new last : List ℕ}
       → Elements types members i n image size mid base (at + 12) text k new p t → n ≤ k
       → last ≡ sets new p (entryBytes 11 0)
@@ -257,6 +275,7 @@ module _ {types members image : List ℕ} {i n : ℕ} (out : List ℕ) {mid : Li
 
 module _ {types members image out new : List ℕ} {i n size base at text k p t : ℕ}
     (w : Elements types members i n image size out base at text k new p t) (h : k < n) where
+  -- the next element lies in the image
   pub element-inside : size * k + size ≤ length image
   element-inside = element-fits (w .whole) (w .long) k h
 
@@ -264,10 +283,12 @@ module _ {types members image out new : List ℕ} {i n size base at text k p t :
       ≡ structOut types members i (lent image (size * k) (size * k + size))
   element = sym (element-is (w .whole) (w .long) members (structOut types members) k)
 
+  -- the next element: its bytes are an image of its structure, and it has room
   pub element-asks : (Walkable types members × ImageOf types i (lent image (size * k) (size * k + size)))
       × Room (length new) base p t (structOut types members i (lent image (size * k) (size * k + size)))
   element-asks = ((w .walk, element-image (w .whole) (w .long) k h), room-as element (run-room (w .run) h))
 
+  -- the next element is written: one element more
   pub element-on : {last : List ℕ} {r : Place}
       → Wrote new base p t (structOut types members i (lent image (size * k) (size * k + size))) last r
       → Elements types members i n image size out base at text (k + 1) last (r .at) (r .text)

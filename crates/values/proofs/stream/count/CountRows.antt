@@ -10,13 +10,14 @@ use lib.ListN.{length, length-append}
 use Rattle.words.specs.Words.{part}
 use Rattle.types.specs.layout.Placing.{times}
 use Rattle.types.specs.tables.Lent.{memberAt, typeAt}
+use Rattle.types.specs.tables.Limits.{mostTypes}
 use Rattle.types.specs.tables.Sizes.{sizesIn}
 use Rattle.types.specs.declared.tables.member.Ty.the-variants as ty
 use Rattle.values.specs.inside.reading.Walk.{isNested, upTo, wrap, leafOut, structsBy, memberBy, rowBy, membersBy}
 use Rattle.values.specs.inside.reading.Walk.{structOut}
 use Rattle.values.specs.inside.reading.Walkable.{Walkable, RowOf, NestedRow}
 use Rattle.values.specs.inside.stream.Counting.{Counted, TextFree}
-use Rattle.values.specs.stream.Stream.{Token, bodies}
+use Rattle.values.specs.stream.Stream.{mostBytes, Token, bodies}
 use Rattle.values.proofs.reading.MemberLaws.{member-leaf, member-nested, row-of}
 use Rattle.values.proofs.reading.UpLaws.{up-grows, wrap-length, wrap-bodies}
 use Rattle.values.proofs.stream.CountLaws.{counted-same, member-counted, plain-counted, plain-same}
@@ -72,8 +73,8 @@ module _ (g : List ℕ → ℕ → List Token) where
 -- j of the n rows of structure i are counted, on from a number
 pub record Rows (types members : List ℕ) (i from most first n : ℕ) (before after : Bool) (sum j : ℕ) : Type 0 where
   pub walk : Walkable types members
-  pub low : i < 200
-  pub bound : most ≤ 2147483648
+  pub low : i < mostTypes
+  pub bound : most ≤ mostBytes
   pub first-is : first ≡ typeAt types i .first
   pub count-is : n ≡ typeAt types i .count
   pub inside : j ≤ n
@@ -81,8 +82,9 @@ pub record Rows (types members : List ℕ) (i from most first n : ℕ) (before a
       (λ image. wrap 8 9 (upTo (rowBy types members (structOut types members) first image) j))
       before after sum
 
-pub rows-none : {types members : List ℕ} {i from most first n : ℕ} {b : Bool} → Walkable types members → i < 200
-    → most ≤ 2147483648 → first ≡ typeAt types i .first → n ≡ typeAt types i .count
+-- before the first row the two brackets are counted
+pub rows-none : {types members : List ℕ} {i from most first n : ℕ} {b : Bool} → Walkable types members → i < mostTypes
+    → most ≤ mostBytes → first ≡ typeAt types i .first → n ≡ typeAt types i .count
     → Rows types members i from most first n b b (from + 2) 0
 unfolding upTo bodies
 rows-none w l m p q =
@@ -98,6 +100,7 @@ rows-none w l m p q =
 
 module _ {types members : List ℕ} {i from most first n : ℕ} {b t : Bool} {sum j : ℕ}
     (w : Rows types members i from most first n b t sum j) where
+  -- the next row is one of the structure's
   pub next-row : j < n → RowOf types members i (first + j)
   next-row h = row-of (w .walk) (w .low) (w .first-is) (w .count-is) h
 

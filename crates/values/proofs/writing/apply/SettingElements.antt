@@ -18,9 +18,8 @@ use Rattle.values.specs.stream.Stream.{Token}
 use Rattle.values.specs.writing.Writing.{Outcome, opened, elements, write}
 use Rattle.values.proofs.reading.SpanLaws.{tree-span}
 use Rattle.values.proofs.stream.LeftLaws.{There}
-use Rattle.values.proofs.writing.ApplyLaws.{Setting, accepted-as, accepted-first, applied-as}
-use Rattle.values.proofs.writing.ApplyLaws.{setting-from, setting-on, setting-then}
-use Rattle.values.proofs.writing.ApplyLaws.{opened-there, opened-kept, opened-set}
+use Rattle.values.proofs.writing.ApplyLaws.{Setting, accepted-as, accepted-first, applied-as, setting-from}
+use Rattle.values.proofs.writing.ApplyLaws.{setting-on, setting-then, opened-there, opened-kept, opened-set}
 use Rattle.values.proofs.writing.ApplyLaws.{elements-there, elements-closed, elements-end, elements-step}
 
 -- ---- an array of structures
@@ -51,9 +50,11 @@ module _ {types members : List ℕ} {i count : ℕ} {s : List ℕ} {k : ℕ} {im
       ≡ opened 10 inner (leftAt s k) (flat image)
   opens = array-opens count (treeIn types members i) (8 * base) (leftAt s k) (flat image)
 
+  -- an accepted array has its entry
   pub array-there : There s k
   array-there = opened-there (w .form) 10 inner (flat image) (accepted-as opens (w .set))
 
+  -- null for the whole array keeps what stands
   pub array-null : firstKind (leftAt s k) ≡ 0
       → Applied s k (k + 1) image image (write (array count (treeIn types members i)) (8 * base) (leftAt s k))
   array-null e = applied-as opens (opened-kept (w .form) 10 inner array-there e)
@@ -84,6 +85,7 @@ pub record Element (types members : List ℕ) (i count : ℕ) (s : List ℕ) (k 
       → Applied s p r now new (write (treeIn types members i) (8 * (base + size * e)) (leftAt s p))
       → Elements types members i count s k image base size r (e + 1) new
 
+-- after the opening no element is set yet
 pub elements-start : {types members : List ℕ} {i count : ℕ} {s : List ℕ} {k : ℕ} {image : List ℕ} {base size : ℕ}
     → ElementsAsked types members i count s k image base → (firstKind (leftAt s k) ≡ 0 → ⊥) → size ≡ sizesIn types i
     → Elements types members i count s k image base size (k + 1) 0 image
@@ -107,10 +109,12 @@ module _ {types members : List ℕ} {i count : ℕ} {s : List ℕ} {k : ℕ} {im
   abbrev place : ℕ
   place = 8 * (base + size * e)
 
+  -- the next entry of the accepted elements is there
   pub element-there : There s p
   element-there =
       elements-there (v .asked .form) (v .left) (write tree) (span tree) place (flat now) (v .setting .taken)
 
+  -- at the close the array is set
   pub elements-close : firstKind (leftAt s p) ≡ 11
       → Applied s k (p + 1) image now (write (array count tree) (8 * base) (leftAt s k))
   elements-close h =
@@ -138,6 +142,7 @@ module _ {types members : List ℕ} {i count : ℕ} {s : List ℕ} {k : ℕ} {im
         let a : size * (e + 1) ≡ size * e + size = mul-add size e 1 ∙ ap (size * e +_) (mul-one size) in
         omega (arith, tree-span types members (v .asked .walk) i (v .asked .here .low), v .long)
 
+    -- where a place is left, an entry that is no close is an element's
     pub element : (firstKind (leftAt s p) ≡ 11 → ⊥) → Element types members i count s k image base size p e now
     element n = go (v .left) (v .all) (v .setting)
       where

@@ -23,9 +23,9 @@ use Rattle.values.specs.writing.Writing.{Outcome, andThen, opened, membe
 use Rattle.values.proofs.reading.MemberLaws.{row-of}
 use Rattle.values.proofs.stream.LeftLaws.{There, few-entries, left-long, payloadAt}
 use Rattle.values.proofs.writing.ApplyLaws.{Setting, accepted-as, accepted-first, applied-as, not-accepted}
-use Rattle.values.proofs.writing.ApplyLaws.{setting-from, setting-on, setting-then}
-use Rattle.values.proofs.writing.ApplyLaws.{opened-there, opened-kept, opened-set}
-use Rattle.values.proofs.writing.ApplyLaws.{members-there, members-closed, members-seven, members-step}
+use Rattle.values.proofs.writing.ApplyLaws.{setting-from, setting-on, setting-then, opened-there, opened-kept}
+use Rattle.values.proofs.writing.ApplyLaws.{opened-set, members-there, members-closed, members-seven}
+use Rattle.values.proofs.writing.ApplyLaws.{members-step}
 use Rattle.values.proofs.writing.BranchLaws.{branch-is, branch-hidden, branch-past}
 
 -- an entry's number is small
@@ -67,9 +67,11 @@ module _ {types members : List ℕ} {i : ℕ} {s : List ℕ} {k : ℕ} {image : 
       ≡ opened 8 inner (leftAt s k) (flat image)
   opens = struct-opens (8 * sizesIn types i) (branchesIn types members i) (8 * base) (leftAt s k) (flat image)
 
+  -- an accepted structure has its entry
   pub struct-there : There s k
   struct-there = opened-there (w .form) 8 inner (flat image) (accepted-as opens (w .set))
 
+  -- null for the whole structure keeps what stands
   pub struct-null : firstKind (leftAt s k) ≡ 0
       → Applied s k (k + 1) image image
       (write (struct (8 * sizesIn types i) (branchesIn types members i)) (8 * base) (leftAt s k))
@@ -110,6 +112,7 @@ pub record Named (types members : List ℕ) (i : ℕ) (s : List ℕ) (k : ℕ) (
       (leftAt s (p + 1)))
       → Members types members i s k image base first r new
 
+-- after the opening no member is set yet
 pub members-start : {types members : List ℕ} {i : ℕ} {s : List ℕ} {k : ℕ} {image : List ℕ} {base first : ℕ}
     {d : StructDef} → MembersAsked types members i s k image base → (firstKind (leftAt s k) ≡ 0 → ⊥)
     → d ≡ typeAt types i → first ≡ d .first → Members types members i s k image base first (k + 1) image
@@ -127,13 +130,16 @@ module _ {types members : List ℕ} {i : ℕ} {s : List ℕ} {k : ℕ} {image : 
   abbrev one : Token → List Token → Bits → Outcome
   one = writeBranch (branchesIn types members i) (8 * base)
 
+  -- the next entry of the accepted members is there
   pub member-there : There s p
   member-there = members-there (v .asked .form) (suc (v .more)) one (flat now) (v .setting .taken)
 
+  -- the structure lies in the image as it now stands
   pub members-here : Here types i base now
   members-here =
       record { low = v .asked .here .low; inside = omega (arith, v .asked .here .inside, v .setting .long) }
 
+  -- at the close the structure is set
   pub members-end : firstKind (leftAt s p) ≡ 9
       → Applied s k (p + 1) image now
       (write (struct (8 * sizesIn types i) (branchesIn types members i)) (8 * base) (leftAt s k))
@@ -213,6 +219,7 @@ module _ {types members : List ℕ} {i : ℕ} {s : List ℕ} {k : ℕ} {image : 
             on = λ r new a. after r new (applied-as is a);
           }
 
+      -- an accepted entry that is no close names a visible member, in the row of its number
       pub named : Named types members i s k image base first p now (first + x)
       named = subst (λ (f : ℕ). Named types members i s k image base first p now (f + x)) (sym (v .rows)) named-row
 
@@ -221,12 +228,15 @@ module _ {types members : List ℕ} {i : ℕ} {s : List ℕ} {k : ℕ} {image : 
     {row : ℕ} (v : Members types members i s k image base first p now)
     (u : Named types members i s k image base first p now row) {b : Bool} (test : b ≡ isNested (memberAt members row))
   where
+    -- a named member that is a structure, or an array of them, stands in a row of that sort
     pub named-nested : b ≡ true → NestedRow types members i row
     named-nested e = record { row-of = u .row-of; nested = sym test ∙ e }
 
+    -- any other named member stands in a visible row that holds no structure
     pub named-leaf : b ≡ false → LeafRow members row
     named-leaf e = record { inside = u .row-of .inside; visible = u .visible; flat = sym test ∙ e }
 
+    -- the bits of a named member lie in the image as it now stands
     pub named-here : MemberHere (sizesIn types) (memberAt members row) base now
     named-here =
         record { inside = let h = members-here v .inside in let l = u .row-of .within .inside in omega arith }

@@ -9,10 +9,10 @@ use lib.Dec.{eqb}
 use lib.ListN.{getD, length, length-set, set}
 use Rattle.words.specs.Bits.{Bits, bitOf, digit, flat, from, stamp, val, withBit}
 use Rattle.words.proofs.BitLaws.{bit-val, flat-set, flat-with}
+use Rattle.words.proofs.StampLaws.{stamp-ext, stamp-none, stamp-two}
 use Rattle.values.specs.inside.writing.Bools.{AtLeast, Bools, truths}
 use Rattle.values.specs.inside.writing.Passes.{Applied, leftAt}
 use Rattle.values.specs.writing.Writing.{boolsIn}
-use Rattle.values.proofs.writing.StampLaws.{stamp-ext, stamp-none, stamp-two}
 use Rattle.values.proofs.writing.bools.BoolRuns.{Accepts, bools-run, later, least-few, run-byte, truths-from}
 
 -- ---- eight bools as a byte
@@ -39,6 +39,7 @@ module _ {s : List ℕ} {k : ℕ} (r : AtLeast s k 8) where
   byte-at : (i at : ℕ) → i < 8 → 8 + 12 * (k + i) ≡ at → getD s at 0 < 2
   byte-at i at l e = rw e at (run-byte (r .run) i (omega (arith, r .enough)))
 
+  -- the first eight bools of a run of at least eight have their bytes in the stream, each 0 or 1
   pub eight-bytes : EightBytes s (8 + 12 * k)
   eight-bytes =
       let few = least-few r in
@@ -87,13 +88,14 @@ pub record Laid (s : List ℕ) (k p : ℕ) (image : List ℕ) (n : ℕ) (new : L
   pub long : length new ≡ length image
   pub bits : flat new ≡ stamp p n (truths s k) (flat image)
 
-pub laid-none : (s : List ℕ) (k p : ℕ) (image : List ℕ) (n : ℕ) → n ≡ 0 → Laid s k p image n image
-laid-none s k p image n e = record { long = refl; bits = rw e (sym (stamp-none p (truths s k) (flat image))) }
+-- before the first bool the image is as it was
+pub laid-none : {s : List ℕ} {k p : ℕ} {image : List ℕ} {n : ℕ} → n ≡ 0 → Laid s k p image n image
+laid-none {s} {k} {p} {image} {n} e = record { long = refl; bits = rw e (sym (stamp-none p (truths s k) (flat image))) }
 
 -- all of them
-pub laid-all : {s : List ℕ} {k p : ℕ} {image : List ℕ} {m : ℕ} {new : List ℕ} (n : ℕ) → Laid s k p image m new → m ≡ n
+pub laid-all : {s : List ℕ} {k p : ℕ} {image : List ℕ} {m : ℕ} {new : List ℕ} {n : ℕ} → Laid s k p image m new → m ≡ n
     → flat new ≡ stamp p n (truths s k) (flat image)
-laid-all n a e = rw e at (a .bits)
+laid-all {n} a e = rw e at (a .bits)
 
 -- and some more
 laid-more : {s : List ℕ} {k p : ℕ} {image : List ℕ} {m : ℕ} {new : List ℕ} (q n : ℕ) (b : Bits) (newer : List ℕ)
@@ -108,10 +110,10 @@ laid-more {s} {k} {p} {image} {m} {new} q n b newer sum a e f long h g =
     }
 
 -- a byte of eight
-pub laid-byte : {s : List ℕ} {k : ℕ} {image new : List ℕ} (base b x : ℕ)
+pub laid-byte : {s : List ℕ} {k : ℕ} {image new : List ℕ} (base b : ℕ) {x : ℕ}
     → Laid s k (8 * base) image (8 * b) new → base + b < length new → x ≡ val 8 (truths s (k + 8 * b))
     → Laid s k (8 * base) image (8 * (b + 1)) (set new (base + b) x)
-laid-byte {s} {k} {image} {new} base b x a l e =
+laid-byte {s} {k} {image} {new} base b {x} a l e =
     laid-more (8 * (base + b)) 8 (bitOf x) (set new (base + b) x) (8 * (b + 1)) a (omega arith) (omega arith)
     (length-set new (base + b) x) (flat-set new (base + b) x l)
     (λ i h. ap (λ y. bitOf y i) e ∙ bit-val 8 (truths s (k + 8 * b)) i h ∙ truths-from s k (8 * b) i)
@@ -142,9 +144,10 @@ pub record Parts (s : List ℕ) (k : ℕ) (image : List ℕ) (base m : ℕ) : Ty
   pub few : AtLeast s (k + 8 * (m / 8)) (m % 8)
   pub last : 0 < m % 8 → base + m / 8 < length image
 
-pub parts-of : {s : List ℕ} {k : ℕ} {image : List ℕ} {base : ℕ} (b : Bools s k image base) (m : ℕ)
+-- an accepted array of bools is whole bytes and the bits of one more, and they lie in the image
+pub parts-of : {s : List ℕ} {k : ℕ} {image : List ℕ} {base : ℕ} (b : Bools s k image base) {m : ℕ}
     → m ≡ bools-run b .many → Parts s k image base m
-parts-of {s} {k} {image} {base} b m e =
+parts-of {s} {k} {image} {base} b {m} e =
     let a = bools-run b in
     let all : AtLeast s k m = record { many = a .many; run = a .run; enough = omega arith } in
     let bits : m ≤ 8 * b .bytes = omega (arith, a .few) in
@@ -167,6 +170,7 @@ laid-both {s} {k} {image} {newer} new base m long e more f =
     laid-more (8 * (base + m / 8)) (m % 8) (truths s (k + 8 * (m / 8))) newer m (record { long = long; bits = e })
     (omega arith) (omega arith) more f (λ i l. truths-from s k (8 * (m / 8)) i)
 
+-- where all bools of an accepted array are set, the array is set up to its close
 pub bools-applied : {s : List ℕ} {k total : ℕ} {image new : List ℕ} (q base : ℕ)
     → Laid s k (8 * base) image (q - k) new → (a : Accepts s k total (8 * base) (flat image)) → q ≡ k + a .many
     → Applied s k (q + 1) image new (boolsIn total (8 * base) (leftAt s k))

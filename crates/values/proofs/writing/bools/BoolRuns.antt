@@ -11,6 +11,7 @@ use lib.Dec.{eqb}
 use lib.ListN.{getD, length}
 use Rattle.words.specs.Bits.{Bits, bitOf, flat, from, stamp}
 use Rattle.words.specs.Words.{wordAt}
+use Rattle.words.proofs.StampLaws.{stamp-ext, stamp-none, stamp-two}
 use Rattle.values.specs.inside.writing.Bools.{AtLeast, Bools, BoolRun, truths}
 use Rattle.values.specs.inside.writing.Passes.{accepted, firstKind, leftAt}
 use Rattle.values.specs.reading.Leaf.{flag}
@@ -21,7 +22,6 @@ use Rattle.values.specs.writing.Writing.{Outcome, ok, bad, andThen, bool
 use Rattle.values.proofs.stream.LeftLaws.{There, entries-inside, few-entries, kind-there, payloadAt, there}
 use Rattle.values.proofs.writing.ApplyLaws.{accepted-as, elements-there, not-accepted}
 use Rattle.values.proofs.writing.OutcomeLaws.{elements-close, elements-full, elements-next, one-is}
-use Rattle.values.proofs.writing.StampLaws.{stamp-ext, stamp-none, stamp-two}
 
 -- ---- one bool
 
@@ -76,6 +76,7 @@ module _ {s : List ℕ} {k m : ℕ} (r : BoolRun s k m) where
             ap (λ j. firstKind (leftAt s j)) here ∙ r .close;
       }
 
+-- of a run of at least so many bools, those from a later one on are such a run
 pub later : {s : List ℕ} {k n : ℕ} → AtLeast s k n → (j i : ℕ) → j + i ≤ n → AtLeast s (k + j) i
 later a j i l =
     let enough = a .enough in
@@ -86,6 +87,7 @@ pub record Few (s : List ℕ) (k n : ℕ) : Type 0 where
   pub small : k + n < 2 ^ 28
   pub long : 12 * (k + n) + 16 ≤ length s
 
+-- the entries of a run of bools are few, and lie in the stream
 pub least-few : {s : List ℕ} {k n : ℕ} → AtLeast s k n → Few s k n
 least-few {s} a =
     let enough = a .enough in
@@ -100,9 +102,11 @@ pub record Among (s : List ℕ) (k p : ℕ) : Type 0 where
   pub after : k ≤ p
   pub upto : (m : ℕ) → BoolRun s k m → p ≤ k + m
 
-pub among-start : (s : List ℕ) (k : ℕ) → Among s k k
-among-start s k = record { after = omega arith; upto = λ m r. omega arith }
+-- the first entry of a run is among its bools, or its close
+pub among-start : {s : List ℕ} {k : ℕ} → Among s k k
+among-start {s} {k} = record { after = omega arith; upto = λ m r. omega arith }
 
+-- so is the entry after one that is no close
 pub among-on : {s : List ℕ} {k p : ℕ} → Among s k p → (firstKind (leftAt s p) ≡ 11 → ⊥) → Among s k (p + 1)
 among-on {s} {k} {p} a other =
     record {
@@ -112,7 +116,9 @@ among-on {s} {k} {p} a other =
           omega (arith, a .upto m r);
     }
 
-pub among-close : {s : List ℕ} {k p : ℕ} → Among s k p → firstKind (leftAt s p) ≡ 11 → (m : ℕ) → BoolRun s k m → p ≡ k + m
+-- such an entry that is a close is the run's close
+pub among-close : {s : List ℕ} {k p : ℕ} → Among s k p → firstKind (leftAt s p) ≡ 11 → (m : ℕ) → BoolRun s k m
+    → p ≡ k + m
 among-close {s} {k} {p} a e m r = go (decLt p (k + m))
   where
     go : Dec (p < k + m) → p ≡ k + m
@@ -128,6 +134,7 @@ among-close {s} {k} {p} a e m r = go (decLt p (k + m))
 ok-is : (s : List ℕ) {a b : ℕ} {y z : Bits} → a ≡ b → y ≡ z → ok (leftAt s a) y ≡ ok (leftAt s b) z
 ok-is s e f = rw (e, f) refl
 
+-- bools that are accepted: how many, that they are a run, and that their truths are set
 pub record Accepts (s : List ℕ) (k total p : ℕ) (z : Bits) : Type 0 where
   pub many : ℕ
   pub few : many ≤ total
@@ -230,6 +237,7 @@ module _ {s : List ℕ} (form : streamOk s ≡ true) {k : ℕ} (t : There s k) (
       go (no e) (yes o) = accepts-more n o (rest _ (accepted-as (first-step n e (one-set o)) h))
       go (no e) (no o) = not-accepted (first-step n e (one-not o)) h
 
+-- an array of bools that is accepted is a run, and sets its truths
 pub accepts : {s : List ℕ} → streamOk s ≡ true → (total k p : ℕ) (z : Bits)
     → accepted (boolsIn total p (leftAt s k) z) ≡ true → Accepts s k total p z
 accepts form zero k p z h = accepts-none form (elements-there form 0 (writeOne (taken flag) 1) 1 p z h) p z h
@@ -237,6 +245,7 @@ accepts form (suc n) k p z h =
     accepts-next form (elements-there form (suc n) (writeOne (taken flag) 1) 1 p z h) p z n h
     (λ y b. accepts form n (k + 1) (p + 1) y b)
 
+-- the same of an accepted array of bools over the bytes of an image
 pub bools-run : {s : List ℕ} {k : ℕ} {image : List ℕ} {base : ℕ} (b : Bools s k image base)
     → Accepts s k (8 * b .bytes) (8 * base) (flat image)
 bools-run {s} {k} {image} {base} b = accepts (b .form) (8 * b .bytes) k (8 * base) (flat image) (b .taken)

@@ -26,8 +26,8 @@ use Rattle.values.specs.writing.Writing.{boolsIn, elements, noBits, rest
 use Rattle.values.proofs.stream.CountLeaves.{size-range}
 use Rattle.values.proofs.stream.LeftLaws.{There, by-kind}
 use Rattle.values.proofs.writing.FitLaws.{flag-takes}
-use Rattle.values.proofs.writing.RunInLaws.{array-is, bits-bools, bits-number, one-is-leaf}
-use Rattle.values.proofs.writing.RunInLaws.{run-bools, run-numbers, run-wholes}
+use Rattle.values.proofs.writing.RunInLaws.{array-is, bits-bools, bits-number, one-is-leaf, run-bools}
+use Rattle.values.proofs.writing.RunInLaws.{run-numbers, run-wholes}
 use Rattle.values.proofs.writing.StepLaws.{checked-as, onward-from, opened-goes, opened-keeps, opened-refuses}
 
 -- what an answer says of one atomic, of an array of them, of what is inside it, and of one or an array
@@ -50,6 +50,7 @@ TreeChecked s k r a count = (p : ℕ) → Checked s k r (write (atomicsTree a co
 module _ {s : List ℕ} {n k kind : ℕ} (told : WellFormed s n) (is : kind ≡ firstKind (leftAt s k)) (a : Atomic) where
   -- ---- one bit string
 
+  -- one bit string, an opening: what the check answers of the bools inside it answers of the value
   pub bits-array : {r size : ℕ} → bitString a ≡ true → kind ≡ 10 → size ≡ sizeOf a → BoolsChecked s (k + 1) r size
       → TreeChecked s k r a 0
   bits-array {r} {size} b e same c p =
@@ -64,17 +65,20 @@ module _ {s : List ℕ} {n k kind : ℕ} (told : WellFormed s n) (is : kind ≡ 
       ))
       .onward r (rw (← same) (c p))
 
+  -- one bit string, no opening: what the check answers of the one entry it answers of the value
   pub bits-one : {r : ℕ} → bitString a ≡ true → (kind ≡ 10 → ⊥) → OneChecked s k r a → TreeChecked s k r a 0
   bits-one b e c p =
       checked-as (λ z. bits-number a p (leftAt s k) z b (λ h. e (is ∙ h))) (c (8 * sizeOf a) p)
 
   -- ---- inside an array
 
+  -- bit strings, a bool first: what the check answers of the bools it answers of the run
   pub run-of-bools : {r size : ℕ} (count : ℕ) → bitString a ≡ true → kind ≡ 1 → size ≡ sizeOf a
       → BoolsChecked s k r (size * count) → RunChecked s k r a count
   run-of-bools {r} {size} count b e same c p =
       checked-as (λ z. run-bools a count p (leftAt s k) z b (sym is ∙ e)) (rw (← same) (c p))
 
+  -- bit strings, no bool first: what the check answers of the numbers it answers of the run
   pub run-of-wholes : {r : ℕ} (count : ℕ) → bitString a ≡ true → (kind ≡ 1 → ⊥) → NumbersChecked s k r a count
       → RunChecked s k r a count
   run-of-wholes count b e c p =
@@ -82,17 +86,20 @@ module _ {s : List ℕ} {n k kind : ℕ} (told : WellFormed s n) (is : kind ≡ 
 
   -- ---- an array
 
+  -- null for an array of atomics: the check goes on to the next entry
   pub array-keeps : (count : ℕ) → 0 < count → kind ≡ 0 → TreeChecked s k (k + 1) a count
   array-keeps count l e p =
       checked-as (λ z. array-is a count p (leftAt s k) z l)
       (opened-keeps (told .form) 10 (runIn a count p) (sym is ∙ e))
 
+  -- the opening of an array of atomics: what the check answers of the run it answers of the array
   pub array-goes : {r : ℕ} (count : ℕ) → 0 < count → kind ≡ 10 → RunChecked s (k + 1) r a count
       → TreeChecked s k r a count
   array-goes count l e c p =
       checked-as (λ z. array-is a count p (leftAt s k) z l)
       (opened-goes (told .form) 10 (runIn a count p) (omega arith) (omega arith) (sym is ∙ e) (c p))
 
+  -- neither null nor an opening for an array of atomics: the check answers 18 here
   pub array-refuses : {r : ℕ} (count : ℕ) → 0 < count → k ≤ n → (kind ≡ 0 → ⊥) → (kind ≡ 10 → ⊥)
       → r ≡ 2 ^ 32 * 18 + k → TreeChecked s k r a count
   array-refuses count l b e f g p =
@@ -106,11 +113,13 @@ opening {s} k told is e =
     let t : There s k = by-kind s k (told .form) (λ h. let z : ⊥ = omega (arith, h, is, e) in z) in
     omega (arith, t .inside, told .count)
 
+-- no bit strings: what the check answers of the numbers it answers of the run
 pub run-of-numbers : {s : List ℕ} {k r : ℕ} (a : Atomic) (count : ℕ) → bitString a ≡ false
     → NumbersChecked s k r a count → RunChecked s k r a count
 run-of-numbers {s} {k} a count b c p =
     checked-as (λ z. run-numbers a count p (leftAt s k) z b) (c (8 * sizeOf a) p)
 
+-- one atomic, no bit string: what the check answers of the one entry it answers of the value
 pub one-of : {s : List ℕ} {k r : ℕ} (a : Atomic) → bitString a ≡ false → OneChecked s k r a → TreeChecked s k r a 0
 one-of {s} {k} a b c p = checked-as (λ z. one-is-leaf a p (leftAt s k) z b) (c (8 * sizeOf a) p)
 
@@ -136,6 +145,7 @@ module _ {s : List ℕ} {k r : ℕ} (m : Member) where
   pub member-bit : {b : ℕ} → m .bit ≡ At b → OneChecked s k r atomic.Bool → MemberChecked s k r m
   member-bit e c trees p = rw e (checked-as (λ z. flag-one p (leftAt s k) z) (c 1 p))
 
+  -- a member that is no BOOL of a host: what the check answers of its atomics it answers of the member
   pub member-atomic : {a : Atomic} {count : ℕ} → m .bit ≡ None → m .ty ≡ ty.Atomic a → count ≡ m .count
       → TreeChecked s k r a count → MemberChecked s k r m
   member-atomic e t same c trees p = rw (e, t, ← same) (c p)

@@ -23,18 +23,20 @@ use Rattle.values.specs.declared.writing.limits.Limits.{Limits}
 use Rattle.values.proofs.stream.LeftLaws.{There, few-entries, kind-there, there}
 use Rattle.values.proofs.writing.FitLaws.{above-misfits, atomic-judged}
 use Rattle.values.proofs.writing.StepLaws.{Onward, onward-start, onward-on, onward-then, refused-then}
-use Rattle.values.proofs.writing.StepLaws.{one-judged, one-refused}
-use Rattle.values.proofs.writing.StepLaws.{elements-missing, elements-closes, elements-refuse, elements-go}
+use Rattle.values.proofs.writing.StepLaws.{one-judged, one-refused, elements-missing, elements-closes}
+use Rattle.values.proofs.writing.StepLaws.{elements-refuse, elements-go}
 
 -- ---- entries of a stream of n
 
 module _ {s : List ℕ} {n : ℕ} (told : WellFormed s n) where
+  -- a stream has fewer than 2^28 entries
   pub few : n < 2 ^ 28
   few = omega (arith, few-entries s (told .form), told .count)
 
   entry-of : {q : ℕ} → q < n → There s q
   entry-of {q} l = there s q (told .form) (omega (arith, told .count))
 
+  -- the stream's form is good, and an entry whose number is below n is one of its entries
   pub asked : {q : ℕ} → q < n → (streamOk s ≡ true) × (q < countIn s)
   asked {q} l = (told .form, omega (arith, told .count))
 
@@ -47,12 +49,15 @@ AtEnd s n k r =
     → Checked s k r (elements m one w p (leftAt s k))
 
 module _ {s : List ℕ} {n k : ℕ} (told : WellFormed s n) where
+  -- the way out with 18: no entry is left
   pub end-missing : {r : ℕ} → k ≤ n → n ≤ k → r ≡ 2 ^ 32 * 18 + k → AtEnd s n k r
   end-missing a b e m one w p h = elements-missing (told .form) one w m p (omega (arith, told .count)) e
 
+  -- the way out at the close: the next entry is answered
   pub end-closes : {kind : ℕ} → kind ≡ firstKind (leftAt s k) → kind ≡ 11 → AtEnd s n k (k + 1)
   end-closes is e m one w p h = elements-closes (told .form) one w m p (sym is ∙ e)
 
+  -- the way out with 20: an entry that is no close past the last place
   pub end-full : {kind r : ℕ} → k < n → kind ≡ firstKind (leftAt s k) → (kind ≡ 11 → ⊥) → r ≡ 2 ^ 32 * 20 + k
       → AtEnd s n k r
   end-full l is a e m one w p h =
@@ -72,6 +77,7 @@ pub record Walked (s : List ℕ) (takes : Token → Effect) (count k q : ℕ) : 
 abbrev pub Answers : List ℕ → (Token → Effect) → ℕ → ℕ → ℕ → Type 0
 Answers s takes count k r = (w p : ℕ) → Checked s k r (elements count (writeOne takes w) w p (leftAt s k))
 
+-- at the first entry none is taken yet
 pub walked-start : {s : List ℕ} {n k : ℕ} (takes : Token → Effect) (count : ℕ) → WellFormed s n → k ≤ n
     → Walked s takes count k k
 walked-start {s} {n} {k} takes count told l =
@@ -85,7 +91,8 @@ walked-start {s} {n} {k} takes count told l =
     }
 
 -- after the last
-pub walked-done : {s : List ℕ} {takes : Token → Effect} {n count k last q r : ℕ} → WellFormed s n → Walked s takes count k q
+pub walked-done : {s : List ℕ} {takes : Token → Effect} {n count k last q r : ℕ} → WellFormed s n
+    → Walked s takes count k q
     → last ≡ min n (k + count) → last ≤ q → AtEnd s n q r → Answers s takes count k r
 walked-done {s} {takes} {n} {count} {k} {last} {q} {r} told walked e l end w p =
     walked .left w p .onward r
@@ -104,12 +111,14 @@ module _ {s : List ℕ} {takes : Token → Effect} {n count k last q kind : ℕ}
   next-there : There s q
   next-there = entry-of (e .told) (omega (arith, e .ends, e .before))
 
+  -- the number of the next entry is below 2^28
   pub next-low : q < 2 ^ 28
   next-low = omega (arith, few (e .told), e .ends, e .before)
 
   next-kind : kindOf (next-there .token) ≡ kind
   next-kind = sym (kind-there next-there) ∙ sym (e .shows)
 
+  -- a close before the last place ends the array: the next entry is answered
   pub next-closes : kind ≡ 11 → Answers s takes count k (q + 1)
   next-closes h w p =
       e .walked .left w p .onward (q + 1)
@@ -156,10 +165,12 @@ flag-refused : (t : Token) → (kindOf t ≡ 1 → ⊥) → Judged (taken flag t
 flag-refused t e = refused (omega arith) (unfold ofKind in rw (ne-eqb (kindOf t) 1 e) refl)
 
 module _ {s : List ℕ} {n count k last q kind : ℕ} (e : Next s (taken flag) n count k last q kind) where
+  -- a bool is taken, and the rest is left from the next entry on
   pub bool-on : kind ≡ 1 → Walked s (taken flag) count k (q + 1)
   bool-on h =
       next-on e (λ g. let z : ⊥ = omega (arith, g, h) in z) (flag-taken (next-there e .token) (next-kind e ∙ h))
 
+  -- the way out with 18: neither a bool nor the close
   pub bool-refused : {r : ℕ} → (kind ≡ 1 → ⊥) → (kind ≡ 11 → ⊥) → r ≡ 2 ^ 32 * 18 + q
       → Answers s (taken flag) count k r
   bool-refused a b is =
@@ -186,6 +197,7 @@ module _ {s : List ℕ} {a : Atomic} {f : Limits} {n count k last q kind x numbe
       rw (by-limits ∙ ap (λ (m : ℕ). misfit (limitsOf a) m x) (sym (next-kind e)))
       (atomic-judged a (next-there e .token) x low (λ h. next-there e .payload h ∙ sym (j .payload)))
 
+  -- an entry that the limits let in is taken, and the rest is left from the next entry on
   pub number-on : number ≡ 0 → Walked s (orNull (atomicTakes a)) count k (q + 1)
   number-on z =
       next-on e
@@ -193,6 +205,7 @@ module _ {s : List ℕ} {a : Atomic} {f : Limits} {n count k last q kind x numbe
       let w : ⊥ = omega (arith, h, z) in w)
       (rw (← z) judged)
 
+  -- the way out with the number that the limits say of an entry that is no close
   pub number-refused : {r : ℕ} → (number ≡ 0 → ⊥) → (kind ≡ 11 → ⊥) → r ≡ 2 ^ 32 * number + q
       → Answers s (orNull (atomicTakes a)) count k r
   number-refused o b is = next-refused e number b judged o is

@@ -15,6 +15,7 @@ use borrow.Author.Tests.{eq-eqb, ne-eqb, le-leb, lt-leb}
 use Rattle.words.specs.Bits.{Bits, bitOf, flat, stamp}
 use Rattle.words.specs.Words.{bytesOf, part}
 use Rattle.words.proofs.Lists.{sets-append}
+use Rattle.words.proofs.StampLaws.{bit-first, flat-sets, flat-word, stamp-ext}
 use Rattle.words.proofs.WordLaws.{bytes-low, length-bytes}
 use Rattle.types.specs.atomics.Atomic.{sizeOf}
 use Rattle.types.specs.declared.atomics.atomic.Atomic.{Atomic}
@@ -32,24 +33,27 @@ use Rattle.values.proofs.stream.LeftLaws.{There, TextThere, kind-there,
 use Rattle.values.proofs.writing.ApplyLaws.{accepted-as, applied-keeps, applied-one, not-accepted}
 use Rattle.values.proofs.writing.FitLaws.{above-refused, atomic-sets, not-null, null-keeps}
 use Rattle.values.proofs.writing.OutcomeLaws.{one-is}
-use Rattle.values.proofs.writing.StampLaws.{bit-first, flat-sets, flat-word, stamp-ext}
 
 -- ---- the low bytes of a number
 
+-- a number cut to w bytes is stored in w bytes as the number itself
 pub low-stored : (image : List ℕ) (at size x w : ℕ) {y : ℕ} {new : List ℕ} → size ≡ w → y ≡ x % 256 ^ w
     → new ≡ sets image at (bytesOf w y) → new ≡ sets image at (bytesOf size x)
 low-stored image at size x w e d b = b ∙ rw (d, bytes-low w x, e) refl
 
+-- a number stored in w bytes is stored in its size, where that is w
 pub all-stored : (image : List ℕ) (at size x w : ℕ) {new : List ℕ} → size ≡ w
     → new ≡ sets image at (bytesOf w x) → new ≡ sets image at (bytesOf size x)
 all-stored image at size x w e b = b ∙ rw e refl
 
+-- the width of an atomic that is not 4, 2 or 1 is 8
 pub eight-left : (size : ℕ) → Width size → (size ≡ 4 → ⊥) → (size ≡ 2 → ⊥) → (size ≡ 1 → ⊥) → size ≡ 8
 eight-left size (inl e) a b c = absurd (c e)
 eight-left size (inr (inl e)) a b c = absurd (b e)
 eight-left size (inr (inr (inl e))) a b c = absurd (a e)
 eight-left size (inr (inr (inr e))) a b c = e
 
+-- the size of every atomic is 1, 2, 4 or 8
 pub width-of : (a : Atomic) → Width (sizeOf a)
 unfolding sizeOf
 width-of atomic.Bool = inl refl
@@ -70,16 +74,19 @@ width-of atomic.LWord = inr (inr (inr refl))
 
 -- ---- zeros: storing all is storing what is left in what stands now
 
+-- the first i of n zeros are stored, and the others are left
 pub record Clearing (first : List ℕ) (at n : ℕ) (out : List ℕ) (i : ℕ) : Type 0 where
   pub inside : i ≤ n
   pub long : length out ≡ length first
   pub left : sets first at (replicate n 0) ≡ sets out (at + i) (replicate (n - i) 0)
 
+-- before the first byte all zeros are left to be stored
 pub clear-start : (out : List ℕ) (at n : ℕ) → Clearing out at n out 0
 clear-start out at n =
     let e : n - 0 ≡ n = omega arith in
     record { inside = omega arith; long = refl; left = rw (add-zero, e) refl }
 
+-- one byte more is zero
 pub clear-on : {first out : List ℕ} {at n i : ℕ} → Clearing first at n out i → i < n
     → Clearing first at n (set out (at + i) 0) (i + 1)
 clear-on {first} {out} {at} {n} {i} w h =
@@ -92,6 +99,7 @@ clear-on {first} {out} {at} {n} {i} w h =
           ∙ ap (λ (p : ℕ). sets (set out (at + i) 0) p (replicate (n - (i + 1)) 0)) (sym e);
     }
 
+-- after the last byte all zeros are stored
 pub clear-done : {first out : List ℕ} {at n i : ℕ} → Clearing first at n out i → n ≤ i
     → out ≡ sets first at (replicate n 0)
 clear-done {first} {out} {at} {n} {i} w h =
@@ -165,6 +173,7 @@ truth-bit x j l m =
     let f : x ≡ x % 2 = omega arith in
     ap (λ (v : ℕ). eqb v 1) f ∙ sym (bit-first x) ∙ ap (bitOf x) e
 
+-- the truth of an accepted entry that is no null, put in one bit, is what writing the BOOL sets
 pub flag-set : {s : List ℕ} {k : ℕ} (t : There s k) (p x : ℕ) {image new : List ℕ}
     → (firstKind (leftAt s k) ≡ 0 → ⊥)
     → accepted (writeOne (orNull (taken flag)) 1 p (leftAt s k) (flat image)) ≡ true → x ≡ payloadAt s k
@@ -203,6 +212,7 @@ pub record TextFits (s : List ℕ) (k capacity : ℕ) (t : Token) : Type 0 where
   pub there : TextThere s k t
   pub short : payloadAt s k / 2 ^ 32 ≤ capacity
 
+-- an accepted entry that is no null is a text that lies in the stream and is not too long
 pub text-fits : {s : List ℕ} {k : ℕ} (t : There s k) (capacity p : ℕ) (z : Bits)
     → (firstKind (leftAt s k) ≡ 0 → ⊥)
     → accepted (writeOne (orNull (asText capacity)) (32 + 8 * capacity) p (leftAt s k) z) ≡ true
@@ -272,13 +282,13 @@ text-bits image base capacity text {one} {two} {new} l room a b c =
     )
 
 -- the three stores of the code, where m and n are the length, and c the capacity
-pub text-set : {s : List ℕ} {k : ℕ} (t : There s k) (capacity base start n m c : ℕ) {image one two new : List ℕ}
+pub text-set : {s : List ℕ} {k : ℕ} (t : There s k) (capacity base : ℕ) {start n m c : ℕ} {image one two new : List ℕ}
     → TextFits s k capacity (t .token) → start ≡ baseIn s + payloadAt s k % 2 ^ 32 → n ≡ payloadAt s k / 2 ^ 32
     → m ≡ payloadAt s k / 2 ^ 32 → c ≡ capacity → base + 4 + capacity ≤ length image
     → one ≡ sets image base (bytesOf 4 m) → two ≡ sets one (base + 4) (take (start + n - start) (drop start s))
     → new ≡ sets two (base + 4 + n) (replicate (c - n) 0)
     → Applied s k (k + 1) image new (writeOne (orNull (asText capacity)) (32 + 8 * capacity) (8 * base) (leftAt s k))
-text-set {s} {k} t capacity base start n m c {image} {one} {two} {new} w d e f g room x y z =
+text-set {s} {k} t capacity base {start} {n} {m} {c} {image} {one} {two} {new} w d e f g room x y z =
     let text : List ℕ = bodyOf (t .token) in
     let long : payloadAt s k / 2 ^ 32 ≡ length text = sym (w .there .long) in
     let r = text-bits image base capacity text (omega (arith, w .short)) room

@@ -43,6 +43,7 @@ bit-start (At k) base offset bits long h = omega arith
 
 module _ {members : List ℕ} {row base : ℕ} {image : List ℕ} {m : Member} {from n : ℕ}
     (w : LeafHere members row base image m from n) where
+  -- the member begins in the image
   pub leaf-start : base + from ≤ length image
   leaf-start =
       let h = rw (← w .is) at (w .here .inside) in
@@ -50,11 +51,13 @@ module _ {members : List ℕ} {row base : ℕ} {image : List ℕ} {m : Member} {
 
   -- a BOOL is one bit of a byte
   module _ {k : ℕ} (e : m .bit ≡ At k) where
+    -- its byte lies in the image, and its bit in that byte
     pub flag-inside : (base + from < length image) × (k < 8)
     flag-inside =
         let h : 8 * base + (8 * m .offset + k + 1) ≤ 8 * length image = rw (← w .is, e) at (w .here .inside) in
         (omega (arith, w .start), row-bit members row k (ap (λ (x : Member). x .bit) (sym (w .is)) ∙ e))
 
+    -- writing the member is writing one bool or null at that bit
     pub flag-is : (trees : ℕ → Tree) (ts : List Token) (z : Bits)
         → write (memberTree trees (memberAt members row)) (8 * base + firstBit (memberAt members row)) ts z
         ≡ writeOne (orNull (taken flag)) 1 (8 * (base + from) + k) ts z
@@ -65,12 +68,14 @@ module _ {members : List ℕ} {row base : ℕ} {image : List ℕ} {m : Member} {
 
   -- atomics from a byte on
   module _ {a : Atomic} (none : m .bit ≡ None) (e : m .ty ≡ ty.Atomic a) where
+    -- their bytes lie in the image
     pub atomics-inside : base + from + sizeOf a * times n ≤ length image
     atomics-inside =
         let h : 8 * base + (8 * m .offset + 8 * (sizeOf a * times (m .count))) ≤ 8 * length image =
         rw (← w .is, none, e) at (w .here .inside) in
         rw (w .count) (omega (arith, w .start))
 
+    -- writing the member is writing these atomics from that byte on
     pub atomics-is : (trees : ℕ → Tree) (ts : List Token) (z : Bits)
         → write (memberTree trees (memberAt members row)) (8 * base + firstBit (memberAt members row)) ts z
         ≡ write (atomicsTree a n) (8 * (base + from)) ts z

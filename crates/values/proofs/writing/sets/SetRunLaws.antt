@@ -12,6 +12,7 @@ use lib.Seq.{sets, length-sets}
 use Rattle.words.specs.Bits.{Bits, bitOf, flat, stamp}
 use Rattle.words.specs.Words.{bytesOf}
 use Rattle.words.proofs.BitLaws.{bit-none}
+use Rattle.words.proofs.StampLaws.{flat-word, stamp-ext}
 use Rattle.types.specs.atomics.Atomic.{bitString, sizeOf}
 use Rattle.types.specs.layout.Placing.{times}
 use Rattle.types.specs.declared.atomics.atomic.Atomic.{Atomic}
@@ -24,26 +25,24 @@ use Rattle.values.specs.reading.Trees.{atomicsTree}
 use Rattle.values.specs.stream.Form.{countIn, streamOk}
 use Rattle.values.specs.stream.Stream.{Token}
 use Rattle.values.specs.writing.Effects.{orNull}
-use Rattle.values.specs.writing.Writing.{Outcome, andThen, writeOne, elements, boolsIn}
-use Rattle.values.specs.writing.Writing.{noBits, write}
+use Rattle.values.specs.writing.Writing.{Outcome, andThen, writeOne, elements, boolsIn, noBits, write}
 use Rattle.values.proofs.stream.LeftLaws.{There, kind-none, none-left, payloadAt, there}
-use Rattle.values.proofs.writing.ApplyLaws.{Setting, accepted-as, accepted-first}
-use Rattle.values.proofs.writing.ApplyLaws.{elements-closed, elements-end, elements-step, elements-there}
-use Rattle.values.proofs.writing.ApplyLaws.{not-accepted}
-use Rattle.values.proofs.writing.ApplyLaws.{setting-from, setting-on}
-use Rattle.values.proofs.writing.ApplyLaws.{setting-start, setting-then}
+use Rattle.values.proofs.writing.ApplyLaws.{Setting, accepted-as, accepted-first, elements-closed, elements-end}
+use Rattle.values.proofs.writing.ApplyLaws.{elements-step, elements-there, not-accepted, setting-from}
+use Rattle.values.proofs.writing.ApplyLaws.{setting-on, setting-start, setting-then}
 use Rattle.values.proofs.writing.OutcomeLaws.{elements-none, one-none}
 use Rattle.values.proofs.writing.RunInLaws.{bits-bools, bits-number, run-wholes}
-use Rattle.values.proofs.writing.StampLaws.{flat-word, stamp-ext}
 use Rattle.values.proofs.writing.sets.SetLaws.{atomic-set, one-kept}
 
 -- ---- one entry
 
+-- what one entry or null does to one atomic at a bit
 abbrev pub oneOf : Atomic → ℕ → List Token → Bits → Outcome
 oneOf a = writeOne (orNull (atomicTakes a)) (8 * sizeOf a)
 
 -- ---- the entries of an array
 
+-- what the entries of an array do to n atomics from a byte on, one entry or null for each
 abbrev pub numbersIn : Atomic → ℕ → ℕ → List Token → Bits → Outcome
 numbersIn a n base ts z = elements n (oneOf a) (8 * sizeOf a) (8 * base) ts z
 
@@ -63,9 +62,10 @@ pub record Numbers (n : ℕ) (s : List ℕ) (k : ℕ) (image : List ℕ) (base s
       → Setting s k image (numbersIn a n base (leftAt s k)) p now
       (numbersIn a (n - (p - k)) (base + sizeOf a * (p - k)) (leftAt s p))
 
-pub numbers-start : (n : ℕ) (s : List ℕ) (k : ℕ) (image : List ℕ) (base size : ℕ)
+-- at the first entry all are left to be set
+pub numbers-start : {n : ℕ} {s : List ℕ} {k : ℕ} {image : List ℕ} {base size : ℕ}
     → Numbers n s k image base size image k
-numbers-start n s k image base size =
+numbers-start {n} {s} {k} {image} {base} {size} =
     record {
       further = omega arith;
       bounded = omega arith;
@@ -82,14 +82,17 @@ element-room size i n base long l h =
 module _ {n : ℕ} {s : List ℕ} {k : ℕ} {image : List ℕ} {base size : ℕ} {now : List ℕ} {p : ℕ}
     (v : Numbers n s k image base size now p) where
   module _ {a : Atomic} (w : Asked a n s k image base size) where
+    -- the next entry is there
     pub numbers-there : There s p
     numbers-there =
         elements-there (w .form) (n - (p - k)) (oneOf a) (8 * sizeOf a) (8 * (base + sizeOf a * (p - k))) (flat now)
         (v .each a w .taken)
 
+    -- the image is as long as it was
     pub numbers-long : length now ≡ length image
     numbers-long = v .each a w .long
 
+    -- where a place is left, the next atomic lies in the image
     pub numbers-room : p - k < n → base + size * (p - k) + size ≤ length now
     numbers-room l =
         rw (w .long, numbers-long) (element-room (sizeOf a) (p - k) n base (length image) l (w .room))
@@ -200,6 +203,7 @@ bools-asked bytes form room taken = record { form = form; bytes = bytes; room = 
 
 -- ---- the inside of an array
 
+-- inside an accepted array of bit strings the next entry is there
 pub run-there : {s : List ℕ} {k : ℕ} → streamOk s ≡ true → (a : Atomic) (n p : ℕ) (z : Bits) → bitString a ≡ true
     → accepted (runIn a n p (leftAt s k) z) ≡ true → There s k
 run-there {s} {k} form a n p z bits h = go (decLt k (countIn s))
@@ -215,8 +219,10 @@ run-there {s} {k} form a n p z bits h = go (decLt k (countIn s))
 -- ---- one, or many
 
 module _ (a : Atomic) (n base long : ℕ) (h : base + sizeOf a * times n ≤ long) where
+  -- count 0: there is room for one atomic
   pub room-one : n ≡ 0 → base + sizeOf a ≤ long
   room-one e = rw (← times-one n e, mul-one) at h
 
+  -- any other count: there is room for so many atomics
   pub room-some : (n ≡ 0 → ⊥) → base + sizeOf a * n ≤ long
   room-some e = rw (← times-same n e) at h

@@ -8,6 +8,7 @@ use mathlib.Core.Path.{_≡_}
 use Rattle.words.specs.Bits.{Bits, flat, from, inside, stamp}
 use Rattle.types.specs.layout.Laid.{firstBit, hasBit}
 use Rattle.types.specs.tables.Lent.{memberAt}
+use Rattle.types.specs.tables.Limits.{mostMembers}
 use Rattle.types.specs.declared.tables.member.Member.{Member}
 use Rattle.values.specs.inside.reading.Walkable.{RowOf}
 use Rattle.values.specs.inside.writing.Rows.{MemberHere, memberTree}
@@ -64,7 +65,7 @@ flagged b p j (m ∷ ms) x =
 
 -- n rows from a row on, whose structure begins at a byte of the image
 pub record RowsHere (members : List ℕ) (first n base : ℕ) (image : List ℕ) : Type 0 where
-  pub rows : first + n ≤ 2000
+  pub rows : first + n ≤ mostMembers
   pub sizes : ℕ → ℕ
   pub each : (k : ℕ) → k < n → MemberHere sizes (memberAt members (first + k)) base image
 

@@ -6,6 +6,7 @@ use mathlib.Core.List.{List, [], _∷_}
 use mathlib.Core.Logic.{_⊎_}
 use Rattle.types.specs.layout.Laid.{firstBit}
 use Rattle.types.specs.tables.Lent.{typeAt}
+use Rattle.types.specs.tables.Limits.{mostTypes}
 use Rattle.types.specs.tables.Sizes.{sizesIn}
 use Rattle.types.specs.declared.tables.member.Member.{Member}
 use Rattle.values.specs.inside.normal_image.InPlace.{isPlain, pastTree}
@@ -66,11 +67,11 @@ module _ (trees : ℕ → Tree) (size : ℕ) where
 -- they can be walked, and no two members of a structure share a bit
 pub record Disjoint (types members : List ℕ) : Type 0 where
   pub walkable : Walkable types members
-  pub placed : (i : ℕ) → i < 200 → Placed (treeIn types members i)
+  pub placed : (i : ℕ) → i < mostTypes → Placed (treeIn types members i)
 
 -- and the plain members of a structure stand in the order of their rows, so that one sweep over them comes to all
 pub record Sweepable (types members : List ℕ) : Type 0 where
   pub disjoint : Disjoint types members
-  pub stairs : (i : ℕ) → i < 200
+  pub stairs : (i : ℕ) → i < mostTypes
       → Stairs (treeIn types members) (8 * sizesIn types i)
       (membersAt members (typeAt types i .first) (typeAt types i .count)) 0

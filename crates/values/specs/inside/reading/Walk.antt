@@ -9,6 +9,7 @@ use Rattle.words.specs.Words.{part}
 use Rattle.types.specs.atomics.Atomic.{bitString, sizeOf}
 use Rattle.types.specs.layout.Placing.{times}
 use Rattle.types.specs.tables.Lent.{memberAt, typeAt}
+use Rattle.types.specs.tables.Limits.{mostTypes}
 use Rattle.types.specs.tables.Sizes.{sizeIn, sizesIn}
 use Rattle.types.specs.declared.atomics.atomic.Atomic.{Atomic}
 use Rattle.types.specs.declared.tables.member.Bit.{Bit}
@@ -138,7 +139,7 @@ structWithin types members (suc f) i image = structBy types members (structWithi
 
 -- structure i: there are at most 200
 unfoldable pub structOut : List ℕ → List ℕ → ℕ → List ℕ → List Token
-structOut types members i image = structWithin types members 200 i image
+structOut types members i image = structWithin types members mostTypes i image
 
 -- a value
 unfoldable pub valueOut : List ℕ → List ℕ → Ty → ℕ → List ℕ → List Token

@@ -1,15 +1,16 @@
 -- What the walk counts on in the tables (document 01, "Layout"): a structure's rows are in the table, each of its
 -- members names an earlier type and lies inside it, and a string is LEN and DATA. Tables as our own calls left them are
 -- so.
-use Prim.Native.Nat.{ℕ, _+_, _*_, _/_, _^_, _<_, _≤_}
+use Prim.Native.Nat.{ℕ, _+_, _*_, _/_, _<_, _≤_}
 use mathlib.Core.Bool.{true}
 use mathlib.Core.List.{List}
 use mathlib.Core.Path.{_≡_}
 use lib.ListN.{length}
 use Rattle.types.specs.inside.tables.Lent.{TyFits}
 use Rattle.types.specs.layout.Laid.{Earlier, pastBit}
-use Rattle.types.specs.layout.Placing.{times}
+use Rattle.types.specs.layout.Placing.{mostSize, times}
 use Rattle.types.specs.tables.Lent.{memberAt, typeAt}
+use Rattle.types.specs.tables.Limits.{mostTypes, mostMembers}
 use Rattle.types.specs.tables.Sizes.{sizeIn, sizesIn}
 use Rattle.types.specs.declared.tables.member.Member.{Member}
 use Rattle.types.specs.declared.tables.member.StructDef.{StructDef}
@@ -29,19 +30,19 @@ pub record IsString (members : List ℕ) (d : StructDef) : Type 0 where
   pub size : d .size ≡ 4 + 4 * ((capacityAt members (d .first) + 3) / 4)
 
 pub record WalkableType (types members : List ℕ) (i : ℕ) : Type 0 where
-  pub rows : typeAt types i .first + typeAt types i .count ≤ 2000
-  pub most : typeAt types i .size ≤ 2 ^ 26 + 224
+  pub rows : typeAt types i .first + typeAt types i .count ≤ mostMembers
+  pub most : typeAt types i .size ≤ mostSize + 224
   pub string : isString (typeAt types i .kind) ≡ true → IsString members (typeAt types i)
   pub each : (k : ℕ) → k < typeAt types i .count
       → Within types i (typeAt types i .size) (memberAt members (typeAt types i .first + k))
 
 pub record Walkable (types members : List ℕ) : Type 0 where
-  pub each : (i : ℕ) → i < 200 → WalkableType types members i
+  pub each : (i : ℕ) → i < mostTypes → WalkableType types members i
 
 -- a row of structure i
 pub record RowOf (types members : List ℕ) (i row : ℕ) : Type 0 where
-  pub low : i < 200
-  pub inside : row < 2000
+  pub low : i < mostTypes
+  pub inside : row < mostMembers
   pub within : Within types i (sizesIn types i) (memberAt members row)
 
 -- that holds a visible structure, or an array of structures
@@ -51,12 +52,12 @@ pub record NestedRow (types members : List ℕ) (i row : ℕ) : Type 0 where
 
 -- an image of structure i
 pub record ImageOf (types : List ℕ) (i : ℕ) (image : List ℕ) : Type 0 where
-  pub low : i < 200
+  pub low : i < mostTypes
   pub long : length image ≡ sizesIn types i
 
 -- an image of n structures i
 pub record ImagesOf (types : List ℕ) (i n : ℕ) (image : List ℕ) : Type 0 where
-  pub low : i < 200
+  pub low : i < mostTypes
   pub long : length image ≡ sizesIn types i * n
 
 -- an image of a value: size times max(count, 1) bytes

@@ -1,10 +1,15 @@
--- The steps of the form's test as the code makes them (document 01, "Value stream"): the greatest payload of each kind,
--- and a place that is a number. That it is what `Form` says is one law over the kinds.
+-- The steps of the form's test as the code makes them (document 01, "Value stream"): by a kind and a payload, with the
+-- greatest payload of each kind, and a place that is a number. That it is what `Form` says is one law over the kinds.
 use Prim.Native.Nat.{ℕ, _+_, _^_, _<_, _≤_}
 use mathlib.Core.Bool.{cond, _||_}
 use mathlib.Core.Path.{_≡_}
 use lib.Dec.{eqb}
-use Rattle.values.specs.stream.Form.{Step, At, Broken}
+use Rattle.values.specs.stream.Entry.{payloadRight}
+use Rattle.values.specs.stream.Form.{Step, At, Broken, entryStep}
+
+-- of a kind and a payload: malformed where the payload is not right
+unfoldable pub stepOf : ℕ → ℕ → ℕ → Step
+stepOf kind x place = cond (payloadRight kind x) (entryStep kind x place) Broken
 
 -- of a kind that is no text: a bool is 0 or 1, REAL bits and a member number have 32 bits, the numbers and LREAL bits
 -- 64, null and the brackets none

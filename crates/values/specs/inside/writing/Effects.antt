@@ -13,8 +13,11 @@ use Rattle.values.specs.writing.Effects.{Effect, bitsWhole, taken, keep,
 unfoldable pub atomicTakes : Atomic → Token → Effect
 atomicTakes a t = cond (bitString a) (bitsWhole (8 * sizeOf a) t) (taken (leafOf a) t)
 
--- what a number says of an effect: 0 that the entry is taken, else the refusal
+-- what a number says of an effect
 pub data Judged (e : Effect) (number : ℕ) : Type 0 where
+  -- 0: a null is taken
   kept : number ≡ 0 → e ≡ keep → Judged e number
+  -- 0: a value is taken
   set : number ≡ 0 → (b : Bits) → e ≡ put b → Judged e number
+  -- else the refusal's number
   refused : 1 ≤ number → e ≡ refuse number → Judged e number

@@ -11,6 +11,7 @@ use Rattle.words.specs.Bits.{Bits}
 use Rattle.types.specs.atomics.Atomic.{bitString, sizeOf}
 use Rattle.types.specs.layout.Laid.{pastBit}
 use Rattle.types.specs.tables.Lent.{memberAt, typeAt}
+use Rattle.types.specs.tables.Limits.{mostTypes, mostMembers}
 use Rattle.types.specs.tables.Sizes.{sizesIn}
 use Rattle.types.specs.declared.atomics.atomic.Atomic.{Atomic}
 use Rattle.types.specs.declared.tables.member.Member.{Member}
@@ -37,22 +38,22 @@ memberTree trees m = bitTree (m .bit) (valueTree trees (m .ty) (m .count))
 -- the row of the visible member of a number, among `count` from a row on; 2000, which is no row, where there is none
 unfoldable pub visibleRow : List ℕ → ℕ → ℕ → ℕ → ℕ
 visibleRow members first count j =
-    cond (ltb j count) (cond (memberAt members (first + j) .hidden) 2000 (first + j)) 2000
+    cond (ltb j count) (cond (memberAt members (first + j) .hidden) mostMembers (first + j)) mostMembers
 
 -- a visible member that is no structure
 pub record LeafRow (members : List ℕ) (row : ℕ) : Type 0 where
-  pub inside : row < 2000
+  pub inside : row < mostMembers
   pub visible : memberAt members row .hidden ≡ false
   pub flat : isNested (memberAt members row) ≡ false
 
 -- its structure's bytes lie in the image from a place on
 pub record Here (types : List ℕ) (i base : ℕ) (image : List ℕ) : Type 0 where
-  pub low : i < 200
+  pub low : i < mostTypes
   pub inside : base + sizesIn types i ≤ length image
 
 -- the bytes of n structures i
 pub record AllHere (types : List ℕ) (i n base : ℕ) (image : List ℕ) : Type 0 where
-  pub low : i < 200
+  pub low : i < mostTypes
   pub inside : base + sizesIn types i * n ≤ length image
 
 -- a member's bits lie in the image, where its structure begins at a byte

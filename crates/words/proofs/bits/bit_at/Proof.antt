@@ -6,12 +6,6 @@ use Rattle.words.proofs.BitLaws.{flat-at}
 use Rattle.words.proofs.bits.bit_at.Statement.{statement}
 use Rattle.words.proofs.bits.bit_at.Tie as tie
 
-shared-slice-read-result : tie.Need-shared-slice-read-result
-shared-slice-read-result c = search needs
-
-shr-result : tie.Need-shr-result
-shr-result c = search needs
-
 returns : tie.Need-returns
 unfolding bitOf
 returns c =
@@ -19,4 +13,4 @@ returns c =
     sym (flat-at (a .s .now) (a .at) (a .bit) (c .before .pre .1))
 
 pub bit-at-spec : {M : Type 1} → statement M
-bit-at-spec = tie.close (tie.spec shared-slice-read-result shr-result returns)
+bit-at-spec = tie.close (tie.spec (λ c. search needs) (λ c. search needs) returns)

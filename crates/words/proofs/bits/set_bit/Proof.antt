@@ -4,9 +4,6 @@ use Rattle.words.proofs.BitLaws.{mask-set, mask-clear}
 use Rattle.words.proofs.bits.set_bit.Statement.{statement}
 use Rattle.words.proofs.bits.set_bit.Tie as tie
 
-shl-mask : tie.Need-shl-mask
-shl-mask c = search needs
-
 returns : tie.Need-returns
 returns c =
     let a = c .before .before .args in
@@ -18,4 +15,4 @@ returns-2 c =
     mask-clear (a .byte .now) (a .bit) (a .value) (c .before .before .pre) (c .if1 .left)
 
 pub set-bit-spec : {M : Type 1} → statement M
-set-bit-spec = tie.close (tie.spec shl-mask returns returns-2)
+set-bit-spec = tie.close (tie.spec (λ c. search needs) returns returns-2)

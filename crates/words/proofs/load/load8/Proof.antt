@@ -5,12 +5,9 @@ use Rattle.words.specs.Words.{wordAt}
 use Rattle.words.proofs.load.load8.Statement.{statement}
 use Rattle.words.proofs.load.load8.Tie as tie
 
-shared-slice-read-result : tie.Need-shared-slice-read-result
-shared-slice-read-result c = search needs
-
 returns : tie.Need-returns
 unfolding wordAt
 returns c = omega arith
 
 pub load8-spec : {M : Type 1} → statement M
-load8-spec = tie.close (tie.spec shared-slice-read-result returns)
+load8-spec = tie.close (tie.spec (λ c. search needs) returns)

@@ -4,24 +4,6 @@ use Rattle.words.proofs.WordLaws.{store-split}
 use Rattle.words.proofs.store.store16.Statement.{statement}
 use Rattle.words.proofs.store.store16.Tie as tie
 
-low8-requires : tie.Need-low8-requires
-low8-requires c κs = search needs
-
-store8-requires : tie.Need-store8-requires
-store8-requires c κs = search needs
-
-add-store8 : tie.Need-add-store8
-add-store8 c = search needs
-
-high8-requires : tie.Need-high8-requires
-high8-requires c κs = search needs
-
-store8-requires-2 : tie.Need-store8-requires-2
-store8-requires-2 c κs = search needs
-
-same-length : tie.Need-same-length
-same-length c = search needs
-
 returns : tie.Need-returns
 returns c =
     let high = c .before .before in
@@ -34,10 +16,10 @@ pub store16-spec : {M : Type 1} → statement M
 store16-spec =
     tie.close
     (tie.spec
-    low8-requires
-    store8-requires
-    add-store8
-    high8-requires
-    store8-requires-2
-    same-length
+    (λ c κs. search needs)
+    (λ c κs. search needs)
+    (λ c. search needs)
+    (λ c κs. search needs)
+    (λ c κs. search needs)
+    (λ c. search needs)
     returns)

@@ -4,24 +4,6 @@ use Rattle.words.proofs.WordLaws.{store-split}
 use Rattle.words.proofs.store.store64.Statement.{statement}
 use Rattle.words.proofs.store.store64.Tie as tie
 
-low32-requires : tie.Need-low32-requires
-low32-requires c κs = search needs
-
-store32-requires : tie.Need-store32-requires
-store32-requires c κs = search needs
-
-add-store32 : tie.Need-add-store32
-add-store32 c = search needs
-
-high32-requires : tie.Need-high32-requires
-high32-requires c κs = search needs
-
-store32-requires-2 : tie.Need-store32-requires-2
-store32-requires-2 c κs = search needs
-
-same-length : tie.Need-same-length
-same-length c = search needs
-
 returns : tie.Need-returns
 returns c =
     let high = c .before .before in
@@ -34,10 +16,10 @@ pub store64-spec : {M : Type 1} → statement M
 store64-spec =
     tie.close
     (tie.spec
-    low32-requires
-    store32-requires
-    add-store32
-    high32-requires
-    store32-requires-2
-    same-length
+    (λ c κs. search needs)
+    (λ c κs. search needs)
+    (λ c. search needs)
+    (λ c κs. search needs)
+    (λ c κs. search needs)
+    (λ c. search needs)
     returns)

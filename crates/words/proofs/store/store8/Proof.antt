@@ -7,15 +7,9 @@ use Rattle.words.proofs.WordLaws.{byte-of}
 use Rattle.words.proofs.store.store8.Statement.{statement}
 use Rattle.words.proofs.store.store8.Tie as tie
 
-slice-write-s : tie.Need-slice-write-s
-slice-write-s c = search needs
-
-same-length : tie.Need-same-length
-same-length c = search needs
-
 returns : tie.Need-returns
 unfolding bytesOf
 returns c = sym (ap (set (c .args .s .now) (c .args .at)) (byte-of (c .args .x) (c .fits .x .fits)))
 
 pub store8-spec : {M : Type 1} → statement M
-store8-spec = tie.close (tie.spec slice-write-s same-length returns)
+store8-spec = tie.close (tie.spec (λ c. search needs) (λ c. search needs) returns)

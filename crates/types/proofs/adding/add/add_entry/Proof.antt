@@ -9,20 +9,11 @@ use Rattle.types.specs.book.Contents.{hasId}
 use Rattle.types.specs.inside.tables.Registry.{viewIn}
 use Rattle.types.specs.declared.layout.placing.Decl.{Decl}
 use Rattle.types.proofs.adding.AddStoreLaws.{took-no, took-so}
-use Rattle.types.proofs.adding.AddTypeLaws.{entry-bad, entry-known, entry-fresh}
-use Rattle.types.proofs.adding.AddTypeLaws.{fresh-free, fresh-outside, fresh-used, fresh-none}
+use Rattle.types.proofs.adding.AddTypeLaws.{entry-bad, entry-known, entry-fresh, fresh-free, fresh-outside}
+use Rattle.types.proofs.adding.AddTypeLaws.{fresh-used, fresh-none}
 use Rattle.types.proofs.book.NameLaws.{name-rule}
 use Rattle.types.proofs.adding.add.add_entry.Statement.{statement}
 use Rattle.types.proofs.adding.add.add_entry.Tie as tie
-
-good-name-requires : tie.Need-good-name-requires
-good-name-requires c κs = search needs
-
-lookup-requires : tie.Need-lookup-requires
-lookup-requires c κs = search needs
-
-enum-told : tie.Need-enum-told
-enum-told c = search needs
 
 -- from the name looked up: the rule that it meets, and where it all began
 abbrev met : tie.After-lookup → tie.Then1
@@ -41,20 +32,8 @@ looked c = c .lookup .ensures
 returns : tie.Need-returns
 returns c =
     let found = c .before .before in
-    took-no _ _ _ _ (entry-known _ _ _ _ _ _ _ _ (met found .before .good-name .ensures)
+    took-no (entry-known _ _ _ _ _ _ _ _ (met found .before .good-name .ensures)
     (met found .if1 .taken) _ (looked found) _ (c .enum-told .given .1))
-
-enum-told-2 : tie.Need-enum-told-2
-enum-told-2 c = search needs
-
-has-id-requires : tie.Need-has-id-requires
-has-id-requires c κs = search needs
-
-pick-id-requires : tie.Need-pick-id-requires
-pick-id-requires c κs = search needs
-
-enum-known-p : tie.Need-enum-known-p
-enum-known-p c = search needs
 
 -- the name looked up before an id is picked, which is new
 abbrev new : tie.After-pick-id → tie.After-enum-told2
@@ -98,51 +77,42 @@ returns-2 c =
     took-so (is-new (new picked) _ ∙ fresh-free _ _ _ _ _ _ _ _ (picked-id picked) _ (free .p .given .1))
     (c .add-named .ensures)
 
-enum-told-3 : tie.Need-enum-told-3
-enum-told-3 c = search needs
-
 returns-3 : tie.Need-returns-3
 returns-3 c =
     let picked = c .before .before in
-    took-no _ _ _ _ (is-new (new picked) _ ∙ fresh-outside _ _ _ _ _ _ _ _ (picked-id picked) (c .enum-told3 .given .1))
-
-enum-told-4 : tie.Need-enum-told-4
-enum-told-4 c = search needs
+    took-no (is-new (new picked) _ ∙ fresh-outside _ _ _ _ _ _ _ _ (picked-id picked) (c .enum-told3 .given .1))
 
 returns-4 : tie.Need-returns-4
 returns-4 c =
     let picked = c .before .before in
-    took-no _ _ _ _ (is-new (new picked) _ ∙ fresh-used _ _ _ _ _ _ _ _ (picked-id picked) (c .enum-told4 .given .1))
-
-enum-told-5 : tie.Need-enum-told-5
-enum-told-5 c = search needs
+    took-no (is-new (new picked) _ ∙ fresh-used _ _ _ _ _ _ _ _ (picked-id picked) (c .enum-told4 .given .1))
 
 returns-5 : tie.Need-returns-5
 returns-5 c =
     let picked = c .before .before in
-    took-no _ _ _ _ (is-new (new picked) _ ∙ fresh-none _ _ _ _ _ _ _ _ (picked-id picked) (c .enum-told5 .given .1))
+    took-no (is-new (new picked) _ ∙ fresh-none _ _ _ _ _ _ _ _ (picked-id picked) (c .enum-told5 .given .1))
 
 returns-6 : tie.Need-returns-6
-returns-6 c = took-no _ _ _ _ (entry-bad _ _ _ _ _ _ _ _ (c .before .good-name .ensures) (c .if1 .left))
+returns-6 c = took-no (entry-bad _ _ _ _ _ _ _ _ (c .before .good-name .ensures) (c .if1 .left))
 
 pub add-entry-spec : {M : Type 1} → statement M
 add-entry-spec =
     tie.close
     (tie.spec
-    good-name-requires
-    lookup-requires
-    enum-told
+    (λ c κs. search needs)
+    (λ c κs. search needs)
+    (λ c. search needs)
     returns
-    enum-told-2
-    has-id-requires
-    pick-id-requires
-    enum-known-p
+    (λ c. search needs)
+    (λ c κs. search needs)
+    (λ c κs. search needs)
+    (λ c. search needs)
     add-named-requires
     returns-2
-    enum-told-3
+    (λ c. search needs)
     returns-3
-    enum-told-4
+    (λ c. search needs)
     returns-4
-    enum-told-5
+    (λ c. search needs)
     returns-5
     returns-6)

@@ -5,15 +5,6 @@ use Rattle.types.proofs.adding.AddTypeLaws.{members-laid, members-name,
 use Rattle.types.proofs.adding.add.add_members.Statement.{statement}
 use Rattle.types.proofs.adding.add.add_members.Tie as tie
 
-check-members-requires : tie.Need-check-members-requires
-check-members-requires c κs = search needs
-
-enum-told : tie.Need-enum-told
-enum-told c = search needs
-
-add-laid-requires : tie.Need-add-laid-requires
-add-laid-requires c κs = search needs
-
 returns : tie.Need-returns
 returns c =
     let told = c .before .before .before .before in
@@ -21,41 +12,32 @@ returns c =
     (members-laid _ _ _ _ _ _ _ _ _ _ (told .before .before .check-members .ensures) (told .enum-told .given .1))
     (c .add-laid .ensures)
 
-enum-told-2 : tie.Need-enum-told-2
-enum-told-2 c = search needs
-
 returns-2 : tie.Need-returns-2
 returns-2 c =
-    took-no _ _ _ _ (members-name _ _ _ _ _ _ _ _ _ _ (c .before .before .check-members .ensures)
+    took-no (members-name _ _ _ _ _ _ _ _ _ _ (c .before .before .check-members .ensures)
     (c .enum-told2 .given .1))
-
-enum-told-3 : tie.Need-enum-told-3
-enum-told-3 c = search needs
 
 returns-3 : tie.Need-returns-3
 returns-3 c =
-    took-no _ _ _ _ (members-twice _ _ _ _ _ _ _ _ _ _ (c .before .before .check-members .ensures)
+    took-no (members-twice _ _ _ _ _ _ _ _ _ _ (c .before .before .check-members .ensures)
     (c .enum-told3 .given .1))
-
-enum-told-4 : tie.Need-enum-told-4
-enum-told-4 c = search needs
 
 returns-4 : tie.Need-returns-4
 returns-4 c =
-    took-no _ _ _ _ (members-local _ _ _ _ _ _ _ _ _ _ (c .before .before .check-members .ensures)
+    took-no (members-local _ _ _ _ _ _ _ _ _ _ (c .before .before .check-members .ensures)
     (c .enum-told4 .given .1))
 
 pub add-members-spec : {M : Type 1} → statement M
 add-members-spec =
     tie.close
     (tie.spec
-    check-members-requires
-    enum-told
-    add-laid-requires
+    (λ c κs. search needs)
+    (λ c. search needs)
+    (λ c κs. search needs)
     returns
-    enum-told-2
+    (λ c. search needs)
     returns-2
-    enum-told-3
+    (λ c. search needs)
     returns-3
-    enum-told-4
+    (λ c. search needs)
     returns-4)

@@ -6,18 +6,6 @@ use Rattle.types.proofs.adding.AddTypeLaws.{string-most, named-string, 
 use Rattle.types.proofs.adding.add.add_named.Statement.{statement}
 use Rattle.types.proofs.adding.add.add_named.Tie as tie
 
-is-string-requires : tie.Need-is-string-requires
-is-string-requires c κs = search needs
-
-count-of-requires : tie.Need-count-of-requires
-count-of-requires c κs = search needs
-
-is-aoi-requires : tie.Need-is-aoi-requires
-is-aoi-requires c κs = search needs
-
-string-ok-requires : tie.Need-string-ok-requires
-string-ok-requires c κs = search needs
-
 add-string-requires : tie.Need-add-string-requires
 add-string-requires c κs =
     let ok = c .before .before .before .before in
@@ -38,7 +26,7 @@ returns-2 : tie.Need-returns-2
 returns-2 c =
     let ok = c .before in
     let string = ok .before in
-    took-no _ _ _ _ (named-wrong _ _ _ _ _ _ _ _ _ (string .before .before .before .is-string .ensures)
+    took-no (named-wrong _ _ _ _ _ _ _ _ _ (string .before .before .before .is-string .ensures)
     (string .if1 .taken) _ (ok .string-ok .ensures) (c .if2 .left))
 
 add-members-requires : tie.Need-add-members-requires
@@ -62,10 +50,10 @@ pub add-named-spec : {M : Type 1} → statement M
 add-named-spec =
     tie.close
     (tie.spec
-    is-string-requires
-    count-of-requires
-    is-aoi-requires
-    string-ok-requires
+    (λ c κs. search needs)
+    (λ c κs. search needs)
+    (λ c κs. search needs)
+    (λ c κs. search needs)
     add-string-requires
     returns
     returns-2

@@ -18,9 +18,6 @@ returns-3 c =
     let one = two .before .before in
     string-members (one .before .before .args .e) (one .if1 .left) (two .if2 .left) (c .if3 .taken)
 
-is-aoi-requires : tie.Need-is-aoi-requires
-is-aoi-requires c κs = search needs
-
 returns-4 : tie.Need-returns-4
 returns-4 c =
     let two = c .before .before .before in
@@ -29,4 +26,4 @@ returns-4 c =
     (c .is-aoi .ensures)
 
 pub string-ok-spec : {M : Type 1} → statement M
-string-ok-spec = tie.close (tie.spec returns returns-2 returns-3 is-aoi-requires returns-4)
+string-ok-spec = tie.close (tie.spec returns returns-2 returns-3 (λ c κs. search needs) returns-4)

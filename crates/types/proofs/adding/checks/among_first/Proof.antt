@@ -65,26 +65,11 @@ add-entry-at c = omega (arith, entry c)
 entry-at-requires : tie.Need-entry-at-requires Inv-loop μ-loop
 entry-at-requires c κs = entry c
 
-wide-requires : tie.Need-wide-requires Inv-loop μ-loop
-wide-requires c κs = search needs
-
-wide-requires-2 : tie.Need-wide-requires-2 Inv-loop μ-loop
-wide-requires-2 c κs = search needs
-
 add-end : tie.Need-add-end Inv-loop μ-loop
 add-end c = omega (arith, end c)
 
-sub-same-name : tie.Need-sub-same-name Inv-loop μ-loop
-sub-same-name c = search needs
-
-part-same-name-start : tie.Need-part-same-name-start Inv-loop μ-loop
-part-same-name-start c = search needs
-
 part-same-name-end : tie.Need-part-same-name-end Inv-loop μ-loop
 part-same-name-end c = omega (arith, end c)
-
-same-name-requires : tie.Need-same-name-requires Inv-loop μ-loop
-same-name-requires c κs = search needs
 
 returns : tie.Need-returns Inv-loop μ-loop
 returns c =
@@ -130,13 +115,13 @@ among-first-spec =
     mul-entry-at
     add-entry-at
     entry-at-requires
-    wide-requires
-    wide-requires-2
+    (λ c κs. search needs)
+    (λ c κs. search needs)
     add-end
-    sub-same-name
-    part-same-name-start
+    (λ c. search needs)
+    (λ c. search needs)
     part-same-name-end
-    same-name-requires
+    (λ c κs. search needs)
     returns
     loop-less
     loop-again

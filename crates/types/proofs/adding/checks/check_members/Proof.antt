@@ -5,8 +5,7 @@ use Prim.Native.Nat.{ℕ, _+_, _-_}
 use mathlib.Core.Path.{refl}
 use lib.ListN.{length-replicate}
 use Rattle.types.proofs.adding.checks.CheckLaws.{inside-less, Checking, checking-start, checking-on}
-use Rattle.types.proofs.adding.checks.CheckLaws.{checking-off}
-use Rattle.types.proofs.adding.checks.CheckLaws.{checking-done}
+use Rattle.types.proofs.adding.checks.CheckLaws.{checking-off, checking-done}
 use Rattle.types.proofs.adding.checks.check_members.Statement.{statement}
 use Rattle.types.proofs.adding.checks.check_members.Tie as tie
 
@@ -28,9 +27,6 @@ check-one-requires c κs =
     let less = inside-less (at-loop .loop .j + 1) (start .pre) (omega (arith, c .before .loop-test .taken)) in
     (less, at-loop .loop .inv .marks)
 
-enum-told : tie.Need-enum-told Inv-loop μ-loop
-enum-told c = search needs
-
 add-j : tie.Need-add-j Inv-loop μ-loop
 add-j c = omega (arith, c .before .before .before .before .loop-test .taken)
 
@@ -43,9 +39,6 @@ loop-again c =
     let turn = done .before .before in
     checking-on (turn .before .loop .inv) (turn .loop-test .taken) (done .check-one .ensures) (c .enum-told .given .1)
 
-enum-told-2 : tie.Need-enum-told-2 Inv-loop μ-loop
-enum-told-2 c = search needs
-
 returns : tie.Need-returns Inv-loop μ-loop
 returns c =
     let done = c .before .before in
@@ -53,18 +46,12 @@ returns c =
     checking-off (turn .before .loop .inv) (turn .loop-test .taken) (done .check-one .ensures) (c .enum-told2 .given .1)
     refl
 
-enum-told-3 : tie.Need-enum-told-3 Inv-loop μ-loop
-enum-told-3 c = search needs
-
 returns-2 : tie.Need-returns-2 Inv-loop μ-loop
 returns-2 c =
     let done = c .before .before in
     let turn = done .before .before in
     checking-off (turn .before .loop .inv) (turn .loop-test .taken) (done .check-one .ensures) (c .enum-told3 .given .1)
     refl
-
-enum-told-4 : tie.Need-enum-told-4 Inv-loop μ-loop
-enum-told-4 c = search needs
 
 returns-3 : tie.Need-returns-3 Inv-loop μ-loop
 returns-3 c =
@@ -84,14 +71,14 @@ check-members-spec =
     μ-loop
     loop-holds
     check-one-requires
-    enum-told
+    (λ c. search needs)
     add-j
     loop-less
     loop-again
-    enum-told-2
+    (λ c. search needs)
     returns
-    enum-told-3
+    (λ c. search needs)
     returns-2
-    enum-told-4
+    (λ c. search needs)
     returns-3
     returns-4)

@@ -38,46 +38,13 @@ good : (c : tie.After-good-name)
     c .good-name .result ≡ goodName (memberName (a .book .now) (a .at) (a .j))
 good c = c .good-name .ensures ∙ ap goodName (named (c .before .before))
 
-mul-entry-at : tie.Need-mul-entry-at
-mul-entry-at c = search needs
-
-add-entry-at : tie.Need-add-entry-at
-add-entry-at c = search needs
-
-entry-at-requires : tie.Need-entry-at-requires
-entry-at-requires c κs = search needs
-
-wide-requires : tie.Need-wide-requires
-wide-requires c κs = search needs
-
-wide-requires-2 : tie.Need-wide-requires-2
-wide-requires-2 c κs = search needs
-
-add-end : tie.Need-add-end
-add-end c = search needs
-
-sub-good-name : tie.Need-sub-good-name
-sub-good-name c = search needs
-
-part-good-name-start : tie.Need-part-good-name-start
-part-good-name-start c = search needs
-
 part-good-name-end : tie.Need-part-good-name-end
 part-good-name-end c = omega (arith, end c)
-
-good-name-requires : tie.Need-good-name-requires
-good-name-requires c κs = search needs
 
 returns : tie.Need-returns
 returns c =
     let a = c .before .before .before .before .before .before .before .before .args in
     one-misnamed (a .book .now) (a .aoi) (a .at) (a .j) (good (c .before)) (not-true _ (c .if1 .taken)) (a .seen .now)
-
-sub-look : tie.Need-sub-look
-sub-look c = search needs
-
-part-look-start : tie.Need-part-look-start
-part-look-start c = search needs
 
 part-look-end : tie.Need-part-look-end
 part-look-end c = omega (arith, end (c .before .before .before))
@@ -129,19 +96,19 @@ pub check-one-spec : {M : Type 1} → statement M
 check-one-spec =
     tie.close
     (tie.spec
-    mul-entry-at
-    add-entry-at
-    entry-at-requires
-    wide-requires
-    wide-requires-2
-    add-end
-    sub-good-name
-    part-good-name-start
+    (λ c. search needs)
+    (λ c. search needs)
+    (λ c κs. search needs)
+    (λ c κs. search needs)
+    (λ c κs. search needs)
+    (λ c. search needs)
+    (λ c. search needs)
+    (λ c. search needs)
     part-good-name-end
-    good-name-requires
+    (λ c κs. search needs)
     returns
-    sub-look
-    part-look-start
+    (λ c. search needs)
+    (λ c. search needs)
     part-look-end
     look-requires
     returns-2

@@ -4,24 +4,12 @@ use Rattle.types.proofs.adding.checks.CheckLaws.{looked-new, looked-on}
 use Rattle.types.proofs.adding.checks.look.Statement.{statement}
 use Rattle.types.proofs.adding.checks.look.Tie as tie
 
-mark-requires : tie.Need-mark-requires
-mark-requires c κs = search needs
-
-element-copy-out-if1 : tie.Need-element-copy-out-if1
-element-copy-out-if1 c = search needs
-
-element-write-seen : tie.Need-element-write-seen
-element-write-seen c = search needs
-
 returns : tie.Need-returns
 returns c =
     let marked = c .before .before in
     let start = marked .before .before .before in
     looked-new (start .args .book .now) (start .args .at) (start .args .j) (start .pre .1 .0) (start .pre .1 .1)
     (marked .mark .ensures) (c .if1 .taken)
-
-among-first-requires : tie.Need-among-first-requires
-among-first-requires c κs = search needs
 
 returns-2 : tie.Need-returns-2
 returns-2 c =
@@ -34,9 +22,9 @@ pub look-spec : {M : Type 1} → statement M
 look-spec =
     tie.close
     (tie.spec
-    mark-requires
-    element-copy-out-if1
-    element-write-seen
+    (λ c κs. search needs)
+    (λ c. search needs)
+    (λ c. search needs)
     returns
-    among-first-requires
+    (λ c κs. search needs)
     returns-2)

@@ -20,14 +20,8 @@ loop-holds c = marking-start (c .before .args .name .now)
 shared-slice-read-lower : tie.Need-shared-slice-read-lower Inv-loop μ-loop
 shared-slice-read-lower c = omega arith
 
-lower-requires : tie.Need-lower-requires Inv-loop μ-loop
-lower-requires c κs = search needs
-
 mul-h : tie.Need-mul-h Inv-loop μ-loop
 mul-h c = omega (arith, c .before .before .before .loop .inv .small)
-
-wide8-requires : tie.Need-wide8-requires Inv-loop μ-loop
-wide8-requires c κs = search needs
 
 add-h : tie.Need-add-h Inv-loop μ-loop
 add-h c = omega (arith, c .before .before .before .before .loop .inv .small, c .wide8 .ensures)
@@ -43,9 +37,6 @@ loop-again c =
     let at-loop = c .before .before .before .before in
     marking-on (at-loop .loop .inv) (omega arith) (c .wide8 .ensures ∙ c .before .lower .ensures)
 
-wide-requires : tie.Need-wide-requires Inv-loop μ-loop
-wide-requires c κs = search needs
-
 returns : tie.Need-returns Inv-loop μ-loop
 returns c = marking-done (c .before .before .loop .inv) (omega arith) (c .wide .ensures)
 
@@ -57,12 +48,12 @@ mark-spec =
     μ-loop
     loop-holds
     shared-slice-read-lower
-    lower-requires
+    (λ c κs. search needs)
     mul-h
-    wide8-requires
+    (λ c κs. search needs)
     add-h
     add-i
     loop-less
     loop-again
-    wide-requires
+    (λ c κs. search needs)
     returns)

@@ -11,12 +11,6 @@ returns c = rw (c .before .if1 .taken) (pick-low _ _ (c .if2 .taken))
 returns-2 : tie.Need-returns-2
 returns-2 c = rw (c .before .before .if1 .taken) (pick-high _ _ (c .before .if2 .left) (c .if3 .taken))
 
-wide16-requires : tie.Need-wide16-requires
-wide16-requires c κs = search needs
-
-in-use-requires : tie.Need-in-use-requires
-in-use-requires c κs = search needs
-
 returns-3 : tie.Need-returns-3
 returns-3 c =
     let inside = c .before .before .before in
@@ -30,12 +24,6 @@ returns-4 c =
     rw (inside .before .before .if1 .taken)
     (pick-given _ _ (inside .before .if2 .left) (inside .if3 .left) _
     (c .before .in-use .ensures ∙ rw (c .before .before .wide16 .ensures)) (c .if4 .left))
-
-free-id-requires : tie.Need-free-id-requires
-free-id-requires c κs = search needs
-
-cast-t10 : tie.Need-cast-t10
-cast-t10 c = search needs
 
 returns-5 : tie.Need-returns-5
 returns-5 c =
@@ -57,11 +45,11 @@ pick-id-spec =
     (tie.spec
     returns
     returns-2
-    wide16-requires
-    in-use-requires
+    (λ c κs. search needs)
+    (λ c κs. search needs)
     returns-3
     returns-4
-    free-id-requires
-    cast-t10
+    (λ c κs. search needs)
+    (λ c. search needs)
     returns-5
     returns-6)

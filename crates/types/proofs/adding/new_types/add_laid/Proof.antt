@@ -10,7 +10,7 @@ use Rattle.types.specs.inside.book.Decls.{declsFrom}
 use Rattle.types.specs.inside.layout.Passes.{partsOf, measuredOf}
 use Rattle.types.specs.inside.tables.Registry.{usedWith}
 use Rattle.types.specs.layout.Structs.{namedIn}
-use Rattle.types.specs.declared.layout.measure.Measured.the-variants.{Laid}
+use Rattle.types.specs.declared.layout.measure.Measured.the-variants.{Came}
 use Rattle.types.proofs.adding.AddLaidLaws.{laid-access, laid-far, laid-fitted, laid-counted, laid-near}
 use Rattle.types.proofs.adding.AddLaidLaws.{laid-storable}
 use Rattle.types.proofs.adding.AddStoreLaws.{declared-found, Roomy, roomy, Counted, stored-full, stored-readable}
@@ -32,7 +32,7 @@ start c = measured c .before .before .before .before .before .before .before
 laid : (c : tie.After-has-room)
     → let m = measured c .m .given .0 in
     let a = start c .args in
-    Laid (m .0) (m .1 .0)
+    Came (m .0) (m .1 .0)
     ≡ measuredOf (a .new .aoi) (a .name .now)
     (declsFrom (a .types .now) (a .book .now) (a .tys .now) (a .new .at) 0 (a .new .count))
 laid c =
@@ -71,46 +71,22 @@ measure-type-requires c κs =
     let p = c .before .before .before .before .pre in
     (declared-found (p .declared) (p .usable .rows .few), p .declared .few)
 
-enum-told : tie.Need-enum-told
-enum-told c = search needs
-
 returns : tie.Need-returns
 returns c =
     let m = c .before .before in
     let s = m .before .before .before .before .before in
-    took-no _ _ _ _ (laid-access _ _ _ (s .args .new) _ (sym (c .enum-told .given .1) ∙ m .measure-type .ensures))
-
-enum-told-2 : tie.Need-enum-told-2
-enum-told-2 c = search needs
+    took-no (laid-access _ _ _ (s .args .new) _ (sym (c .enum-told .given .1) ∙ m .measure-type .ensures))
 
 returns-2 : tie.Need-returns-2
 returns-2 c =
     let m = c .before .before in
     let s = m .before .before .before .before .before in
-    took-no _ _ _ _ (laid-far _ _ _ (s .args .new) _ (sym (c .enum-told2 .given .1) ∙ m .measure-type .ensures))
-
-enum-known-m : tie.Need-enum-known-m
-enum-known-m c = search needs
-
-wide-requires : tie.Need-wide-requires
-wide-requires c κs = search needs
-
-add-bytes : tie.Need-add-bytes
-add-bytes c = search needs
-
-wide-requires-2 : tie.Need-wide-requires-2
-wide-requires-2 c κs = search needs
-
-has-room-requires : tie.Need-has-room-requires
-has-room-requires c κs = search needs
+    took-no (laid-far _ _ _ (s .args .new) _ (sym (c .enum-told2 .given .1) ∙ m .measure-type .ensures))
 
 rounded-size-requires : tie.Need-rounded-size-requires
 rounded-size-requires c κs =
     let s = start (c .before) in
     laid-near (s .args .new) (s .pre .usable) (s .pre .declared) _ (laid (c .before)) (fits c)
-
-laid-kind-requires : tie.Need-laid-kind-requires
-laid-kind-requires c κs = search needs
 
 put-bytes-requires : tie.Need-put-bytes-requires
 put-bytes-requires c κs = omega (arith, fits (c .before .before .before) .bytes)
@@ -137,13 +113,15 @@ enter-requires c κs =
     let s = start h in
     let a = s .args in (
       fits t .types,
-      rw (head .bare-head .ensures, size .rounded-size .ensures, kind .laid-kind .ensures, stored .store-type .ensures .0)
+      rw (
+        head .bare-head .ensures,
+        size .rounded-size .ensures,
+        kind .laid-kind .ensures,
+        stored .store-type .ensures .0,
+      )
           (stored-readable (a .types .now) (a .members .now) (a .names .now) (a .new .used) (counted h) _ _ _ (room h)
           (t .if1 .taken) (s .pre .usable) (s .pre .rows)),
     )
-
-wide-requires-3 : tie.Need-wide-requires-3
-wide-requires-3 c κs = search needs
 
 used-more-requires : tie.Need-used-more-requires
 used-more-requires c κs =
@@ -187,22 +165,22 @@ add-laid-spec =
     tie.close
     (tie.spec
     measure-type-requires
-    enum-told
+    (λ c. search needs)
     returns
-    enum-told-2
+    (λ c. search needs)
     returns-2
-    enum-known-m
-    wide-requires
-    add-bytes
-    wide-requires-2
-    has-room-requires
+    (λ c. search needs)
+    (λ c κs. search needs)
+    (λ c. search needs)
+    (λ c κs. search needs)
+    (λ c κs. search needs)
     rounded-size-requires
-    laid-kind-requires
+    (λ c κs. search needs)
     put-bytes-requires
     store-type-requires
     bare-head-requires
     enter-requires
-    wide-requires-3
+    (λ c κs. search needs)
     used-more-requires
     returns-3
     returns-4)

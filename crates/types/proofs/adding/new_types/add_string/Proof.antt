@@ -6,12 +6,6 @@ use Rattle.types.proofs.adding.AddStoreLaws.{roomy, stored-full, stored
 use Rattle.types.proofs.adding.new_types.add_string.Statement.{statement}
 use Rattle.types.proofs.adding.new_types.add_string.Tie as tie
 
-add-has-room : tie.Need-add-has-room
-add-has-room c = search needs
-
-has-room-requires : tie.Need-has-room-requires
-has-room-requires c κs = search needs
-
 store-string-requires : tie.Need-store-string-requires
 store-string-requires c κs =
     let fits = c .before .before .before in
@@ -46,4 +40,4 @@ returns-2 c =
 pub add-string-spec : {M : Type 1} → statement M
 add-string-spec =
     tie.close
-    (tie.spec add-has-room has-room-requires store-string-requires returns returns-2)
+    (tie.spec (λ c. search needs) (λ c κs. search needs) store-string-requires returns returns-2)

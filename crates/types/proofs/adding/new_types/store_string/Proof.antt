@@ -7,21 +7,6 @@ use Rattle.types.proofs.adding.AddStoreLaws.{new-readable, new-took}
 use Rattle.types.proofs.adding.new_types.store_string.Statement.{statement}
 use Rattle.types.proofs.adding.new_types.store_string.Tie as tie
 
-string-size-requires : tie.Need-string-size-requires
-string-size-requires c κs = search needs
-
-put-bytes-requires : tie.Need-put-bytes-requires
-put-bytes-requires c κs = search needs
-
-add-put-string : tie.Need-add-put-string
-add-put-string c = search needs
-
-put-string-requires : tie.Need-put-string-requires
-put-string-requires c κs = search needs
-
-bare-head-requires : tie.Need-bare-head-requires
-bare-head-requires c κs = search needs
-
 enter-requires : tie.Need-enter-requires
 enter-requires c κs =
     let bare = c .before .before .before in
@@ -34,12 +19,6 @@ enter-requires c κs =
           (new-readable (a .types .now) (a .members .now) (a .names .now) (a .u)
           (string-counted (a .name .now) (a .capacity) _) (a .id) _ Str (start .pre .0)),
     )
-
-add-used-more : tie.Need-add-used-more
-add-used-more c = search needs
-
-used-more-requires : tie.Need-used-more-requires
-used-more-requires c κs = search needs
 
 returns : tie.Need-returns
 returns c =
@@ -59,12 +38,12 @@ pub store-string-spec : {M : Type 1} → statement M
 store-string-spec =
     tie.close
     (tie.spec
-    string-size-requires
-    put-bytes-requires
-    add-put-string
-    put-string-requires
-    bare-head-requires
+    (λ c κs. search needs)
+    (λ c κs. search needs)
+    (λ c. search needs)
+    (λ c κs. search needs)
+    (λ c κs. search needs)
     enter-requires
-    add-used-more
-    used-more-requires
+    (λ c. search needs)
+    (λ c κs. search needs)
     returns)

@@ -4,15 +4,6 @@ use Rattle.types.proofs.adding.AddLaidLaws.{storable-aoi, storable-udt,
 use Rattle.types.proofs.adding.new_types.store_type.Statement.{statement}
 use Rattle.types.proofs.adding.new_types.store_type.Tie as tie
 
-add-place : tie.Need-add-place
-add-place c = search needs
-
-count-bools-requires : tie.Need-count-bools-requires
-count-bools-requires c κs = search needs
-
-hosts-for-requires : tie.Need-hosts-for-requires
-hosts-for-requires c κs = search needs
-
 store-aoi-requires : tie.Need-store-aoi-requires
 store-aoi-requires c κs =
     let hosts = c .before .before in
@@ -36,9 +27,9 @@ pub store-type-spec : {M : Type 1} → statement M
 store-type-spec =
     tie.close
     (tie.spec
-    add-place
-    count-bools-requires
-    hosts-for-requires
+    (λ c. search needs)
+    (λ c κs. search needs)
+    (λ c κs. search needs)
     store-aoi-requires
     returns
     store-udt-requires

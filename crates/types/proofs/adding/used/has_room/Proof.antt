@@ -7,16 +7,10 @@ use Rattle.types.proofs.adding.used.has_room.Tie as tie
 returns : tie.Need-returns
 returns c = room-types (c .before .before .args .u) _ _ (c .if1 .taken)
 
-add-if2 : tie.Need-add-if2
-add-if2 c = search needs
-
 returns-2 : tie.Need-returns-2
 returns-2 c =
     let types = c .before .before in
     room-members (types .before .before .args .u) _ _ (types .if1 .left) (c .if2 .taken)
-
-add-result : tie.Need-add-result
-add-result c = search needs
 
 returns-3 : tie.Need-returns-3
 returns-3 c =
@@ -24,4 +18,4 @@ returns-3 c =
     room-bytes (types .before .before .args .u) _ _ (types .if1 .left) (c .before .if2 .left)
 
 pub has-room-spec : {M : Type 1} → statement M
-has-room-spec = tie.close (tie.spec returns add-if2 returns-2 add-result returns-3)
+has-room-spec = tie.close (tie.spec returns (λ c. search needs) returns-2 (λ c. search needs) returns-3)

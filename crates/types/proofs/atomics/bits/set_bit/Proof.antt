@@ -5,9 +5,6 @@ use Rattle.types.specs.atomics.Bits.{bitSet}
 use Rattle.types.proofs.atomics.bits.set_bit.Statement.{statement}
 use Rattle.types.proofs.atomics.bits.set_bit.Tie as tie
 
-set-bit-requires : tie.Need-set-bit-requires
-set-bit-requires c κs = search needs
-
 returns : tie.Need-returns
 unfolding bitSet
 returns c = rw (c .set-bit .ensures, lt-ltb _ 8 (c .before .before .if1 .taken))
@@ -17,4 +14,4 @@ unfolding bitSet
 returns-2 c = rw (le-ltb (c .before .args .bit) 8 (c .if1 .left))
 
 pub set-bit-spec : {M : Type 1} → statement M
-set-bit-spec = tie.close (tie.spec set-bit-requires returns returns-2)
+set-bit-spec = tie.close (tie.spec (λ c κs. search needs) returns returns-2)

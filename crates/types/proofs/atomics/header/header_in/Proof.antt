@@ -16,42 +16,27 @@ small : (c : tie.After-type-row)
 unfolding typeAt
 small c = omega arith
 
-enum-known-ty : tie.Need-enum-known-ty
-enum-known-ty c = search needs
-
-code-requires : tie.Need-code-requires
-code-requires c κs = search needs
-
 returns : tie.Need-returns
 returns c = rw (c .before .before .ty .given .1, c .code .ensures)
 
-enum-known-ty-2 : tie.Need-enum-known-ty-2
-enum-known-ty-2 c = search needs
-
 type-row-requires : tie.Need-type-row-requires
 type-row-requires c κs = rw (c .before .ty2 .given .1) at (c .before .before .before .pre)
-
-low8-requires : tie.Need-low8-requires
-low8-requires c κs = search needs
-
-high8-requires : tie.Need-high8-requires
-high8-requires c κs = search needs
 
 returns-2 : tie.Need-returns-2
 returns-2 c =
     let d = c .before .before in
     rw (d .before .before .ty2 .given .1, c .high8 .ensures, c .before .low8 .ensures, d .type-row .ensures)
-    (ap (λ (l : List ℕ). held (0xA0 ∷ 0x02 ∷ l)) (two-bytes _ (small d)))
+    (ap (λ (l : List ℕ). held (0xA0 ∷ 0x02 ∷ l)) (two-bytes (small d)))
 
 pub header-in-spec : {M : Type 1} → statement M
 header-in-spec =
     tie.close
     (tie.spec
-    enum-known-ty
-    code-requires
+    (λ c. search needs)
+    (λ c κs. search needs)
     returns
-    enum-known-ty-2
+    (λ c. search needs)
     type-row-requires
-    low8-requires
-    high8-requires
+    (λ c κs. search needs)
+    (λ c κs. search needs)
     returns-2)

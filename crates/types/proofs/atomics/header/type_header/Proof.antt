@@ -6,9 +6,6 @@ use Rattle.types.proofs.shape.ShapeLaws.{there-fits}
 use Rattle.types.proofs.atomics.header.type_header.Statement.{statement}
 use Rattle.types.proofs.atomics.header.type_header.Tie as tie
 
-is-there-requires : tie.Need-is-there-requires
-is-there-requires c κs = search needs
-
 header-in-requires : tie.Need-header-in-requires
 header-in-requires c κs =
     let there = c .before in
@@ -26,4 +23,4 @@ returns-2 c = rw (sym (c .before .is-there .ensures) ∙ c .if1 .left)
 
 pub type-header-spec : {M : Type 1} → statement M
 type-header-spec =
-    tie.close (tie.spec is-there-requires header-in-requires returns returns-2)
+    tie.close (tie.spec (λ c κs. search needs) header-in-requires returns returns-2)

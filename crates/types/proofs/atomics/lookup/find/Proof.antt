@@ -7,9 +7,6 @@ use Rattle.types.proofs.tables.KeptLaws.{kept-inside}
 use Rattle.types.proofs.atomics.lookup.find.Statement.{statement}
 use Rattle.types.proofs.atomics.lookup.find.Tie as tie
 
-type-count-requires : tie.Need-type-count-requires
-type-count-requires c κs = search needs
-
 lookup-requires : tie.Need-lookup-requires
 lookup-requires c κs = rw (c .before .type-count .ensures) (kept-inside (c .before .before .before .pre .kept))
 
@@ -17,4 +14,4 @@ returns : tie.Need-returns
 returns c = ap saidBy (c .lookup .ensures) ∙ rw (c .before .before .type-count .ensures) (among-said _ _)
 
 pub find-spec : {M : Type 1} → statement M
-find-spec = tie.close (tie.spec type-count-requires lookup-requires returns)
+find-spec = tie.close (tie.spec (λ c κs. search needs) lookup-requires returns)

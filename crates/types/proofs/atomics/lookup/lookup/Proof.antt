@@ -7,18 +7,6 @@ use Rattle.types.proofs.atomics.AtomicLaws.{named-is}
 use Rattle.types.proofs.atomics.lookup.lookup.Statement.{statement}
 use Rattle.types.proofs.atomics.lookup.lookup.Tie as tie
 
-from-name-requires : tie.Need-from-name-requires
-from-name-requires c κs = search needs
-
-enum-known-atomic : tie.Need-enum-known-atomic
-enum-known-atomic c = search needs
-
-enum-told : tie.Need-enum-told
-enum-told c = search needs
-
-find-type-requires : tie.Need-find-type-requires
-find-type-requires c κs = search needs
-
 returns : tie.Need-returns
 unfolding typeAmong
 returns c =
@@ -35,4 +23,4 @@ returns-2 c =
 pub lookup-spec : {M : Type 1} → statement M
 lookup-spec =
     tie.close
-    (tie.spec from-name-requires enum-known-atomic enum-told find-type-requires returns returns-2)
+    (tie.spec (λ c κs. search needs) (λ c. search needs) (λ c. search needs) (λ c κs. search needs) returns returns-2)

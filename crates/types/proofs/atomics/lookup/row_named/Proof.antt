@@ -12,21 +12,6 @@ use Rattle.types.proofs.layout.StoreOneLaws.{lent-name}
 use Rattle.types.proofs.atomics.lookup.row_named.Statement.{statement}
 use Rattle.types.proofs.atomics.lookup.row_named.Tie as tie
 
-mul-wide : tie.Need-mul-wide
-mul-wide c = search needs
-
-add-wide : tie.Need-add-wide
-add-wide c = search needs
-
-mul-wide-2 : tie.Need-mul-wide-2
-mul-wide-2 c = search needs
-
-element-copy-out-wide : tie.Need-element-copy-out-wide
-element-copy-out-wide c = search needs
-
-wide-requires : tie.Need-wide-requires
-wide-requires c κs = search needs
-
 returns : tie.Need-returns
 unfolding typeAt
 returns c =
@@ -35,18 +20,6 @@ returns c =
     let long = c .before .wide .ensures in
     sym (same-long (rowName (a .types .now) (a .names .now) (a .i)) (a .name .now)
     (λ e. c .if1 .taken (long ∙ sym (length-part (a .names .now) _ _ p) ∙ e)))
-
-mul-wide-3 : tie.Need-mul-wide-3
-mul-wide-3 c = search needs
-
-mul-wide-4 : tie.Need-mul-wide-4
-mul-wide-4 c = search needs
-
-element-copy-out-wide-2 : tie.Need-element-copy-out-wide-2
-element-copy-out-wide-2 c = search needs
-
-wide-requires-2 : tie.Need-wide-requires-2
-wide-requires-2 c κs = search needs
 
 -- the row's name lies among the names
 end : (c : tie.After-wide2)
@@ -60,17 +33,8 @@ end c =
 add-end : tie.Need-add-end
 add-end c = omega (arith, end c)
 
-sub-same-name : tie.Need-sub-same-name
-sub-same-name c = search needs
-
-part-same-name-start : tie.Need-part-same-name-start
-part-same-name-start c = search needs
-
 part-same-name-end : tie.Need-part-same-name-end
 part-same-name-end c = omega (arith, end c)
-
-same-name-requires : tie.Need-same-name-requires
-same-name-requires c κs = search needs
 
 returns-2 : tie.Need-returns-2
 unfolding typeAt
@@ -85,19 +49,19 @@ pub row-named-spec : {M : Type 1} → statement M
 row-named-spec =
     tie.close
     (tie.spec
-    mul-wide
-    add-wide
-    mul-wide-2
-    element-copy-out-wide
-    wide-requires
+    (λ c. search needs)
+    (λ c. search needs)
+    (λ c. search needs)
+    (λ c. search needs)
+    (λ c κs. search needs)
     returns
-    mul-wide-3
-    mul-wide-4
-    element-copy-out-wide-2
-    wide-requires-2
+    (λ c. search needs)
+    (λ c. search needs)
+    (λ c. search needs)
+    (λ c κs. search needs)
     add-end
-    sub-same-name
-    part-same-name-start
+    (λ c. search needs)
+    (λ c. search needs)
     part-same-name-end
-    same-name-requires
+    (λ c κs. search needs)
     returns-2)

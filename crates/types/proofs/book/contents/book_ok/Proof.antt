@@ -32,45 +32,12 @@ summed c = rw (← types-in (c .before .before .before .before)) (c .sum-counts 
 returns : tie.Need-returns
 returns c = book-short (c .before .before .args .book .now) (c .if1 .taken)
 
-load16-requires : tie.Need-load16-requires
-load16-requires c κs = search needs
-
-count-of-requires : tie.Need-count-of-requires
-count-of-requires c κs = search needs
-
-load16-requires-2 : tie.Need-load16-requires-2
-load16-requires-2 c κs = search needs
-
-count-of-requires-2 : tie.Need-count-of-requires-2
-count-of-requires-2 c κs = search needs
-
-mul-start : tie.Need-mul-start
-mul-start c = search needs
-
-add-start : tie.Need-add-start
-add-start c = search needs
-
-mul-start-2 : tie.Need-mul-start-2
-mul-start-2 c = search needs
-
-add-start-2 : tie.Need-add-start-2
-add-start-2 c = search needs
-
 returns-2 : tie.Need-returns-2
 returns-2 c =
     let read = c .before in
     no-bodies (read .before .before .before .before .before .before .args .book .now)
     (read .before .before .before .before .if1 .left)
     (omega (arith, types-in read, members-in read, c .if2 .taken))
-
-types-ok-requires : tie.Need-types-ok-requires
-types-ok-requires c κs = search needs
-
-sum-counts-requires : tie.Need-sum-counts-requires
-sum-counts-requires c κs = search needs
-
-members-ok-requires : tie.Need-members-ok-requires
-members-ok-requires c κs = search needs
 
 returns-3 : tie.Need-returns-3
 returns-3 c =
@@ -108,18 +75,18 @@ book-ok-spec =
     tie.close
     (tie.spec
     returns
-    load16-requires
-    count-of-requires
-    load16-requires-2
-    count-of-requires-2
-    mul-start
-    add-start
-    mul-start-2
-    add-start-2
+    (λ c κs. search needs)
+    (λ c κs. search needs)
+    (λ c κs. search needs)
+    (λ c κs. search needs)
+    (λ c. search needs)
+    (λ c. search needs)
+    (λ c. search needs)
+    (λ c. search needs)
     returns-2
-    types-ok-requires
-    sum-counts-requires
-    members-ok-requires
+    (λ c κs. search needs)
+    (λ c κs. search needs)
+    (λ c κs. search needs)
     returns-3
     returns-4
     returns-5)

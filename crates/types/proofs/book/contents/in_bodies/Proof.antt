@@ -4,20 +4,11 @@ use Rattle.types.proofs.book.BookLaws.{before-bodies, from-bodies}
 use Rattle.types.proofs.book.contents.in_bodies.Statement.{statement}
 use Rattle.types.proofs.book.contents.in_bodies.Tie as tie
 
-wide-requires : tie.Need-wide-requires
-wide-requires c κs = search needs
-
-wide-requires-2 : tie.Need-wide-requires-2
-wide-requires-2 c κs = search needs
-
 returns : tie.Need-returns
 returns c =
     let a = c .before .before .before .args in
     before-bodies (a .start) (a .end) (a .s) _ _ (c .before .before .wide .ensures) (c .before .wide2 .ensures)
     (c .if1 .taken)
-
-add-result : tie.Need-add-result
-add-result c = search needs
 
 returns-2 : tie.Need-returns-2
 returns-2 c =
@@ -27,4 +18,4 @@ returns-2 c =
 
 pub in-bodies-spec : {M : Type 1} → statement M
 in-bodies-spec =
-    tie.close (tie.spec wide-requires wide-requires-2 returns add-result returns-2)
+    tie.close (tie.spec (λ c κs. search needs) (λ c κs. search needs) returns (λ c. search needs) returns-2)

@@ -10,12 +10,6 @@ returns c =
     let a = c .before .before .args in
     local-over (a .start) (a .end) (a .e) (c .if1 .taken)
 
-in-bodies-requires : tie.Need-in-bodies-requires
-in-bodies-requires c κs = search needs
-
-in-bodies-requires-2 : tie.Need-in-bodies-requires-2
-in-bodies-requires-2 c κs = search needs
-
 returns-2 : tie.Need-returns-2
 returns-2 c =
     let name = c .before .before .before in
@@ -33,4 +27,4 @@ returns-3 c =
 
 pub member-ok-spec : {M : Type 1} → statement M
 member-ok-spec =
-    tie.close (tie.spec returns in-bodies-requires in-bodies-requires-2 returns-2 returns-3)
+    tie.close (tie.spec returns (λ c κs. search needs) (λ c κs. search needs) returns-2 returns-3)

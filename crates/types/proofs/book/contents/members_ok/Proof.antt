@@ -33,9 +33,6 @@ loop-holds c = (omega arith, (refl, rw sub-zero))
 member-entry-requires : tie.Need-member-entry-requires Inv-loop μ-loop
 member-entry-requires c κs = omega (arith, c .before .before .before .pre .0, c .loop-test .taken)
 
-member-ok-requires : tie.Need-member-ok-requires Inv-loop μ-loop
-member-ok-requires c κs = search needs
-
 returns : tie.Need-returns Inv-loop μ-loop
 returns c =
     let at-loop = c .before .before .before .before in
@@ -78,7 +75,7 @@ members-ok-spec =
     μ-loop
     loop-holds
     member-entry-requires
-    member-ok-requires
+    (λ c κs. search needs)
     returns
     add-i
     loop-less

@@ -20,9 +20,6 @@ loop-holds c = sum-start (c .before .args .book .now) (c .before .args .n)
 type-entry-requires : tie.Need-type-entry-requires Inv-loop μ-loop
 type-entry-requires c κs = omega (arith, c .before .before .before .pre .0, c .loop-test .taken)
 
-count-of-requires : tie.Need-count-of-requires Inv-loop μ-loop
-count-of-requires c κs = search needs
-
 add-sum : tie.Need-add-sum Inv-loop μ-loop
 add-sum c =
     omega (
@@ -58,7 +55,7 @@ sum-counts-spec =
     μ-loop
     loop-holds
     type-entry-requires
-    count-of-requires
+    (λ c κs. search needs)
     add-sum
     add-i
     loop-less

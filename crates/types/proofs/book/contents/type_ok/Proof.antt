@@ -13,15 +13,6 @@ returns-2 c =
     let a = c .before .before .before .args in
     not-zero (a .start) (a .end) (a .e) (c .before .before .if1 .left) (c .if2 .taken)
 
-set-or-zero-requires : tie.Need-set-or-zero-requires
-set-or-zero-requires c κs = search needs
-
-set-or-zero-requires-2 : tie.Need-set-or-zero-requires-2
-set-or-zero-requires-2 c κs = search needs
-
-in-bodies-requires : tie.Need-in-bodies-requires
-in-bodies-requires c κs = search needs
-
 returns-3 : tie.Need-returns-3
 returns-3 c =
     let string = c .before .before .before in
@@ -54,9 +45,9 @@ type-ok-spec =
     (tie.spec
     returns
     returns-2
-    set-or-zero-requires
-    set-or-zero-requires-2
-    in-bodies-requires
+    (λ c κs. search needs)
+    (λ c κs. search needs)
+    (λ c κs. search needs)
     returns-3
     returns-4
     returns-5)

@@ -32,9 +32,6 @@ loop-holds c = (omega arith, (refl, rw sub-zero))
 type-entry-requires : tie.Need-type-entry-requires Inv-loop μ-loop
 type-entry-requires c κs = omega (arith, c .before .before .before .pre .0, c .loop-test .taken)
 
-type-ok-requires : tie.Need-type-ok-requires Inv-loop μ-loop
-type-ok-requires c κs = search needs
-
 returns : tie.Need-returns Inv-loop μ-loop
 returns c =
     let at-loop = c .before .before .before .before in
@@ -76,7 +73,7 @@ types-ok-spec =
     μ-loop
     loop-holds
     type-entry-requires
-    type-ok-requires
+    (λ c κs. search needs)
     returns
     add-i
     loop-less

@@ -6,12 +6,6 @@ use Rattle.types.proofs.book.DeclLaws.{one-bool, bool-array, no-bool}
 use Rattle.types.proofs.book.decls.resolved.Statement.{statement}
 use Rattle.types.proofs.book.decls.resolved.Tie as tie
 
-is-bool-requires : tie.Need-is-bool-requires
-is-bool-requires c κs = search needs
-
-plain-requires : tie.Need-plain-requires
-plain-requires c κs = search needs
-
 returns : tie.Need-returns
 returns c =
     let way = c .before .before in
@@ -21,21 +15,12 @@ returns c =
     (sym (way .before .is-bool .ensures) ∙ way .if1 .taken)
     (c .before .if2 .taken)
 
-sub-t12 : tie.Need-sub-t12
-sub-t12 c = search needs
-
-add-t14 : tie.Need-add-t14
-add-t14 c = search needs
-
 returns-2 : tie.Need-returns-2
 unfolding sizeOf
 returns-2 c =
     let a = c .before .before .before .args in
     bool-array _ (a .ty) (a .dim) (a .name) (a .local) (a .access)
     (sym (c .before .before .is-bool .ensures) ∙ c .before .if1 .taken) (c .if2 .left)
-
-plain-requires-2 : tie.Need-plain-requires-2
-plain-requires-2 c κs = search needs
 
 returns-3 : tie.Need-returns-3
 returns-3 c =
@@ -48,11 +33,11 @@ pub resolved-spec : {M : Type 1} → statement M
 resolved-spec =
     tie.close
     (tie.spec
-    is-bool-requires
-    plain-requires
+    (λ c κs. search needs)
+    (λ c κs. search needs)
     returns
-    sub-t12
-    add-t14
+    (λ c. search needs)
+    (λ c. search needs)
     returns-2
-    plain-requires-2
+    (λ c κs. search needs)
     returns-3)

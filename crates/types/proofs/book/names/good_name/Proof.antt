@@ -28,9 +28,6 @@ loop-holds c = (omega arith, (c .before .if1 .left, (c .if2 .left, refl)))
 shared-slice-read-name-byte : tie.Need-shared-slice-read-name-byte Inv-loop μ-loop
 shared-slice-read-name-byte c = omega arith
 
-name-byte-requires : tie.Need-name-byte-requires Inv-loop μ-loop
-name-byte-requires c κs = search needs
-
 returns-3 : tie.Need-returns-3 Inv-loop μ-loop
 returns-3 c =
     let l = c .before .before .before .before .loop in
@@ -75,7 +72,7 @@ good-name-spec =
     returns-2
     loop-holds
     shared-slice-read-name-byte
-    name-byte-requires
+    (λ c κs. search needs)
     returns-3
     add-i
     loop-less

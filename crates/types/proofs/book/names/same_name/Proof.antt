@@ -18,7 +18,7 @@ returns c =
     sym (same-long (a .a .now) (a .b .now) (c .if1 .taken))
 
 loop-holds : tie.Need-loop-holds Inv-loop μ-loop
-loop-holds c = from-end _ _ (c .if1 .left)
+loop-holds c = from-end (c .if1 .left)
 
 sub-i : tie.Need-sub-i Inv-loop μ-loop
 sub-i c = omega arith
@@ -26,14 +26,8 @@ sub-i c = omega arith
 shared-slice-read-lower : tie.Need-shared-slice-read-lower Inv-loop μ-loop
 shared-slice-read-lower c = omega arith
 
-lower-requires : tie.Need-lower-requires Inv-loop μ-loop
-lower-requires c κs = search needs
-
 shared-slice-read-lower-2 : tie.Need-shared-slice-read-lower-2 Inv-loop μ-loop
 shared-slice-read-lower-2 c = omega arith
-
-lower-requires-2 : tie.Need-lower-requires-2 Inv-loop μ-loop
-lower-requires-2 c κs = search needs
 
 returns-2 : tie.Need-returns-2 Inv-loop μ-loop
 returns-2 c =
@@ -65,9 +59,9 @@ same-name-spec =
     loop-holds
     sub-i
     shared-slice-read-lower
-    lower-requires
+    (λ c κs. search needs)
     shared-slice-read-lower-2
-    lower-requires-2
+    (λ c κs. search needs)
     returns-2
     loop-less
     loop-again

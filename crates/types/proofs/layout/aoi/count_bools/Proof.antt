@@ -22,12 +22,6 @@ loop-holds c =
 decl-at-requires : tie.Need-decl-at-requires Inv-loop μ-loop
 decl-at-requires c κs = found-first (c .before .loop .j + 1) (omega arith) (c .before .loop .inv .found)
 
-is-bool-requires : tie.Need-is-bool-requires Inv-loop μ-loop
-is-bool-requires c κs = search needs
-
-one-if-requires : tie.Need-one-if-requires Inv-loop μ-loop
-one-if-requires c κs = search needs
-
 add-count : tie.Need-add-count Inv-loop μ-loop
 add-count c =
     omega (
@@ -63,8 +57,8 @@ count-bools-spec =
     μ-loop
     loop-holds
     decl-at-requires
-    is-bool-requires
-    one-if-requires
+    (λ c κs. search needs)
+    (λ c κs. search needs)
     add-count
     add-j
     loop-less

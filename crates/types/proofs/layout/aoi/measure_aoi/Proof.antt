@@ -8,21 +8,6 @@ use Rattle.types.proofs.layout.Measuring.{from-hosts}
 use Rattle.types.proofs.layout.aoi.measure_aoi.Statement.{statement}
 use Rattle.types.proofs.layout.aoi.measure_aoi.Tie as tie
 
-count-bools-requires : tie.Need-count-bools-requires
-count-bools-requires c κs = search needs
-
-hosts-for-requires : tie.Need-hosts-for-requires
-hosts-for-requires c κs = search needs
-
-hosts-long-requires : tie.Need-hosts-long-requires
-hosts-long-requires c κs = search needs
-
-aoi-start-requires : tie.Need-aoi-start-requires
-aoi-start-requires c κs = search needs
-
-add-measure : tie.Need-add-measure
-add-measure c = search needs
-
 measure-requires : tie.Need-measure-requires
 measure-requires c κs =
     let hosts = c .before .before in
@@ -49,10 +34,10 @@ pub measure-aoi-spec : {M : Type 1} → statement M
 measure-aoi-spec =
     tie.close
     (tie.spec
-    count-bools-requires
-    hosts-for-requires
-    hosts-long-requires
-    aoi-start-requires
-    add-measure
+    (λ c κs. search needs)
+    (λ c κs. search needs)
+    (λ c κs. search needs)
+    (λ c κs. search needs)
+    (λ c. search needs)
     measure-requires
     returns)

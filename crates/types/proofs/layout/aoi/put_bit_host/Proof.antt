@@ -7,32 +7,21 @@ use lib.ListN.{length, take}
 use lib.Seq.{sets, length-take-le}
 use Rattle.types.specs.layout.HostNames.{bitHostName}
 use Rattle.types.specs.layout.Structs.{bitHostAt}
+use Rattle.types.specs.tables.Limits.{mostNames}
 use Rattle.types.proofs.layout.DigitLaws.{bit-host-long, bit-host-put}
 use Rattle.types.proofs.layout.StoreLaws.{one-row-of, one-name}
 use Rattle.types.proofs.layout.aoi.put_bit_host.Statement.{statement}
 use Rattle.types.proofs.layout.aoi.put_bit_host.Tie as tie
 
-room : (c : tie.After-two-digits) → c .before .args .at + (9 + c .two-digits .result .long) ≤ 32768
+room : (c : tie.After-two-digits) → c .before .args .at + (9 + c .two-digits .result .long) ≤ mostNames
 room c = rw (bit-host-long (c .before .args .i) _ (c .two-digits .ensures)) (c .before .pre .1 .1)
 
 tail : (c : tie.After-two-digits)
     → length (take (c .two-digits .result .long) (c .two-digits .result .bytes)) ≡ c .two-digits .result .long
 tail c = length-take-le _ _ (c .two-digits .ensures .room)
 
-two-digits-requires : tie.Need-two-digits-requires
-two-digits-requires c κs = search needs
-
-slice-aggregate-put-bytes : tie.Need-slice-aggregate-put-bytes
-slice-aggregate-put-bytes c = search needs
-
 put-bytes-requires : tie.Need-put-bytes-requires
 put-bytes-requires c κs = omega (arith, room (c .before .before .before))
-
-add-put-bytes : tie.Need-add-put-bytes
-add-put-bytes c = search needs
-
-array-share-prefix-bytes : tie.Need-array-share-prefix-bytes
-array-share-prefix-bytes c = search needs
 
 slice-aggregate-put-bytes-2 : tie.Need-slice-aggregate-put-bytes-2
 slice-aggregate-put-bytes-2 c = sym (tail (c .before .before .before .before .before .before))
@@ -41,24 +30,6 @@ put-bytes-requires-2 : tie.Need-put-bytes-requires-2
 put-bytes-requires-2 c κs =
     let two = c .before .before .before .before .before .before in
     rw (tail two) (omega (arith, room two))
-
-cast-t19 : tie.Need-cast-t19
-cast-t19 c = search needs
-
-add-t15 : tie.Need-add-t15
-add-t15 c = search needs
-
-cast-t20 : tie.Need-cast-t20
-cast-t20 c = search needs
-
-mul-t24 : tie.Need-mul-t24
-mul-t24 c = search needs
-
-put-member-requires : tie.Need-put-member-requires
-put-member-requires c κs = search needs
-
-add-result : tie.Need-add-result
-add-result c = search needs
 
 returns : tie.Need-returns
 returns c =
@@ -81,17 +52,17 @@ pub put-bit-host-spec : {M : Type 1} → statement M
 put-bit-host-spec =
     tie.close
     (tie.spec
-    two-digits-requires
-    slice-aggregate-put-bytes
+    (λ c κs. search needs)
+    (λ c. search needs)
     put-bytes-requires
-    add-put-bytes
-    array-share-prefix-bytes
+    (λ c. search needs)
+    (λ c. search needs)
     slice-aggregate-put-bytes-2
     put-bytes-requires-2
-    cast-t19
-    add-t15
-    cast-t20
-    mul-t24
-    put-member-requires
-    add-result
+    (λ c. search needs)
+    (λ c. search needs)
+    (λ c. search needs)
+    (λ c. search needs)
+    (λ c κs. search needs)
+    (λ c. search needs)
     returns)

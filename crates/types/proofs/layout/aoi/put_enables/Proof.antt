@@ -8,15 +8,6 @@ use Rattle.types.proofs.layout.aoi.AoiLaws.{two-put}
 use Rattle.types.proofs.layout.aoi.put_enables.Statement.{statement}
 use Rattle.types.proofs.layout.aoi.put_enables.Tie as tie
 
-enable-requires : tie.Need-enable-requires
-enable-requires c κs = search needs
-
-enable-requires-2 : tie.Need-enable-requires-2
-enable-requires-2 c κs = search needs
-
-slice-aggregate-put-part : tie.Need-slice-aggregate-put-part
-slice-aggregate-put-part c = search needs
-
 put-part-requires : tie.Need-put-part-requires
 put-part-requires c κs = (
   omega (arith, c .before .before .before .before .before .pre .0),
@@ -27,15 +18,6 @@ put-part-requires c κs = (
   ),
 )
 
-add-put-part : tie.Need-add-put-part
-add-put-part c = search needs
-
-add-put-part-2 : tie.Need-add-put-part-2
-add-put-part-2 c = search needs
-
-slice-aggregate-put-part-2 : tie.Need-slice-aggregate-put-part-2
-slice-aggregate-put-part-2 c = search needs
-
 put-part-requires-2 : tie.Need-put-part-requires-2
 put-part-requires-2 c κs = (
   omega (arith, c .before .before .before .before .before .before .before .before .before .pre .0),
@@ -45,9 +27,6 @@ put-part-requires-2 c κs = (
         (c .before .before .before .before .before .before .before .enable2 .ensures) tt,
   ),
 )
-
-add-result : tie.Need-add-result
-add-result c = search needs
 
 returns : tie.Need-returns
 unfolding namesOf
@@ -66,13 +45,13 @@ pub put-enables-spec : {M : Type 1} → statement M
 put-enables-spec =
     tie.close
     (tie.spec
-    enable-requires
-    enable-requires-2
-    slice-aggregate-put-part
+    (λ c κs. search needs)
+    (λ c κs. search needs)
+    (λ c. search needs)
     put-part-requires
-    add-put-part
-    add-put-part-2
-    slice-aggregate-put-part-2
+    (λ c. search needs)
+    (λ c. search needs)
+    (λ c. search needs)
     put-part-requires-2
-    add-result
+    (λ c. search needs)
     returns)

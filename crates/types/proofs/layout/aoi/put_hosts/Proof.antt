@@ -17,9 +17,6 @@ loop-holds c =
     hosts-start (c .args .h) (c .args .row) (c .args .place) (c .args .members .now) (c .args .names .now)
     (c .pre .0) (c .pre .1)
 
-wide-requires : tie.Need-wide-requires Inv-loop μ-loop
-wide-requires c κs = search needs
-
 add-next : tie.Need-add-next Inv-loop μ-loop
 add-next c = omega (arith, c .wide .ensures, c .before .before .loop .inv .room)
 
@@ -68,7 +65,7 @@ put-hosts-spec =
     Inv-loop
     μ-loop
     loop-holds
-    wide-requires
+    (λ c κs. search needs)
     add-next
     put-bit-host-requires
     add-at

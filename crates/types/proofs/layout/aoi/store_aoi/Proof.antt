@@ -18,18 +18,12 @@ enables : (c : tie.After-put-enables)
     (c .put-enables .last .0) (c .put-enables .last .1 .1 .0) (c .put-enables .result)
 enables c = rw (c .before .before .before .before .before .before .wide .ensures) at (c .put-enables .ensures)
 
-wide-requires : tie.Need-wide-requires
-wide-requires c κs = search needs
-
 put-hosts-requires : tie.Need-put-hosts-requires
 put-hosts-requires c κs = (
   omega (arith, rows-room (c .before .before .before .before .before .before .pre)),
   omega
       (arith, names-room (c .before .before .before .before .before .before .pre)),
 )
-
-add-put-enables : tie.Need-add-put-enables
-add-put-enables c = search needs
 
 put-enables-requires : tie.Need-put-enables-requires
 put-enables-requires c κs =
@@ -42,12 +36,6 @@ put-enables-requires c κs =
 aoi-start-requires : tie.Need-aoi-start-requires
 aoi-start-requires c κs =
     omega (arith, rows-room (c .before .before .before .before .before .before .before .before .before .before .pre))
-
-add-store : tie.Need-add-store
-add-store c = search needs
-
-add-store-2 : tie.Need-add-store-2
-add-store-2 c = search needs
 
 store-requires : tie.Need-store-requires
 store-requires c κs =
@@ -73,12 +61,12 @@ pub store-aoi-spec : {M : Type 1} → statement M
 store-aoi-spec =
     tie.close
     (tie.spec
-    wide-requires
+    (λ c κs. search needs)
     put-hosts-requires
-    add-put-enables
+    (λ c. search needs)
     put-enables-requires
     aoi-start-requires
-    add-store
-    add-store-2
+    (λ c. search needs)
+    (λ c. search needs)
     store-requires
     returns)

@@ -15,7 +15,7 @@ abbrev μ-loop : tie.MeasureT-loop
 loop-holds : tie.Need-loop-holds Inv-loop μ-loop
 loop-holds c =
     let a = c .before .args in
-    bits-start (a .bits .now) (a .members .now) (a .names .now) (a .row) (a .place) _
+    bits-start (a .bits .now) (a .members .now) (a .names .now) (a .row) (a .place)
 
 mul-from : tie.Need-mul-from Inv-loop μ-loop
 mul-from c = omega arith

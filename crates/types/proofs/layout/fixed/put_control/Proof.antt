@@ -5,38 +5,11 @@ use Rattle.types.proofs.layout.fixed.FixedLaws.{first-long, second-long
 use Rattle.types.proofs.layout.fixed.put_control.Statement.{statement}
 use Rattle.types.proofs.layout.fixed.put_control.Tie as tie
 
-ctl-at-requires : tie.Need-ctl-at-requires
-ctl-at-requires c κs = search needs
-
-dint-at-requires : tie.Need-dint-at-requires
-dint-at-requires c κs = search needs
-
-dint-at-requires-2 : tie.Need-dint-at-requires-2
-dint-at-requires-2 c κs = search needs
-
-slice-aggregate-put-part : tie.Need-slice-aggregate-put-part
-slice-aggregate-put-part c = search needs
-
 put-part-requires : tie.Need-put-part-requires
 put-part-requires c κs =
     let ctl = c .before .before .before .before .before in
     let start = ctl .before .before .before in
     (omega (arith, start .pre .fit .rows), (omega (arith, start .pre .fit .names), rw (ctl .ctl-at .ensures) tt))
-
-add-put-part : tie.Need-add-put-part
-add-put-part c = search needs
-
-add-put-part-2 : tie.Need-add-put-part-2
-add-put-part-2 c = search needs
-
-sub-put-part : tie.Need-sub-put-part
-sub-put-part c = search needs
-
-part-put-part-start : tie.Need-part-put-part-start
-part-put-part-start c = search needs
-
-part-put-part-end : tie.Need-part-put-part-end
-part-put-part-end c = search needs
 
 put-part-requires-2 : tie.Need-put-part-requires-2
 put-part-requires-2 c κs =
@@ -45,21 +18,6 @@ put-part-requires-2 c κs =
     let long = first-long (start .args .words .now) (start .pre .long) in
     let fit = start .pre .fit in
     (omega (arith, fit .rows), (omega (arith, long, fit .names), rw (one .dint-at .ensures) tt))
-
-add-put-part-3 : tie.Need-add-put-part-3
-add-put-part-3 c = search needs
-
-add-put-part-4 : tie.Need-add-put-part-4
-add-put-part-4 c = search needs
-
-sub-put-part-2 : tie.Need-sub-put-part-2
-sub-put-part-2 c = search needs
-
-part-put-part-start-2 : tie.Need-part-put-part-start-2
-part-put-part-start-2 c = search needs
-
-part-put-part-end-2 : tie.Need-part-put-part-end-2
-part-put-part-end-2 c = search needs
 
 put-part-requires-3 : tie.Need-put-part-requires-3
 put-part-requires-3 c κs =
@@ -80,9 +38,6 @@ add-put-bits-2 c =
     let first = c .before .before .before .before .before .before .before .before .before .before in
     let start = first .before .before .before .before .before .before .before .before .before in
     omega (arith, start .pre .fit .names)
-
-put-bits-requires : tie.Need-put-bits-requires
-put-bits-requires c κs = search needs
 
 returns : tie.Need-returns
 returns c =
@@ -120,24 +75,24 @@ pub put-control-spec : {M : Type 1} → statement M
 put-control-spec =
     tie.close
     (tie.spec
-    ctl-at-requires
-    dint-at-requires
-    dint-at-requires-2
-    slice-aggregate-put-part
+    (λ c κs. search needs)
+    (λ c κs. search needs)
+    (λ c κs. search needs)
+    (λ c. search needs)
     put-part-requires
-    add-put-part
-    add-put-part-2
-    sub-put-part
-    part-put-part-start
-    part-put-part-end
+    (λ c. search needs)
+    (λ c. search needs)
+    (λ c. search needs)
+    (λ c. search needs)
+    (λ c. search needs)
     put-part-requires-2
-    add-put-part-3
-    add-put-part-4
-    sub-put-part-2
-    part-put-part-start-2
-    part-put-part-end-2
+    (λ c. search needs)
+    (λ c. search needs)
+    (λ c. search needs)
+    (λ c. search needs)
+    (λ c. search needs)
     put-part-requires-3
     add-put-bits
     add-put-bits-2
-    put-bits-requires
+    (λ c κs. search needs)
     returns)

@@ -5,28 +5,10 @@ use Rattle.types.proofs.layout.fixed.FixedLaws.{string-rows, string-nam
 use Rattle.types.proofs.layout.fixed.put_string.Statement.{statement}
 use Rattle.types.proofs.layout.fixed.put_string.Tie as tie
 
-dint-at-requires : tie.Need-dint-at-requires
-dint-at-requires c κs = search needs
-
-data-of-requires : tie.Need-data-of-requires
-data-of-requires c κs = search needs
-
-slice-aggregate-put-part : tie.Need-slice-aggregate-put-part
-slice-aggregate-put-part c = search needs
-
 put-part-requires : tie.Need-put-part-requires
 put-part-requires c κs =
     let made = c .before .before .before in
     (omega arith, (omega arith, rw (made .before .dint-at .ensures) tt))
-
-add-put-part : tie.Need-add-put-part
-add-put-part c = search needs
-
-add-put-part-2 : tie.Need-add-put-part-2
-add-put-part-2 c = search needs
-
-slice-aggregate-put-part-2 : tie.Need-slice-aggregate-put-part-2
-slice-aggregate-put-part-2 c = search needs
 
 put-part-requires-2 : tie.Need-put-part-requires-2
 put-part-requires-2 c κs =
@@ -48,12 +30,12 @@ pub put-string-spec : {M : Type 1} → statement M
 put-string-spec =
     tie.close
     (tie.spec
-    dint-at-requires
-    data-of-requires
-    slice-aggregate-put-part
+    (λ c κs. search needs)
+    (λ c κs. search needs)
+    (λ c. search needs)
     put-part-requires
-    add-put-part
-    add-put-part-2
-    slice-aggregate-put-part-2
+    (λ c. search needs)
+    (λ c. search needs)
+    (λ c. search needs)
     put-part-requires-2
     returns)

@@ -5,21 +5,6 @@ use Rattle.types.proofs.layout.DigitLaws.{host-long}
 use Rattle.types.proofs.layout.host_names.host_long.Statement.{statement}
 use Rattle.types.proofs.layout.host_names.host_long.Tie as tie
 
-at-most-ten-requires : tie.Need-at-most-ten-requires
-at-most-ten-requires c κs = search needs
-
-spell-requires : tie.Need-spell-requires
-spell-requires c κs = search needs
-
-add-result : tie.Need-add-result
-add-result c = search needs
-
-add-result-2 : tie.Need-add-result-2
-add-result-2 c = search needs
-
-cast-result : tie.Need-cast-result
-cast-result c = search needs
-
 returns : tie.Need-returns
 returns c =
     let spelled = c .before in
@@ -35,4 +20,5 @@ returns c =
 pub host-long-spec : {M : Type 1} → statement M
 host-long-spec =
     tie.close
-    (tie.spec at-most-ten-requires spell-requires add-result add-result-2 cast-result returns)
+    (tie.spec (λ c κs. search needs) (λ c κs. search needs) (λ c. search needs) (λ c. search needs)
+    (λ c. search needs) returns)

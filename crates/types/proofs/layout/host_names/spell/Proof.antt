@@ -5,9 +5,6 @@ use Rattle.types.proofs.layout.DigitLaws.{digits-1, digits-2, digits-3,
 use Rattle.types.proofs.layout.host_names.spell.Statement.{statement}
 use Rattle.types.proofs.layout.host_names.spell.Tie as tie
 
-digit-requires : tie.Need-digit-requires
-digit-requires c κs = search needs
-
 returns : tie.Need-returns
 returns c =
     let start = c .before .before in
@@ -17,9 +14,6 @@ returns c =
       least = omega arith;
       most = omega arith;
     }
-
-digit-requires-2 : tie.Need-digit-requires-2
-digit-requires-2 c κs = search needs
 
 returns-2 : tie.Need-returns-2
 returns-2 c =
@@ -32,9 +26,6 @@ returns-2 c =
       least = omega arith;
       most = omega arith;
     }
-
-digit-requires-3 : tie.Need-digit-requires-3
-digit-requires-3 c κs = search needs
 
 returns-3 : tie.Need-returns-3
 returns-3 c =
@@ -53,9 +44,6 @@ returns-3 c =
       most = omega arith;
     }
 
-digit-requires-4 : tie.Need-digit-requires-4
-digit-requires-4 c κs = search needs
-
 returns-4 : tie.Need-returns-4
 returns-4 c =
     let start = c .before .before .before .before .before .before .before .before in
@@ -73,9 +61,6 @@ returns-4 c =
       least = omega arith;
       most = omega arith;
     }
-
-digit-requires-5 : tie.Need-digit-requires-5
-digit-requires-5 c κs = search needs
 
 returns-5 : tie.Need-returns-5
 returns-5 c =
@@ -96,9 +81,6 @@ returns-5 c =
       least = omega arith;
       most = omega arith;
     }
-
-digit-requires-6 : tie.Need-digit-requires-6
-digit-requires-6 c κs = search needs
 
 returns-6 : tie.Need-returns-6
 returns-6 c =
@@ -126,15 +108,15 @@ pub spell-spec : {M : Type 1} → statement M
 spell-spec =
     tie.close
     (tie.spec
-    digit-requires
+    (λ c κs. search needs)
     returns
-    digit-requires-2
+    (λ c κs. search needs)
     returns-2
-    digit-requires-3
+    (λ c κs. search needs)
     returns-3
-    digit-requires-4
+    (λ c κs. search needs)
     returns-4
-    digit-requires-5
+    (λ c κs. search needs)
     returns-5
-    digit-requires-6
+    (λ c κs. search needs)
     returns-6)

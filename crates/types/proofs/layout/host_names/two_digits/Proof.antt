@@ -8,18 +8,12 @@ use Rattle.types.proofs.layout.DigitLaws.{host-short, host-digits}
 use Rattle.types.proofs.layout.host_names.two_digits.Statement.{statement}
 use Rattle.types.proofs.layout.host_names.two_digits.Tie as tie
 
-digit-requires : tie.Need-digit-requires
-digit-requires c κs = search needs
-
 returns : tie.Need-returns
 returns c = record {
   is = rw (c .digit .ensures) (host-short (c .before .before .args .x) (c .before .if1 .taken));
   room = omega arith;
   most = omega arith;
 }
-
-spell-requires : tie.Need-spell-requires
-spell-requires c κs = search needs
 
 returns-2 : tie.Need-returns-2
 returns-2 c =
@@ -31,4 +25,4 @@ returns-2 c =
     }
 
 pub two-digits-spec : {M : Type 1} → statement M
-two-digits-spec = tie.close (tie.spec digit-requires returns spell-requires returns-2)
+two-digits-spec = tie.close (tie.spec (λ c κs. search needs) returns (λ c κs. search needs) returns-2)

@@ -44,20 +44,11 @@ measure-one-requires c κs =
     let at-loop = c .before .before in
     rw (c .decl-at .ensures) (one-near (at-loop .loop .inv) (c .before .loop-test .taken) (bytes at-loop))
 
-enum-known-one : tie.Need-enum-known-one Inv-loop μ-loop
-enum-known-one c = search needs
-
-enum-told : tie.Need-enum-told Inv-loop μ-loop
-enum-told c = search needs
-
 returns : tie.Need-returns Inv-loop μ-loop
 returns c =
     let one = c .before .before in
     refused-access (one .before .before .before .loop .inv) (one .before .before .loop-test .taken)
     (bytes (one .before .before .before)) _ (measure one) (c .enum-told .given .1)
-
-enum-told-2 : tie.Need-enum-told-2 Inv-loop μ-loop
-enum-told-2 c = search needs
 
 returns-2 : tie.Need-returns-2 Inv-loop μ-loop
 returns-2 c =
@@ -89,10 +80,10 @@ measure-spec =
     loop-holds
     decl-at-requires
     measure-one-requires
-    enum-known-one
-    enum-told
+    (λ c. search needs)
+    (λ c. search needs)
     returns
-    enum-told-2
+    (λ c. search needs)
     returns-2
     add-j
     loop-less

@@ -5,33 +5,6 @@ use Rattle.types.proofs.layout.MeasureLaws.{one-hosted, one-alone, one-
 use Rattle.types.proofs.layout.measure.measure_one.Statement.{statement}
 use Rattle.types.proofs.layout.measure.measure_one.Tie as tie
 
-place-requires : tie.Need-place-requires
-place-requires c κs = search needs
-
-enum-known-p : tie.Need-enum-known-p
-enum-known-p c = search needs
-
-host-long-requires : tie.Need-host-long-requires
-host-long-requires c κs = search needs
-
-add-t11 : tie.Need-add-t11
-add-t11 c = search needs
-
-add-t12 : tie.Need-add-t12
-add-t12 c = search needs
-
-enum-known-p-2 : tie.Need-enum-known-p-2
-enum-known-p-2 c = search needs
-
-add-t13 : tie.Need-add-t13
-add-t13 c = search needs
-
-enum-told : tie.Need-enum-told
-enum-told c = search needs
-
-enum-told-2 : tie.Need-enum-told-2
-enum-told-2 c = search needs
-
 returns : tie.Need-returns
 returns c =
     let way = c .before .before in
@@ -63,15 +36,15 @@ pub measure-one-spec : {M : Type 1} → statement M
 measure-one-spec =
     tie.close
     (tie.spec
-    place-requires
-    enum-known-p
-    host-long-requires
-    add-t11
-    add-t12
-    enum-known-p-2
-    add-t13
-    enum-told
-    enum-told-2
+    (λ c κs. search needs)
+    (λ c. search needs)
+    (λ c κs. search needs)
+    (λ c. search needs)
+    (λ c. search needs)
+    (λ c. search needs)
+    (λ c. search needs)
+    (λ c. search needs)
+    (λ c. search needs)
     returns
     returns-2
     returns-3

@@ -7,15 +7,6 @@ use Rattle.types.proofs.layout.LayoutLaws.{align-most}
 use Rattle.types.proofs.layout.placing.align_up.Statement.{statement}
 use Rattle.types.proofs.layout.placing.align_up.Tie as tie
 
-sub-result : tie.Need-sub-result
-sub-result c = search needs
-
-add-result : tie.Need-add-result
-add-result c = search needs
-
-div-result : tie.Need-div-result
-div-result c = search needs
-
 mul-result : tie.Need-mul-result
 mul-result c = omega (arith, align-most (c .args .x) (c .args .align), c .pre .far, c .pre .most)
 
@@ -24,4 +15,4 @@ unfolding alignUp
 returns c = refl
 
 pub align-up-spec : {M : Type 1} → statement M
-align-up-spec = tie.close (tie.spec sub-result add-result div-result mul-result returns)
+align-up-spec = tie.close (tie.spec (λ c. search needs) (λ c. search needs) (λ c. search needs) mul-result returns)

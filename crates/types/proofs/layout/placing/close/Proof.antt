@@ -5,15 +5,6 @@ use Rattle.types.specs.layout.Placing.{closed}
 use Rattle.types.proofs.layout.placing.close.Statement.{statement}
 use Rattle.types.proofs.layout.placing.close.Tie as tie
 
-enum-told : tie.Need-enum-told
-enum-told c = search needs
-
-enum-told-2 : tie.Need-enum-told-2
-enum-told-2 c = search needs
-
-enum-known-host : tie.Need-enum-known-host
-enum-known-host c = search needs
-
 returns : tie.Need-returns
 unfolding closed
 returns c = sym (ap closed (c .enum-told .given .1))
@@ -27,4 +18,5 @@ unfolding closed
 returns-3 c = sym (ap closed (c .before .host .given .1))
 
 pub close-spec : {M : Type 1} → statement M
-close-spec = tie.close (tie.spec enum-told enum-told-2 enum-known-host returns returns-2 returns-3)
+close-spec = tie.close (tie.spec (λ c. search needs) (λ c. search needs)
+    (λ c. search needs) returns returns-2 returns-3)

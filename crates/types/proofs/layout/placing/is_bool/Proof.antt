@@ -7,15 +7,6 @@ use Rattle.types.specs.layout.Placing.{isBool}
 use Rattle.types.proofs.layout.placing.is_bool.Statement.{statement}
 use Rattle.types.proofs.layout.placing.is_bool.Tie as tie
 
-enum-known-ty : tie.Need-enum-known-ty
-enum-known-ty c = search needs
-
-num-requires : tie.Need-num-requires
-num-requires c κs = search needs
-
-enum-told : tie.Need-enum-told
-enum-told c = search needs
-
 returns : tie.Need-returns
 unfolding isBool
 returns c = ap (λ (n : ℕ). eqb n 0) (c .num .ensures .is) ∙ sym (ap isBool (c .before .before .ty .given .1))
@@ -25,4 +16,4 @@ unfolding isBool
 returns-2 c = sym (ap isBool (c .enum-told .given .1))
 
 pub is-bool-spec : {M : Type 1} → statement M
-is-bool-spec = tie.close (tie.spec enum-known-ty num-requires enum-told returns returns-2)
+is-bool-spec = tie.close (tie.spec (λ c. search needs) (λ c κs. search needs) (λ c. search needs) returns returns-2)

@@ -16,23 +16,11 @@ sum : (c : tie.After-elements) → c .before .before .wide64 .result + c .before
     (c .before .before .before .args .count)
 sum c = rw (c .before .before .wide64 .ensures, c .before .wide642 .ensures, c .elements .ensures .is)
 
-wide64-requires : tie.Need-wide64-requires
-wide64-requires c κs = search needs
-
-wide64-requires-2 : tie.Need-wide64-requires-2
-wide64-requires-2 c κs = search needs
-
-elements-requires : tie.Need-elements-requires
-elements-requires c κs = search needs
-
 mul-end : tie.Need-mul-end
 mul-end c = omega (arith, product c)
 
 add-end : tie.Need-add-end
 add-end c = omega (arith, product c)
-
-cast-t10 : tie.Need-cast-t10
-cast-t10 c = search needs
 
 returns : tie.Need-returns
 returns c =
@@ -48,11 +36,11 @@ pub member-end-spec : {M : Type 1} → statement M
 member-end-spec =
     tie.close
     (tie.spec
-    wide64-requires
-    wide64-requires-2
-    elements-requires
+    (λ c κs. search needs)
+    (λ c κs. search needs)
+    (λ c κs. search needs)
     mul-end
     add-end
-    cast-t10
+    (λ c. search needs)
     returns
     returns-2)

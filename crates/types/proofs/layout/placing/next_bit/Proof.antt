@@ -5,12 +5,9 @@ use Rattle.types.specs.layout.Placing.{nextBit}
 use Rattle.types.proofs.layout.placing.next_bit.Statement.{statement}
 use Rattle.types.proofs.layout.placing.next_bit.Tie as tie
 
-add-t10 : tie.Need-add-t10
-add-t10 c = search needs
-
 returns : tie.Need-returns
 unfolding nextBit
 returns c = refl
 
 pub next-bit-spec : {M : Type 1} → statement M
-next-bit-spec = tie.close (tie.spec add-t10 returns)
+next-bit-spec = tie.close (tie.spec (λ c. search needs) returns)

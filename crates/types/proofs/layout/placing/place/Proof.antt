@@ -5,15 +5,6 @@ use Rattle.types.proofs.layout.LayoutLaws.{placed-bool, placed-other, p
 use Rattle.types.proofs.layout.placing.place.Statement.{statement}
 use Rattle.types.proofs.layout.placing.place.Tie as tie
 
-access-ok-requires : tie.Need-access-ok-requires
-access-ok-requires c κs = search needs
-
-is-bool-requires : tie.Need-is-bool-requires
-is-bool-requires c κs = search needs
-
-place-bool-requires : tie.Need-place-bool-requires
-place-bool-requires c κs = search needs
-
 returns : tie.Need-returns
 returns c =
     let way = c .before .before in
@@ -21,9 +12,6 @@ returns c =
     c .place-bool .ensures
     ∙ placed-bool (a .c) (a .d) (sym (way .before .before .access-ok .ensures) ∙ way .before .if1 .taken)
     (sym (way .is-bool .ensures) ∙ c .before .if2 .taken)
-
-place-other-requires : tie.Need-place-other-requires
-place-other-requires c κs = search needs
 
 returns-2 : tie.Need-returns-2
 returns-2 c =
@@ -42,10 +30,10 @@ pub place-spec : {M : Type 1} → statement M
 place-spec =
     tie.close
     (tie.spec
-    access-ok-requires
-    is-bool-requires
-    place-bool-requires
+    (λ c κs. search needs)
+    (λ c κs. search needs)
+    (λ c κs. search needs)
     returns
-    place-other-requires
+    (λ c κs. search needs)
     returns-2
     returns-3)

@@ -7,43 +7,10 @@ use Rattle.types.specs.layout.Placing.{placeBool}
 use Rattle.types.proofs.layout.placing.place_bool.Statement.{statement}
 use Rattle.types.proofs.layout.placing.place_bool.Tie as tie
 
-enum-told : tie.Need-enum-told
-enum-told c = search needs
-
-opened-requires : tie.Need-opened-requires
-opened-requires c κs = search needs
-
-enum-known-host : tie.Need-enum-known-host
-enum-known-host c = search needs
-
-add-t11 : tie.Need-add-t11
-add-t11 c = search needs
-
-next-bit-requires : tie.Need-next-bit-requires
-next-bit-requires c κs = search needs
-
-opened-requires-2 : tie.Need-opened-requires-2
-opened-requires-2 c κs = search needs
-
-enum-known-host-2 : tie.Need-enum-known-host-2
-enum-known-host-2 c = search needs
-
-mul-byte : tie.Need-mul-byte
-mul-byte c = search needs
-
-add-byte : tie.Need-add-byte
-add-byte c = search needs
-
-cast-next-bit : tie.Need-cast-next-bit
-cast-next-bit c = search needs
-
 add-t16 : tie.Need-add-t16
 add-t16 c =
     let h = rw (c .before .host2 .given .1) at (c .before .before .before .pre .bits) in
     omega arith
-
-next-bit-requires-2 : tie.Need-next-bit-requires-2
-next-bit-requires-2 c κs = search needs
 
 returns : tie.Need-returns
 unfolding placeBool
@@ -67,18 +34,18 @@ pub place-bool-spec : {M : Type 1} → statement M
 place-bool-spec =
     tie.close
     (tie.spec
-    enum-told
-    opened-requires
-    enum-known-host
-    add-t11
-    next-bit-requires
-    opened-requires-2
-    enum-known-host-2
-    mul-byte
-    add-byte
-    cast-next-bit
+    (λ c. search needs)
+    (λ c κs. search needs)
+    (λ c. search needs)
+    (λ c. search needs)
+    (λ c κs. search needs)
+    (λ c κs. search needs)
+    (λ c. search needs)
+    (λ c. search needs)
+    (λ c. search needs)
+    (λ c. search needs)
     add-t16
-    next-bit-requires-2
+    (λ c κs. search needs)
     returns
     returns-2
     returns-3

@@ -5,24 +5,6 @@ use Rattle.types.proofs.layout.LayoutLaws.{other-over, other-at}
 use Rattle.types.proofs.layout.placing.place_other.Statement.{statement}
 use Rattle.types.proofs.layout.placing.place_other.Tie as tie
 
-align-up-requires : tie.Need-align-up-requires
-align-up-requires c κs = search needs
-
-member-end-requires : tie.Need-member-end-requires
-member-end-requires c κs = search needs
-
-close-requires : tie.Need-close-requires
-close-requires c κs = search needs
-
-enum-told : tie.Need-enum-told
-enum-told c = search needs
-
-enum-known-end : tie.Need-enum-known-end
-enum-known-end c = search needs
-
-add-t12 : tie.Need-add-t12
-add-t12 c = search needs
-
 returns : tie.Need-returns
 unfolding startOf
 returns c =
@@ -45,11 +27,11 @@ pub place-other-spec : {M : Type 1} → statement M
 place-other-spec =
     tie.close
     (tie.spec
-    align-up-requires
-    member-end-requires
-    close-requires
-    enum-told
-    enum-known-end
-    add-t12
+    (λ c κs. search needs)
+    (λ c κs. search needs)
+    (λ c κs. search needs)
+    (λ c. search needs)
+    (λ c. search needs)
+    (λ c. search needs)
     returns
     returns-2)

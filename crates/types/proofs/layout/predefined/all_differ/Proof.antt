@@ -1,5 +1,5 @@
 -- `types::all_differ` meets its contract, one pair after the other.
-use Rattle.types.proofs.layout.PredefinedLaws.{same-1, same-2, same-3, same-4, same-5, same-6}
+use Rattle.types.proofs.layout.PredefinedIds.{same-1, same-2, same-3, same-4, same-5, same-6}
 use Rattle.types.proofs.layout.predefined.all_differ.Statement.{statement}
 use Rattle.types.proofs.layout.predefined.all_differ.Tie as tie
 

@@ -1,5 +1,5 @@
 -- `types::id_ok` meets its contract, one test after the other.
-use Rattle.types.proofs.layout.PredefinedLaws.{id-zero, id-large, id-low, id-user, id-high}
+use Rattle.types.proofs.layout.PredefinedIds.{id-zero, id-large, id-low, id-user, id-high}
 use Rattle.types.proofs.layout.predefined.id_ok.Statement.{statement}
 use Rattle.types.proofs.layout.predefined.id_ok.Tie as tie
 

@@ -4,7 +4,7 @@ use borrow.Author.Tests.{not-true, not-false}
 use mathlib.Core.Path.{_≡_, sym, _∙_}
 use mathlib.Core.Bool.{true}
 use Rattle.types.specs.layout.Predefined.{predefinedId}
-use Rattle.types.proofs.layout.PredefinedLaws.{wrong-1, wrong-2, wrong-3, wrong-4, ids-differ}
+use Rattle.types.proofs.layout.PredefinedIds.{wrong-1, wrong-2, wrong-3, wrong-4, ids-differ}
 use Rattle.types.proofs.layout.predefined.ids_ok.Statement.{statement}
 use Rattle.types.proofs.layout.predefined.ids_ok.Tie as tie
 
@@ -18,21 +18,12 @@ two c = sym (c .before .id-ok2 .ensures) ∙ not-false _ (c .if2 .left)
 three : (c : tie.Else3) → predefinedId (c .before .before .before .before .before .before .args .ids .control) ≡ true
 three c = sym (c .before .id-ok3 .ensures) ∙ not-false _ (c .if3 .left)
 
-id-ok-requires : tie.Need-id-ok-requires
-id-ok-requires c κs = search needs
-
 returns : tie.Need-returns
 returns c = wrong-1 _ (sym (c .before .id-ok .ensures) ∙ not-true _ (c .if1 .taken))
-
-id-ok-requires-2 : tie.Need-id-ok-requires-2
-id-ok-requires-2 c κs = search needs
 
 returns-2 : tie.Need-returns-2
 returns-2 c =
     wrong-2 _ (one (c .before .before)) (sym (c .before .id-ok2 .ensures) ∙ not-true _ (c .if2 .taken))
-
-id-ok-requires-3 : tie.Need-id-ok-requires-3
-id-ok-requires-3 c κs = search needs
 
 returns-3 : tie.Need-returns-3
 returns-3 c =
@@ -40,18 +31,12 @@ returns-3 c =
     wrong-3 _ (one (second .before .before)) (two second)
     (sym (c .before .id-ok3 .ensures) ∙ not-true _ (c .if3 .taken))
 
-id-ok-requires-4 : tie.Need-id-ok-requires-4
-id-ok-requires-4 c κs = search needs
-
 returns-4 : tie.Need-returns-4
 returns-4 c =
     let third = c .before .before in
     let second = third .before .before in
     wrong-4 _ (one (second .before .before)) (two second) (three third)
     (sym (c .before .id-ok4 .ensures) ∙ not-true _ (c .if4 .taken))
-
-all-differ-requires : tie.Need-all-differ-requires
-all-differ-requires c κs = search needs
 
 returns-5 : tie.Need-returns-5
 returns-5 c =
@@ -66,13 +51,13 @@ pub ids-ok-spec : {M : Type 1} → statement M
 ids-ok-spec =
     tie.close
     (tie.spec
-    id-ok-requires
+    (λ c κs. search needs)
     returns
-    id-ok-requires-2
+    (λ c κs. search needs)
     returns-2
-    id-ok-requires-3
+    (λ c κs. search needs)
     returns-3
-    id-ok-requires-4
+    (λ c κs. search needs)
     returns-4
-    all-differ-requires
+    (λ c κs. search needs)
     returns-5)

@@ -14,24 +14,6 @@ begun c =
     let placed = c .before .before .before .before .before .before .before in
     placed .before .before .before .before .before .before .before
 
-add-count : tie.Need-add-count
-add-count c = search needs
-
-put-bytes-requires : tie.Need-put-bytes-requires
-put-bytes-requires c κs = search needs
-
-add-put-control : tie.Need-add-put-control
-add-put-control c = search needs
-
-put-control-requires : tie.Need-put-control-requires
-put-control-requires c κs = search needs
-
-cast-bare-head : tie.Need-cast-bare-head
-cast-bare-head c = search needs
-
-bare-head-requires : tie.Need-bare-head-requires
-bare-head-requires c κs = search needs
-
 enter-requires : tie.Need-enter-requires
 enter-requires c κs =
     let bare = c .before .before .before in
@@ -72,12 +54,12 @@ pub put-control-def-spec : {M : Type 1} → statement M
 put-control-def-spec =
     tie.close
     (tie.spec
-    add-count
-    put-bytes-requires
-    add-put-control
-    put-control-requires
-    cast-bare-head
-    bare-head-requires
+    (λ c. search needs)
+    (λ c κs. search needs)
+    (λ c. search needs)
+    (λ c κs. search needs)
+    (λ c. search needs)
+    (λ c κs. search needs)
     enter-requires
     add-used-more
     add-used-more-2

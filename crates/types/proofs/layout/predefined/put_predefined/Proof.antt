@@ -3,11 +3,10 @@ use borrow.Author.Needs.{needs}
 use native.Mathlib.Omega.{arith}
 use Rattle.types.specs.inside.tables.Registry.{Stands}
 use Rattle.types.specs.layout.Predefined.{withTimer, withCounter, withControl}
-use Rattle.types.proofs.layout.PredefinedLaws.{Allowed, ids-allowed, ready-for, none-built, timer-built}
-use Rattle.types.proofs.layout.PredefinedLaws.{counter-built}
-use Rattle.types.proofs.layout.PredefinedLaws.{control-built, none-stands, timer-stands, counter-stands}
-use Rattle.types.proofs.layout.PredefinedLaws.{control-stands, string-stands, timer-ready, counter-ready}
-use Rattle.types.proofs.layout.PredefinedLaws.{control-ready}
+use Rattle.types.proofs.layout.PredefinedIds.{Allowed, ids-allowed}
+use Rattle.types.proofs.layout.PredefinedLaws.{ready-for, none-built, timer-built, counter-built, control-built}
+use Rattle.types.proofs.layout.PredefinedLaws.{none-stands, timer-stands, counter-stands, control-stands}
+use Rattle.types.proofs.layout.PredefinedLaws.{string-stands, timer-ready, counter-ready, control-ready}
 use Rattle.types.proofs.layout.predefined.put_predefined.Statement.{statement}
 use Rattle.types.proofs.layout.predefined.put_predefined.Tie as tie
 
@@ -46,29 +45,11 @@ three c =
     let second = c .before .before .before .before .before .before .before in
     control-stands _ (good (from-3 c)) (two second) (c .put-control-def3 .ensures)
 
-slice-aggregate-put-control-def : tie.Need-slice-aggregate-put-control-def
-slice-aggregate-put-control-def c = search needs
-
-slice-aggregate-put-control-def-2 : tie.Need-slice-aggregate-put-control-def-2
-slice-aggregate-put-control-def-2 c = search needs
-
-slice-aggregate-put-control-def-3 : tie.Need-slice-aggregate-put-control-def-3
-slice-aggregate-put-control-def-3 c = search needs
-
 put-control-def-requires : tie.Need-put-control-def-requires
 put-control-def-requires c κs =
     let p = c .before .before .before .before .before .before .pre .0 in
     timer-ready
     (ready-for none-built (none-stands (p .0) (p .1 .0) (p .1 .1)) (omega arith) (omega arith) (omega arith))
-
-slice-aggregate-put-control-def-4 : tie.Need-slice-aggregate-put-control-def-4
-slice-aggregate-put-control-def-4 c = search needs
-
-slice-aggregate-put-control-def-5 : tie.Need-slice-aggregate-put-control-def-5
-slice-aggregate-put-control-def-5 c = search needs
-
-slice-aggregate-put-control-def-6 : tie.Need-slice-aggregate-put-control-def-6
-slice-aggregate-put-control-def-6 c = search needs
 
 put-control-def-requires-2 : tie.Need-put-control-def-requires-2
 put-control-def-requires-2 c κs =
@@ -76,23 +57,11 @@ put-control-def-requires-2 c κs =
     counter-ready
     (ready-for (timer-built _ (good (from-1 first))) (one first) (omega arith) (omega arith) (omega arith))
 
-slice-aggregate-put-control-def-7 : tie.Need-slice-aggregate-put-control-def-7
-slice-aggregate-put-control-def-7 c = search needs
-
-slice-aggregate-put-control-def-8 : tie.Need-slice-aggregate-put-control-def-8
-slice-aggregate-put-control-def-8 c = search needs
-
-slice-aggregate-put-control-def-9 : tie.Need-slice-aggregate-put-control-def-9
-slice-aggregate-put-control-def-9 c = search needs
-
 put-control-def-requires-3 : tie.Need-put-control-def-requires-3
 put-control-def-requires-3 c κs =
     let second = c .before .before .before .before .before .before in
     control-ready
     (ready-for (counter-built _ (good (from-2 second))) (two second) (omega arith) (omega arith) (omega arith))
-
-slice-aggregate-store-string : tie.Need-slice-aggregate-store-string
-slice-aggregate-store-string c = search needs
 
 store-string-requires : tie.Need-store-string-requires
 store-string-requires c κs =
@@ -110,18 +79,18 @@ pub put-predefined-spec : {M : Type 1} → statement M
 put-predefined-spec =
     tie.close
     (tie.spec
-    slice-aggregate-put-control-def
-    slice-aggregate-put-control-def-2
-    slice-aggregate-put-control-def-3
+    (λ c. search needs)
+    (λ c. search needs)
+    (λ c. search needs)
     put-control-def-requires
-    slice-aggregate-put-control-def-4
-    slice-aggregate-put-control-def-5
-    slice-aggregate-put-control-def-6
+    (λ c. search needs)
+    (λ c. search needs)
+    (λ c. search needs)
     put-control-def-requires-2
-    slice-aggregate-put-control-def-7
-    slice-aggregate-put-control-def-8
-    slice-aggregate-put-control-def-9
+    (λ c. search needs)
+    (λ c. search needs)
+    (λ c. search needs)
     put-control-def-requires-3
-    slice-aggregate-store-string
+    (λ c. search needs)
     store-string-requires
     returns)

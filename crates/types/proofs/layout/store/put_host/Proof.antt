@@ -8,21 +8,6 @@ use Rattle.types.proofs.layout.StoreLaws.{one-row-of, one-name}
 use Rattle.types.proofs.layout.store.put_host.Statement.{statement}
 use Rattle.types.proofs.layout.store.put_host.Tie as tie
 
-host-long-requires : tie.Need-host-long-requires
-host-long-requires c κs = search needs
-
-put-host-name-requires : tie.Need-put-host-name-requires
-put-host-name-requires c κs = search needs
-
-cast-t12 : tie.Need-cast-t12
-cast-t12 c = search needs
-
-put-member-requires : tie.Need-put-member-requires
-put-member-requires c κs = search needs
-
-cast-result : tie.Need-cast-result
-cast-result c = search needs
-
 returns : tie.Need-returns
 returns c =
     let put = c .before .before in
@@ -42,9 +27,9 @@ pub put-host-spec : {M : Type 1} → statement M
 put-host-spec =
     tie.close
     (tie.spec
-    host-long-requires
-    put-host-name-requires
-    cast-t12
-    put-member-requires
-    cast-result
+    (λ c κs. search needs)
+    (λ c κs. search needs)
+    (λ c. search needs)
+    (λ c κs. search needs)
+    (λ c. search needs)
     returns)

@@ -7,18 +7,6 @@ use Rattle.types.proofs.layout.StoreLaws.{one-row, one-name}
 use Rattle.types.proofs.layout.store.put_part.Statement.{statement}
 use Rattle.types.proofs.layout.store.put_part.Tie as tie
 
-put-bytes-requires : tie.Need-put-bytes-requires
-put-bytes-requires c κs = search needs
-
-cast-t11 : tie.Need-cast-t11
-cast-t11 c = search needs
-
-cast-t12 : tie.Need-cast-t12
-cast-t12 c = search needs
-
-put-member-requires : tie.Need-put-member-requires
-put-member-requires c κs = search needs
-
 returns : tie.Need-returns
 returns c =
     let put = c .before .before in
@@ -29,4 +17,4 @@ returns c =
 
 pub put-part-spec : {M : Type 1} → statement M
 put-part-spec =
-    tie.close (tie.spec put-bytes-requires cast-t11 cast-t12 put-member-requires returns)
+    tie.close (tie.spec (λ c κs. search needs) (λ c. search needs) (λ c. search needs) (λ c κs. search needs) returns)

@@ -9,8 +9,7 @@ use Rattle.types.specs.inside.book.Decls.{declAt}
 use Rattle.types.specs.inside.layout.Passes.{oneParts, storedOne}
 use Rattle.types.specs.layout.Structs.{rowsOf, namesOf}
 use Rattle.types.proofs.layout.store.Storing.{Storing, starts, rows-done, names-done, one-found, one-fits}
-use Rattle.types.proofs.layout.store.Storing.{rows-stopped}
-use Rattle.types.proofs.layout.store.Storing.{names-stopped, goes-on}
+use Rattle.types.proofs.layout.store.Storing.{rows-stopped, names-stopped, goes-on}
 use Rattle.types.proofs.layout.store.store.Statement.{statement}
 use Rattle.types.proofs.layout.store.store.Tie as tie
 
@@ -73,12 +72,6 @@ store-one-requires c κs =
     rw (c .before .before .decl-at .ensures)
     (one-fits (at-loop .loop .inv) (c .before .before .before .loop-test .taken) (bytes at-loop))
 
-enum-known-one : tie.Need-enum-known-one Inv-loop μ-loop
-enum-known-one c = search needs
-
-enum-told : tie.Need-enum-told Inv-loop μ-loop
-enum-told c = search needs
-
 returns : tie.Need-returns Inv-loop μ-loop
 returns c =
     let one = c .before .before in
@@ -116,8 +109,8 @@ store-spec =
     loop-holds
     decl-at-requires
     store-one-requires
-    enum-known-one
-    enum-told
+    (λ c. search needs)
+    (λ c. search needs)
     returns
     add-j
     loop-less

@@ -7,10 +7,8 @@ use mathlib.Core.Logic.{inl, inr}
 use lib.ListN.{length, take, drop}
 use Rattle.types.specs.tables.Defs.{nameIn}
 use Rattle.types.proofs.layout.StoreOneLaws.{lent-name, lent-long, TwoFit, OneFits, two-fit, one-fits}
-use Rattle.types.proofs.layout.StoreOneLaws.{next-hosted}
-use Rattle.types.proofs.layout.StoreOneLaws.{next-alone}
-use Rattle.types.proofs.layout.StoreOneLaws.{stop-access, stop-far, rows-hosted, names-hosted, rows-alone}
-use Rattle.types.proofs.layout.StoreOneLaws.{names-alone, rows-kept, names-kept}
+use Rattle.types.proofs.layout.StoreOneLaws.{next-hosted, next-alone, stop-access, stop-far, rows-hosted}
+use Rattle.types.proofs.layout.StoreOneLaws.{names-hosted, rows-alone, names-alone, rows-kept, names-kept}
 use Rattle.types.proofs.layout.store.store_one.Statement.{statement}
 use Rattle.types.proofs.layout.store.store_one.Tie as tie
 
@@ -46,29 +44,11 @@ long c =
     lent-long _ _ _ _ (c .before .before .wide .ensures) (c .before .wide2 .ensures)
     (c .before .before .before .before .before .pre .name)
 
-wide-requires : tie.Need-wide-requires
-wide-requires c κs = search needs
-
-wide-requires-2 : tie.Need-wide-requires-2
-wide-requires-2 c κs = search needs
-
-add-end : tie.Need-add-end
-add-end c = search needs
-
-place-requires : tie.Need-place-requires
-place-requires c κs = search needs
-
-enum-known-p : tie.Need-enum-known-p
-enum-known-p c = search needs
-
 put-host-requires : tie.Need-put-host-requires
 put-host-requires c κs =
     let p = c .before .before .before in
     let start = p .before .before .before .before .before .before .before in
     (omega (arith, two p .rows), (start .pre .near .few, (omega (arith, two p .names), two p .host)))
-
-add-put-part : tie.Need-add-put-part
-add-put-part c = search needs
 
 add-put-part-2 : tie.Need-add-put-part-2
 add-put-part-2 c =
@@ -78,15 +58,6 @@ add-put-part-2 c =
       c .before .before .put-host
           .ensures .0,
     )
-
-sub-put-part : tie.Need-sub-put-part
-sub-put-part c = search needs
-
-part-put-part-start : tie.Need-part-put-part-start
-part-put-part-start c = search needs
-
-part-put-part-end : tie.Need-part-put-part-end
-part-put-part-end c = search needs
 
 put-part-requires : tie.Need-put-part-requires
 put-part-requires c κs =
@@ -122,34 +93,10 @@ add-t26 c =
           .before .before .before .wide2 .ensures,
     )
 
-enum-known-p-2 : tie.Need-enum-known-p-2
-enum-known-p-2 c = search needs
-
-sub-put-part-2 : tie.Need-sub-put-part-2
-sub-put-part-2 c = search needs
-
-part-put-part-start-2 : tie.Need-part-put-part-start-2
-part-put-part-start-2 c = search needs
-
-part-put-part-end-2 : tie.Need-part-put-part-end-2
-part-put-part-end-2 c = search needs
-
 put-part-requires-2 : tie.Need-put-part-requires-2
 put-part-requires-2 c κs =
     let p = c .before .before .before .before in
     (omega (arith, one p .rows), (omega (arith, one p .names, long (p .before .before)), one p .member))
-
-add-t35 : tie.Need-add-t35
-add-t35 c = search needs
-
-add-t38 : tie.Need-add-t38
-add-t38 c = search needs
-
-enum-told : tie.Need-enum-told
-enum-told c = search needs
-
-enum-told-2 : tie.Need-enum-told-2
-enum-told-2 c = search needs
 
 returns : tie.Need-returns
 returns c =
@@ -219,30 +166,30 @@ pub store-one-spec : {M : Type 1} → statement M
 store-one-spec =
     tie.close
     (tie.spec
-    wide-requires
-    wide-requires-2
-    add-end
-    place-requires
-    enum-known-p
+    (λ c κs. search needs)
+    (λ c κs. search needs)
+    (λ c. search needs)
+    (λ c κs. search needs)
+    (λ c. search needs)
     put-host-requires
-    add-put-part
+    (λ c. search needs)
     add-put-part-2
-    sub-put-part
-    part-put-part-start
-    part-put-part-end
+    (λ c. search needs)
+    (λ c. search needs)
+    (λ c. search needs)
     put-part-requires
     add-t24
     add-t28
     add-t26
-    enum-known-p-2
-    sub-put-part-2
-    part-put-part-start-2
-    part-put-part-end-2
+    (λ c. search needs)
+    (λ c. search needs)
+    (λ c. search needs)
+    (λ c. search needs)
     put-part-requires-2
-    add-t35
-    add-t38
-    enum-told
-    enum-told-2
+    (λ c. search needs)
+    (λ c. search needs)
+    (λ c. search needs)
+    (λ c. search needs)
     returns
     returns-2
     returns-3

@@ -4,9 +4,6 @@ use Rattle.types.specs.inside.layout.Passes.{udtParts}
 use Rattle.types.proofs.layout.udt.store_udt.Statement.{statement}
 use Rattle.types.proofs.layout.udt.store_udt.Tie as tie
 
-udt-start-requires : tie.Need-udt-start-requires
-udt-start-requires c κs = search needs
-
 store-requires : tie.Need-store-requires
 store-requires c κs =
     rw (c .before .before .udt-start .ensures) (c .before .before .before .before .before .before .pre)
@@ -16,4 +13,4 @@ unfolding udtParts
 returns c = rw (c .before .before .before .udt-start .ensures) at (c .store .ensures)
 
 pub store-udt-spec : {M : Type 1} → statement M
-store-udt-spec = tie.close (tie.spec udt-start-requires store-requires returns)
+store-udt-spec = tie.close (tie.spec (λ c κs. search needs) store-requires returns)

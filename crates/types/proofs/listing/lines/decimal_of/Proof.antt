@@ -15,12 +15,6 @@ abbrev μ-loop : tie.MeasureT-loop
 loop-holds : tie.Need-loop-holds Inv-loop μ-loop
 loop-holds c = spell-first (c .args .x) (omega arith)
 
-last-digit-requires : tie.Need-last-digit-requires Inv-loop μ-loop
-last-digit-requires c κs = search needs
-
-array-write-bytes : tie.Need-array-write-bytes Inv-loop μ-loop
-array-write-bytes c = search needs
-
 sub-from : tie.Need-sub-from Inv-loop μ-loop
 sub-from c =
     let turn = c .before in
@@ -34,12 +28,6 @@ loop-again c =
     let turn = c .before in
     spell-on (turn .before .loop .inv) (c .last-digit .ensures) (turn .loop-test .taken)
 
-last-digit-requires-2 : tie.Need-last-digit-requires-2 Inv-loop μ-loop
-last-digit-requires-2 c κs = search needs
-
-array-write-bytes-2 : tie.Need-array-write-bytes-2 Inv-loop μ-loop
-array-write-bytes-2 c = search needs
-
 returns : tie.Need-returns Inv-loop μ-loop
 returns c =
     let past = c .before in
@@ -52,11 +40,11 @@ decimal-of-spec =
     Inv-loop
     μ-loop
     loop-holds
-    last-digit-requires
-    array-write-bytes
+    (λ c κs. search needs)
+    (λ c. search needs)
     sub-from
     loop-less
     loop-again
-    last-digit-requires-2
-    array-write-bytes-2
+    (λ c κs. search needs)
+    (λ c. search needs)
     returns)

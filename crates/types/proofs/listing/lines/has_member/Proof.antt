@@ -6,14 +6,8 @@ use Rattle.types.proofs.tables.ThereLaws.{there-below}
 use Rattle.types.proofs.listing.lines.has_member.Statement.{statement}
 use Rattle.types.proofs.listing.lines.has_member.Tie as tie
 
-is-there-requires : tie.Need-is-there-requires
-is-there-requires c κs = search needs
-
 type-row-requires : tie.Need-type-row-requires
 type-row-requires c κs = there-below _ _ (sym (c .before .is-there .ensures) ∙ c .if1 .taken)
-
-wide-requires : tie.Need-wide-requires
-wide-requires c κs = search needs
 
 returns : tie.Need-returns
 unfolding hasMember
@@ -27,4 +21,4 @@ returns-2 c = rw (sym (c .before .is-there .ensures) ∙ c .if1 .left)
 
 pub has-member-spec : {M : Type 1} → statement M
 has-member-spec =
-    tie.close (tie.spec is-there-requires type-row-requires wide-requires returns returns-2)
+    tie.close (tie.spec (λ c κs. search needs) type-row-requires (λ c κs. search needs) returns returns-2)

@@ -5,8 +5,7 @@ use Prim.Native.Nat.{ℕ}
 use Rattle.types.specs.inside.listing.Lines.{TypeNamed, Short}
 use Rattle.types.specs.listing.Lines.{line}
 use Rattle.types.proofs.listing.lines.ListingLaws.{Left, left-room, left-on, memberFields, member-lined}
-use Rattle.types.proofs.listing.lines.ListingLaws.{row-same, row-below}
-use Rattle.types.proofs.listing.lines.ListingLaws.{row-short, row-named, row-left}
+use Rattle.types.proofs.listing.lines.ListingLaws.{row-same, row-below, row-short, row-named, row-left}
 use Rattle.types.proofs.listing.lines.member_line.Statement.{statement}
 use Rattle.types.proofs.listing.lines.member_line.Tie as tie
 
@@ -40,15 +39,6 @@ all c =
     let p = start c .pre in
     row-left (first c .before .type-row .ensures) (first c .wide .ensures) (p .1 .1 .0) (p .1 .0)
     (start c .args .names .now) (c .before .member-row .ensures) (c .name-row .ensures) (p .1 .1 .1)
-
-type-row-requires : tie.Need-type-row-requires
-type-row-requires c κs = search needs
-
-wide-requires : tie.Need-wide-requires
-wide-requires c κs = search needs
-
-add-row : tie.Need-add-row
-add-row c = search needs
 
 member-row-requires : tie.Need-member-row-requires
 member-row-requires c κs =
@@ -89,9 +79,6 @@ put-place-requires c κs =
     let l3 = left-on l2 (n3 .put-type-name .ensures) in
     (rw (c .before .put-place-arg .given .0) (short w .inside), l3 .fits)
 
-same-length : tie.Need-same-length
-same-length c = search needs
-
 returns : tie.Need-returns
 returns c =
     let n4 = c .before .before in
@@ -113,14 +100,14 @@ pub member-line-spec : {M : Type 1} → statement M
 member-line-spec =
     tie.close
     (tie.spec
-    type-row-requires
-    wide-requires
-    add-row
+    (λ c κs. search needs)
+    (λ c κs. search needs)
+    (λ c. search needs)
     member-row-requires
     name-row-requires
     put-number-requires
     put-seen-requires
     put-type-name-requires
     put-place-requires
-    same-length
+    (λ c. search needs)
     returns)

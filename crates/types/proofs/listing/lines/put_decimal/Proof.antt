@@ -4,25 +4,10 @@ use Rattle.types.proofs.listing.lines.ListingLaws.{spelt-part}
 use Rattle.types.proofs.listing.lines.put_decimal.Statement.{statement}
 use Rattle.types.proofs.listing.lines.put_decimal.Tie as tie
 
-decimal-of-requires : tie.Need-decimal-of-requires
-decimal-of-requires c κs = search needs
-
-sub-put-text : tie.Need-sub-put-text
-sub-put-text c = search needs
-
-part-put-text-start : tie.Need-part-put-text-start
-part-put-text-start c = search needs
-
-part-put-text-end : tie.Need-part-put-text-end
-part-put-text-end c = search needs
-
 put-text-requires : tie.Need-put-text-requires
 put-text-requires c κs =
     let at-decimal = c .before .before .before .before in
     rw (spelt-part (at-decimal .decimal-of .ensures)) (at-decimal .before .before .pre)
-
-same-length : tie.Need-same-length
-same-length c = search needs
 
 returns : tie.Need-returns
 returns c =
@@ -34,10 +19,10 @@ pub put-decimal-spec : {M : Type 1} → statement M
 put-decimal-spec =
     tie.close
     (tie.spec
-    decimal-of-requires
-    sub-put-text
-    part-put-text-start
-    part-put-text-end
+    (λ c κs. search needs)
+    (λ c. search needs)
+    (λ c. search needs)
+    (λ c. search needs)
     put-text-requires
-    same-length
+    (λ c. search needs)
     returns)

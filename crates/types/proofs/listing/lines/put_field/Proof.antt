@@ -12,9 +12,6 @@ put-stop-requires c κs =
     let at-text = c .before .before .before in
     fits-then (at-text .before .before .before .before .pre) (at-text .put-text .ensures)
 
-same-length : tie.Need-same-length
-same-length c = search needs
-
 returns : tie.Need-returns
 returns c =
     let at-stop = c .before .before in
@@ -22,4 +19,4 @@ returns c =
     added-both (at-text .put-text .ensures) (at-stop .put-stop .ensures)
 
 pub put-field-spec : {M : Type 1} → statement M
-put-field-spec = tie.close (tie.spec put-text-requires put-stop-requires same-length returns)
+put-field-spec = tie.close (tie.spec put-text-requires put-stop-requires (λ c. search needs) returns)

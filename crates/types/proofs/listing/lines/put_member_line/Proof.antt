@@ -15,12 +15,6 @@ there : (c : tie.Then1)
     hasMember (a .types .now) (a .i) (a .k) ≡ true
 there c = sym (c .before .has-member .ensures) ∙ c .if1 .taken
 
-has-member-requires : tie.Need-has-member-requires
-has-member-requires c κs = search needs
-
-slice-aggregate-member-line : tie.Need-slice-aggregate-member-line
-slice-aggregate-member-line c = search needs
-
 member-line-requires : tie.Need-member-line-requires
 member-line-requires c κs =
     let start = c .before .before .before .before in
@@ -37,9 +31,6 @@ slice-aggregate-give c = line-long (c .before .before .member-line .ensures)
 give-requires : tie.Need-give-requires
 give-requires c κs = line-short (c .before .before .before .member-line .ensures) (omega arith)
 
-same-length : tie.Need-same-length
-same-length c = search needs
-
 returns : tie.Need-returns
 returns c =
     let given = c .before .before in
@@ -53,12 +44,12 @@ pub put-member-line-spec : {M : Type 1} → statement M
 put-member-line-spec =
     tie.close
     (tie.spec
-    has-member-requires
-    slice-aggregate-member-line
+    (λ c κs. search needs)
+    (λ c. search needs)
     member-line-requires
     array-share-prefix-text
     slice-aggregate-give
     give-requires
-    same-length
+    (λ c. search needs)
     returns
     returns-2)

@@ -12,9 +12,6 @@ put-stop-requires c κs =
     let at-decimal = c .before .before .before in
     fits-then (at-decimal .before .before .before .pre) (at-decimal .put-decimal .ensures)
 
-same-length : tie.Need-same-length
-same-length c = search needs
-
 returns : tie.Need-returns
 returns c =
     let at-stop = c .before .before in
@@ -22,4 +19,4 @@ returns c =
     added-both (at-decimal .put-decimal .ensures) (at-stop .put-stop .ensures)
 
 pub put-number-spec : {M : Type 1} → statement M
-put-number-spec = tie.close (tie.spec put-decimal-requires put-stop-requires same-length returns)
+put-number-spec = tie.close (tie.spec put-decimal-requires put-stop-requires (λ c. search needs) returns)

@@ -30,21 +30,6 @@ all c =
     numbers-left (start c .args .d) (start c .args .bits) (at-id .wide64 .ensures ∙ at-id .before .wide16 .ensures)
     (c .before .before .wide642 .ensures) (c .before .wide643 .ensures) (c .wide644 .ensures) (start c .pre)
 
-wide16-requires : tie.Need-wide16-requires
-wide16-requires c κs = search needs
-
-wide64-requires : tie.Need-wide64-requires
-wide64-requires c κs = search needs
-
-wide64-requires-2 : tie.Need-wide64-requires-2
-wide64-requires-2 c κs = search needs
-
-wide64-requires-3 : tie.Need-wide64-requires-3
-wide64-requires-3 c κs = search needs
-
-wide64-requires-4 : tie.Need-wide64-requires-4
-wide64-requires-4 c κs = search needs
-
 put-number-requires : tie.Need-put-number-requires
 put-number-requires c κs = left-room (all (c .before))
 
@@ -80,9 +65,6 @@ put-number-requires-5 c κs =
     let l3 = left-on l2 (n3 .put-number3 .ensures) in
     last-room (left-on l3 (n4 .put-number4 .ensures))
 
-same-length : tie.Need-same-length
-same-length c = search needs
-
 returns : tie.Need-returns
 returns c =
     let n5 = c .before .before in
@@ -100,15 +82,15 @@ pub put-numbers-spec : {M : Type 1} → statement M
 put-numbers-spec =
     tie.close
     (tie.spec
-    wide16-requires
-    wide64-requires
-    wide64-requires-2
-    wide64-requires-3
-    wide64-requires-4
+    (λ c κs. search needs)
+    (λ c κs. search needs)
+    (λ c κs. search needs)
+    (λ c κs. search needs)
+    (λ c κs. search needs)
     put-number-requires
     put-number-requires-2
     put-number-requires-3
     put-number-requires-4
     put-number-requires-5
-    same-length
+    (λ c. search needs)
     returns)

@@ -28,12 +28,6 @@ all : (c : tie.After-wide642)
     (start c .args .out .now)
 all c = place-left (start c .args .m) (name c) (c .before .wide64 .ensures) (c .wide642 .ensures) (start c .pre .1)
 
-wide64-requires : tie.Need-wide64-requires
-wide64-requires c κs = search needs
-
-wide64-requires-2 : tie.Need-wide64-requires-2
-wide64-requires-2 c κs = search needs
-
 put-number-requires : tie.Need-put-number-requires
 put-number-requires c κs = left-room (all (c .before))
 
@@ -59,9 +53,6 @@ put-name-requires c κs =
     let l2 = left-on l1 (n2 .put-number2 .ensures) in
     (start w .pre .0, last-room (left-on l2 (n3 .put-bit .ensures)))
 
-same-length : tie.Need-same-length
-same-length c = search needs
-
 returns : tie.Need-returns
 returns c =
     let n4 = c .before .before in
@@ -77,11 +68,11 @@ pub put-place-spec : {M : Type 1} → statement M
 put-place-spec =
     tie.close
     (tie.spec
-    wide64-requires
-    wide64-requires-2
+    (λ c κs. search needs)
+    (λ c κs. search needs)
     put-number-requires
     put-number-requires-2
     put-bit-requires
     put-name-requires
-    same-length
+    (λ c. search needs)
     returns)

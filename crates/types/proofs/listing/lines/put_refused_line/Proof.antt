@@ -6,12 +6,6 @@ use Rattle.types.proofs.refusals.GivenLaws.{line-given, line-inside, li
 use Rattle.types.proofs.listing.lines.put_refused_line.Statement.{statement}
 use Rattle.types.proofs.listing.lines.put_refused_line.Tie as tie
 
-slice-aggregate-refused-line : tie.Need-slice-aggregate-refused-line
-slice-aggregate-refused-line c = search needs
-
-refused-line-requires : tie.Need-refused-line-requires
-refused-line-requires c κs = search needs
-
 array-share-prefix-text : tie.Need-array-share-prefix-text
 array-share-prefix-text c = line-inside (c .before .refused-line .ensures)
 
@@ -20,9 +14,6 @@ slice-aggregate-give c = line-long (c .before .before .refused-line .ensures)
 
 give-requires : tie.Need-give-requires
 give-requires c κs = line-short (c .before .before .before .refused-line .ensures) (omega arith)
-
-same-length : tie.Need-same-length
-same-length c = search needs
 
 returns : tie.Need-returns
 returns c =
@@ -33,10 +24,10 @@ pub put-refused-line-spec : {M : Type 1} → statement M
 put-refused-line-spec =
     tie.close
     (tie.spec
-    slice-aggregate-refused-line
-    refused-line-requires
+    (λ c. search needs)
+    (λ c κs. search needs)
     array-share-prefix-text
     slice-aggregate-give
     give-requires
-    same-length
+    (λ c. search needs)
     returns)

@@ -3,26 +3,14 @@ use borrow.Author.Needs.{needs}
 use Rattle.types.proofs.listing.lines.put_seen.Statement.{statement}
 use Rattle.types.proofs.listing.lines.put_seen.Tie as tie
 
-slice-aggregate-put-field : tie.Need-slice-aggregate-put-field
-slice-aggregate-put-field c = search needs
-
 put-field-requires : tie.Need-put-field-requires
 put-field-requires c κs = rw (c .before .before .if1 .taken) at (c .before .before .before .before .pre)
-
-same-length : tie.Need-same-length
-same-length c = search needs
 
 returns : tie.Need-returns
 returns c = rw (c .before .before .before .before .before .if1 .taken) (c .before .before .put-field .ensures)
 
-slice-aggregate-put-field-2 : tie.Need-slice-aggregate-put-field-2
-slice-aggregate-put-field-2 c = search needs
-
 put-field-requires-2 : tie.Need-put-field-requires-2
 put-field-requires-2 c κs = rw (c .before .before .if1 .left) at (c .before .before .before .before .pre)
-
-same-length-2 : tie.Need-same-length-2
-same-length-2 c = search needs
 
 returns-2 : tie.Need-returns-2
 returns-2 c = rw (c .before .before .before .before .before .if1 .left) (c .before .before .put-field2 .ensures)
@@ -31,11 +19,11 @@ pub put-seen-spec : {M : Type 1} → statement M
 put-seen-spec =
     tie.close
     (tie.spec
-    slice-aggregate-put-field
+    (λ c. search needs)
     put-field-requires
-    same-length
+    (λ c. search needs)
     returns
-    slice-aggregate-put-field-2
+    (λ c. search needs)
     put-field-requires-2
-    same-length-2
+    (λ c. search needs)
     returns-2)

@@ -16,12 +16,6 @@ there : (c : tie.Then1)
     hasTemplate (a .types .now) (Struct (a .i)) ≡ true
 there c = sym (c .before .is-there .ensures) ∙ c .if1 .taken
 
-is-there-requires : tie.Need-is-there-requires
-is-there-requires c κs = search needs
-
-slice-aggregate-type-line : tie.Need-slice-aggregate-type-line
-slice-aggregate-type-line c = search needs
-
 type-line-requires : tie.Need-type-line-requires
 type-line-requires c κs =
     let start = c .before .before .before .before in
@@ -37,9 +31,6 @@ slice-aggregate-give c = line-long (c .before .before .type-line .ensures)
 give-requires : tie.Need-give-requires
 give-requires c κs = line-short (c .before .before .before .type-line .ensures) (omega arith)
 
-same-length : tie.Need-same-length
-same-length c = search needs
-
 returns : tie.Need-returns
 returns c =
     let given = c .before .before in
@@ -53,12 +44,12 @@ pub put-type-line-spec : {M : Type 1} → statement M
 put-type-line-spec =
     tie.close
     (tie.spec
-    is-there-requires
-    slice-aggregate-type-line
+    (λ c κs. search needs)
+    (λ c. search needs)
     type-line-requires
     array-share-prefix-text
     slice-aggregate-give
     give-requires
-    same-length
+    (λ c. search needs)
     returns
     returns-2)

@@ -4,24 +4,15 @@ use Rattle.types.proofs.listing.lines.ListingLaws.{struct-named}
 use Rattle.types.proofs.listing.lines.put_type_name.Statement.{statement}
 use Rattle.types.proofs.listing.lines.put_type_name.Tie as tie
 
-enum-known-ty : tie.Need-enum-known-ty
-enum-known-ty c = search needs
-
 put-atomic-requires : tie.Need-put-atomic-requires
 put-atomic-requires c κs =
     let told = c .before .before in
     rw (told .ty .given .1) at (told .before .before .before .before .pre .1 .1)
 
-same-length : tie.Need-same-length
-same-length c = search needs
-
 returns : tie.Need-returns
 returns c =
     let at-put = c .before .before in
     rw (at-put .before .before .before .ty .given .1) (at-put .put-atomic .ensures)
-
-enum-known-ty-2 : tie.Need-enum-known-ty-2
-enum-known-ty-2 c = search needs
 
 type-row-requires : tie.Need-type-row-requires
 type-row-requires c κs =
@@ -38,9 +29,6 @@ put-name-requires c κs =
       rw (at-type .type-row .ensures) (rw (told .ty2 .given .1) at (pre .1 .1)),
     )
 
-same-length-2 : tie.Need-same-length-2
-same-length-2 c = search needs
-
 returns-2 : tie.Need-returns-2
 returns-2 c =
     let at-name = c .before .before in
@@ -51,12 +39,12 @@ pub put-type-name-spec : {M : Type 1} → statement M
 put-type-name-spec =
     tie.close
     (tie.spec
-    enum-known-ty
+    (λ c. search needs)
     put-atomic-requires
-    same-length
+    (λ c. search needs)
     returns
-    enum-known-ty-2
+    (λ c. search needs)
     type-row-requires
     put-name-requires
-    same-length-2
+    (λ c. search needs)
     returns-2)

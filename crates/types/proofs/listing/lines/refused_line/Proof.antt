@@ -19,15 +19,6 @@ all : (c : tie.After-wide64)
     → Left (line (fields c)) 0 (start c .args .out .now) (fields c) 0 (start c .args .out .now)
 all c = refused-left (start c .args .number) (c .wide64 .result) (start c .pre)
 
-wide64-requires : tie.Need-wide64-requires
-wide64-requires c κs = search needs
-
-slice-aggregate-put-field : tie.Need-slice-aggregate-put-field
-slice-aggregate-put-field c = search needs
-
-put-field-requires : tie.Need-put-field-requires
-put-field-requires c κs = search needs
-
 put-number-requires : tie.Need-put-number-requires
 put-number-requires c κs =
     let n1 = c .before .before .before in
@@ -39,9 +30,6 @@ put-number-requires-2 c κs =
     let n1 = n2 .before .before .before .before in
     let l1 = left-on (all (n1 .before .before .before)) (n1 .put-field .ensures) in
     last-room (left-on l1 (n2 .put-number .ensures))
-
-same-length : tie.Need-same-length
-same-length c = search needs
 
 returns : tie.Need-returns
 returns c =
@@ -58,10 +46,10 @@ pub refused-line-spec : {M : Type 1} → statement M
 refused-line-spec =
     tie.close
     (tie.spec
-    wide64-requires
-    slice-aggregate-put-field
-    put-field-requires
+    (λ c κs. search needs)
+    (λ c. search needs)
+    (λ c κs. search needs)
     put-number-requires
     put-number-requires-2
-    same-length
+    (λ c. search needs)
     returns)

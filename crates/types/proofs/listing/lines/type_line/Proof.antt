@@ -29,21 +29,12 @@ all : (c : tie.After-lost-bits)
     → Left (line (fields c)) 0 (start c .args .out .now) (fields c) 0 (start c .args .out .now)
 all c = type-left (names c) (c .before .before .type-row .result) _ _ (known c .name) (start c .pre .1 .1)
 
-type-row-requires : tie.Need-type-row-requires
-type-row-requires c κs = search needs
-
 template-bytes-requires : tie.Need-template-bytes-requires
 template-bytes-requires c κs = listed (c .type-row .ensures) (c .before .before .pre .1 .0) .rows .rows
 
 lost-bits-requires : tie.Need-lost-bits-requires
 lost-bits-requires c κs =
     listed (c .before .type-row .ensures) (c .before .before .before .pre .1 .0) .rows
-
-slice-aggregate-put-field : tie.Need-slice-aggregate-put-field
-slice-aggregate-put-field c = search needs
-
-put-field-requires : tie.Need-put-field-requires
-put-field-requires c κs = search needs
 
 put-name-requires : tie.Need-put-name-requires
 put-name-requires c κs =
@@ -58,9 +49,6 @@ put-numbers-requires c κs =
     let n1 = n2 .before .before .before .before .before in
     let l1 = left-on (all (n1 .before .before .before)) (n1 .put-field .ensures) in
     left-on l1 (n2 .put-name .ensures) .fits
-
-same-length : tie.Need-same-length
-same-length c = search needs
 
 returns : tie.Need-returns
 returns c =
@@ -80,12 +68,12 @@ pub type-line-spec : {M : Type 1} → statement M
 type-line-spec =
     tie.close
     (tie.spec
-    type-row-requires
+    (λ c κs. search needs)
     template-bytes-requires
     lost-bits-requires
-    slice-aggregate-put-field
-    put-field-requires
+    (λ c. search needs)
+    (λ c κs. search needs)
     put-name-requires
     put-numbers-requires
-    same-length
+    (λ c. search needs)
     returns)

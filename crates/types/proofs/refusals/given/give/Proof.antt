@@ -7,19 +7,10 @@ use Rattle.types.proofs.refusals.given.give.Tie as tie
 returns : tie.Need-returns
 returns c = given-none _ _ (c .if1 .taken)
 
-copy-requires : tie.Need-copy-requires
-copy-requires c κs = search needs
-
-cast-t10 : tie.Need-cast-t10
-cast-t10 c = search needs
-
-same-length : tie.Need-same-length
-same-length c = search needs
-
 returns-2 : tie.Need-returns-2
 returns-2 c =
     let copied = c .before .before in
     rw (copied .copy .ensures) (given-room _ _ (copied .before .before .if1 .left))
 
 pub give-spec : {M : Type 1} → statement M
-give-spec = tie.close (tie.spec returns copy-requires cast-t10 same-length returns-2)
+give-spec = tie.close (tie.spec returns (λ c κs. search needs) (λ c. search needs) (λ c. search needs) returns-2)

@@ -4,9 +4,6 @@ use Rattle.types.proofs.rounds.build.ScratchLaws.{few-all, scratch-loca
 use Rattle.types.proofs.rounds.build.build.Statement.{statement}
 use Rattle.types.proofs.rounds.build.build.Tie as tie
 
-is-small-requires : tie.Need-is-small-requires
-is-small-requires c κs = search needs
-
 build-small-requires : tie.Need-build-small-requires
 build-small-requires c κs =
     let small = c .before .before .before in
@@ -15,23 +12,11 @@ build-small-requires c κs =
 returns : tie.Need-returns
 returns c = c .build-small .ensures
 
-slice-aggregate-build-with : tie.Need-slice-aggregate-build-with
-slice-aggregate-build-with c = search needs
-
-slice-aggregate-build-with-2 : tie.Need-slice-aggregate-build-with-2
-slice-aggregate-build-with-2 c = search needs
-
-slice-aggregate-build-with-3 : tie.Need-slice-aggregate-build-with-3
-slice-aggregate-build-with-3 c = search needs
-
-slice-aggregate-build-with-4 : tie.Need-slice-aggregate-build-with-4
-slice-aggregate-build-with-4 c = search needs
-
 build-with-requires : tie.Need-build-with-requires
 build-with-requires c κs =
     let large = c .before .before .before .before .before .before .before in
     let known = large .before .before in
-    scratch-local _ 65536 65536 (few-all _ (λ k. (known .shared-slice-known .given k) .fits))
+    scratch-local 65536 65536 (few-all (λ k. (known .shared-slice-known .given k) .fits))
 
 returns-2 : tie.Need-returns-2
 returns-2 c = c .before .before .before .before .build-with .ensures
@@ -40,12 +25,12 @@ pub build-spec : {M : Type 1} → statement M
 build-spec =
     tie.close
     (tie.spec
-    is-small-requires
+    (λ c κs. search needs)
     build-small-requires
     returns
-    slice-aggregate-build-with
-    slice-aggregate-build-with-2
-    slice-aggregate-build-with-3
-    slice-aggregate-build-with-4
+    (λ c. search needs)
+    (λ c. search needs)
+    (λ c. search needs)
+    (λ c. search needs)
     build-with-requires
     returns-2)

@@ -15,12 +15,6 @@ use Rattle.types.proofs.rounds.build.build_with.Tie as tie
 abbrev begun : tie.After-clear → tie.Start
 begun c = c .before .before .before .before .before .before .before .before .before
 
-clear-requires : tie.Need-clear-requires
-clear-requires c κs = search needs
-
-ids-ok-requires : tie.Need-ids-ok-requires
-ids-ok-requires c κs = search needs
-
 returns : tie.Need-returns
 returns c =
     ended-ids _ _ (sym (c .before .ids-ok .ensures) ∙ not-true _ (c .if1 .taken))
@@ -35,9 +29,6 @@ book-good : (c : tie.Else2)
     bookOk (begun (ids .before .before) .args .book .now) ≡ true
 book-good c = sym (c .before .book-ok .ensures) ∙ not-false _ (c .if2 .left)
 
-book-ok-requires : tie.Need-book-ok-requires
-book-ok-requires c κs = search needs
-
 returns-2 : tie.Need-returns-2
 returns-2 c =
     ended-book _ _ (ids-good (c .before .before)) (sym (c .before .book-ok .ensures) ∙ not-true _ (c .if2 .taken))
@@ -45,9 +36,6 @@ returns-2 c =
 
 load16-requires : tie.Need-load16-requires
 load16-requires c κs = omega (arith, sound _ (book-good c) .room)
-
-count-of-requires : tie.Need-count-of-requires
-count-of-requires c κs = search needs
 
 run-requires : tie.Need-run-requires
 run-requires c κs =
@@ -62,18 +50,6 @@ run-requires c κs =
       scratch = start .pre;
     }
 
-same-length : tie.Need-same-length
-same-length c = search needs
-
-same-length-2 : tie.Need-same-length-2
-same-length-2 c = search needs
-
-same-length-3 : tie.Need-same-length-3
-same-length-3 c = search needs
-
-same-length-4 : tie.Need-same-length-4
-same-length-4 c = search needs
-
 returns-3 : tie.Need-returns-3
 returns-3 c =
     let ran = c .before .before .before .before .before .before .before .before in
@@ -84,16 +60,16 @@ pub build-with-spec : {M : Type 1} → statement M
 build-with-spec =
     tie.close
     (tie.spec
-    clear-requires
-    ids-ok-requires
+    (λ c κs. search needs)
+    (λ c κs. search needs)
     returns
-    book-ok-requires
+    (λ c κs. search needs)
     returns-2
     load16-requires
-    count-of-requires
+    (λ c κs. search needs)
     run-requires
-    same-length
-    same-length-2
-    same-length-3
-    same-length-4
+    (λ c. search needs)
+    (λ c. search needs)
+    (λ c. search needs)
+    (λ c. search needs)
     returns-3)

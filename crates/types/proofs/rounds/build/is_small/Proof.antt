@@ -7,27 +7,15 @@ use Rattle.types.proofs.rounds.build.is_small.Statement.{statement}
 use Rattle.types.proofs.rounds.build.is_small.Tie as tie
 
 returns : tie.Need-returns
-returns c q = few-short _ 256 2048 (c .if1 .taken)
-
-load16-requires : tie.Need-load16-requires
-load16-requires c κs = search needs
-
-count-of-requires : tie.Need-count-of-requires
-count-of-requires c κs = search needs
+returns c q = few-short 256 2048 (c .if1 .taken)
 
 returns-2 : tie.Need-returns-2
 returns-2 c q = absurd (true≢false (sym q))
 
-load16-requires-2 : tie.Need-load16-requires-2
-load16-requires-2 c κs = search needs
-
-count-of-requires-2 : tie.Need-count-of-requires-2
-count-of-requires-2 c κs = search needs
-
 returns-3 : tie.Need-returns-3
 returns-3 c q =
     let few = c .before .before in
-    few-read _ 256 2048 (few .before .count-of .result) (c .count-of2 .result)
+    few-read 256 2048 (few .before .count-of .result) (c .count-of2 .result)
     (few .before .count-of .ensures .0 ∙ few .before .before .load16 .ensures)
     (c .count-of2 .ensures .0 ∙ c .before .load162 .ensures) (few .if2 .left) q
 
@@ -36,9 +24,9 @@ is-small-spec =
     tie.close
     (tie.spec
     returns
-    load16-requires
-    count-of-requires
+    (λ c κs. search needs)
+    (λ c κs. search needs)
     returns-2
-    load16-requires-2
-    count-of-requires-2
+    (λ c κs. search needs)
+    (λ c κs. search needs)
     returns-3)

@@ -66,12 +66,6 @@ loop-holds c =
 one-round-requires : tie.Need-one-round-requires Inv-loop μ-loop
 one-round-requires c κs = going-in (going (c .before .before .before .before .before .before .before .before))
 
-enum-known-r : tie.Need-enum-known-r Inv-loop μ-loop
-enum-known-r c = search needs
-
-clear-requires : tie.Need-clear-requires Inv-loop μ-loop
-clear-requires c κs = search needs
-
 same-length : tie.Need-same-length Inv-loop μ-loop
 same-length c =
     refused c .before .before .before .before .before .before .tys .given ∙ going (began (refused c) .before) .words
@@ -92,12 +86,6 @@ returns c =
     let turn = began (refused c) in
     ended-no (going (turn .before)) (made (refused c) .one-round .ensures) (turn .loop-test .taken) _
     (c .before .before .before .before .before .r .given .1) (c .clear .ensures)
-
-enum-known-r-2 : tie.Need-enum-known-r-2 Inv-loop μ-loop
-enum-known-r-2 c = search needs
-
-clear-requires-2 : tie.Need-clear-requires-2 Inv-loop μ-loop
-clear-requires-2 c κs = search needs
 
 first-waiting-requires : tie.Need-first-waiting-requires Inv-loop μ-loop
 first-waiting-requires c κs =
@@ -148,7 +136,8 @@ loop-again c =
     let round = added c in
     let turn = began round in
     λ start reached stands.
-    going-next (turn .before .loop .inv start reached stands) (made round .one-round .ensures) (turn .loop-test .taken) _ _
+    going-next (turn .before .loop .inv start reached stands) (made round .one-round .ensures)
+    (turn .loop-test .taken) _ _
     (c .before .before .r2 .given .1) (c .if1 .left) (round .before .before .before .before .before .before .tys .given)
     (round .before .before .before .before .done .given) (round .before .before .stuck .given) (round .tried .given)
 
@@ -179,15 +168,15 @@ run-spec =
     put-predefined-requires
     loop-holds
     one-round-requires
-    enum-known-r
-    clear-requires
+    (λ c. search needs)
+    (λ c κs. search needs)
     same-length
     same-length-2
     same-length-3
     same-length-4
     returns
-    enum-known-r-2
-    clear-requires-2
+    (λ c. search needs)
+    (λ c κs. search needs)
     first-waiting-requires
     cast-t44
     same-length-5

@@ -38,12 +38,6 @@ add-entry-at c = omega (arith, c .before .loop .inv .1 .0 .inside)
 entry-at-requires : tie.Need-entry-at-requires Inv-loop μ-loop
 entry-at-requires c κs = omega (arith, c .before .loop .inv .1 .0 .inside)
 
-wide-requires : tie.Need-wide-requires Inv-loop μ-loop
-wide-requires c κs = search needs
-
-wide-requires-2 : tie.Need-wide-requires-2 Inv-loop μ-loop
-wide-requires-2 c κs = search needs
-
 -- the type's name lies in the book
 end : (c : tie.After-wide2 Inv-loop μ-loop)
     → c .before .wide .result + c .wide2 .result
@@ -56,12 +50,6 @@ end c =
 
 add-end : tie.Need-add-end Inv-loop μ-loop
 add-end c = omega (arith, end c)
-
-sub-lookup : tie.Need-sub-lookup Inv-loop μ-loop
-sub-lookup c = search needs
-
-part-lookup-start : tie.Need-part-lookup-start Inv-loop μ-loop
-part-lookup-start c = search needs
 
 part-lookup-end : tie.Need-part-lookup-end Inv-loop μ-loop
 part-lookup-end c = omega (arith, end c)
@@ -84,9 +72,6 @@ looked c =
       wide .before .before .before .entry-at .ensures,
     )
 
-enum-known-found : tie.Need-enum-known-found Inv-loop μ-loop
-enum-known-found c = search needs
-
 word-of-requires : tie.Need-word-of-requires Inv-loop μ-loop
 word-of-requires c κs =
     let found = c .before .before .before in
@@ -97,15 +82,6 @@ word-of-requires c κs =
     (rw (length-list (rowName (a .types .now) (a .names .now)) 0 (a .known))
     at (found-earlier (rowNames (a .types .now) (a .names .now) (a .known)) _ _
     (sym (looked found) ∙ c .before .found .given .1)))
-
-mul-tys : tie.Need-mul-tys Inv-loop μ-loop
-mul-tys c = search needs
-
-slice-write-tys : tie.Need-slice-write-tys Inv-loop μ-loop
-slice-write-tys c = search needs
-
-enum-told : tie.Need-enum-told Inv-loop μ-loop
-enum-told c = search needs
 
 same-length : tie.Need-same-length Inv-loop μ-loop
 same-length c = c .before .before .before .before .before .before .before .before .before .loop .inv .1 .1 .long
@@ -158,18 +134,18 @@ resolve-spec =
     mul-entry-at
     add-entry-at
     entry-at-requires
-    wide-requires
-    wide-requires-2
+    (λ c κs. search needs)
+    (λ c κs. search needs)
     add-end
-    sub-lookup
-    part-lookup-start
+    (λ c. search needs)
+    (λ c. search needs)
     part-lookup-end
     lookup-requires
-    enum-known-found
+    (λ c. search needs)
     word-of-requires
-    mul-tys
-    slice-write-tys
-    enum-told
+    (λ c. search needs)
+    (λ c. search needs)
+    (λ c. search needs)
     same-length
     returns
     add-j

@@ -25,12 +25,6 @@ add-entry-at c = omega (arith, c .before .before .before .pre .inside (c .if1 .l
 entry-at-requires : tie.Need-entry-at-requires
 entry-at-requires c κs = omega (arith, c .before .before .before .pre .inside (c .if1 .left))
 
-wide-requires : tie.Need-wide-requires
-wide-requires c κs = search needs
-
-wide-requires-2 : tie.Need-wide-requires-2
-wide-requires-2 c κs = search needs
-
 -- the type's name lies in the book
 end : (c : tie.After-wide2)
     → c .before .wide .result + c .wide2 .result
@@ -43,23 +37,8 @@ end c =
 add-end : tie.Need-add-end
 add-end c = omega (arith, end c)
 
-sub-find-type : tie.Need-sub-find-type
-sub-find-type c = search needs
-
-part-find-type-start : tie.Need-part-find-type-start
-part-find-type-start c = search needs
-
 part-find-type-end : tie.Need-part-find-type-end
 part-find-type-end c = omega (arith, end c)
-
-find-type-requires : tie.Need-find-type-requires
-find-type-requires c κs = search needs
-
-enum-told : tie.Need-enum-told
-enum-told c = search needs
-
-enum-told-2 : tie.Need-enum-told-2
-enum-told-2 c = search needs
 
 returns-2 : tie.Need-returns-2
 returns-2 c = λ q. absurd (true≢false (sym q))
@@ -98,14 +77,14 @@ waits-still-spec =
     mul-entry-at
     add-entry-at
     entry-at-requires
-    wide-requires
-    wide-requires-2
+    (λ c κs. search needs)
+    (λ c κs. search needs)
     add-end
-    sub-find-type
-    part-find-type-start
+    (λ c. search needs)
+    (λ c. search needs)
     part-find-type-end
-    find-type-requires
-    enum-told
-    enum-told-2
+    (λ c κs. search needs)
+    (λ c. search needs)
+    (λ c. search needs)
     returns-2
     returns-3)

@@ -1,4 +1,4 @@
--- `types::turns` meets its contract: `Within` holds in the round.
+-- `types::one_round` meets its contract: `Within` holds in the round.
 use native.Mathlib.Omega.{arith}
 use borrow.Author.Needs.{needs}
 use Prim.Native.Nat.{_-_}
@@ -7,9 +7,8 @@ use mathlib.Core.Path.{_≡_, ap, _∙_}
 use Rattle.types.specs.rounds.Turns.{countOf}
 use Rattle.types.specs.declared.book.contents.TypeEntry.{TypeEntry}
 use Rattle.types.proofs.rounds.OneRoundLaws.{Within, const-small, start-small, within-start, within-in}
-use Rattle.types.proofs.rounds.OneRoundLaws.{within-near}
-use Rattle.types.proofs.rounds.OneRoundLaws.{within-flag, within-left, within-past, within-wait, within-yes}
-use Rattle.types.proofs.rounds.OneRoundLaws.{made-all, made-no}
+use Rattle.types.proofs.rounds.OneRoundLaws.{within-near, within-flag, within-left, within-past, within-wait}
+use Rattle.types.proofs.rounds.OneRoundLaws.{within-yes, made-all, made-no}
 use Rattle.types.proofs.rounds.round.one_round.Statement.{statement}
 use Rattle.types.proofs.rounds.round.one_round.Tie as tie
 
@@ -57,9 +56,6 @@ loop-holds c =
 type-entry-requires : tie.Need-type-entry-requires Inv-loop μ-loop
 type-entry-requires c κs = within-in (c .before .loop .inv) (c .loop-test .taken) .entry
 
-count-of-requires : tie.Need-count-of-requires Inv-loop μ-loop
-count-of-requires c κs = search needs
-
 slice-read-if1 : tie.Need-slice-read-if1 Inv-loop μ-loop
 slice-read-if1 c =
     let turn = c .before .before .before in
@@ -69,12 +65,6 @@ take-turn-requires : tie.Need-take-turn-requires Inv-loop μ-loop
 take-turn-requires c κs =
     let turn = c .before .before .before .before .before .before .before .before .before .before in
     within-in (turn .before .loop .inv) (turn .loop-test .taken)
-
-enum-told : tie.Need-enum-told Inv-loop μ-loop
-enum-told c = search needs
-
-enum-known-r : tie.Need-enum-known-r Inv-loop μ-loop
-enum-known-r c = search needs
 
 same-length : tie.Need-same-length Inv-loop μ-loop
 same-length c =
@@ -100,9 +90,6 @@ returns c =
     let turn = in-loop waits in
     made-no (turn .before .loop .inv) (turn .loop-test .taken) (taken (refused c) .take-turn .ensures .0)
     (waits .if1 .taken) _ (c .before .r .given .1)
-
-enum-known-r-2 : tie.Need-enum-known-r-2 Inv-loop μ-loop
-enum-known-r-2 c = search needs
 
 slice-write-done : tie.Need-slice-write-done Inv-loop μ-loop
 slice-write-done c =
@@ -181,17 +168,17 @@ one-round-spec =
     add-at
     loop-holds
     type-entry-requires
-    count-of-requires
+    (λ c κs. search needs)
     slice-read-if1
     take-turn-requires
-    enum-told
-    enum-known-r
+    (λ c. search needs)
+    (λ c. search needs)
     same-length
     same-length-2
     same-length-3
     same-length-4
     returns
-    enum-known-r-2
+    (λ c. search needs)
     slice-write-done
     sub-rest
     mul-at-2

@@ -18,24 +18,6 @@ begun c = c .before .before .before .before .before .before .before .before .bef
 abbrev begun-2 : tie.After-resolve → tie.Start
 begun-2 c = begun (c .before .before .before .before .before .before .before .before)
 
-mul-count-of : tie.Need-mul-count-of
-mul-count-of c = search needs
-
-slice-read-count-of : tie.Need-slice-read-count-of
-slice-read-count-of c = search needs
-
-count-of-requires : tie.Need-count-of-requires
-count-of-requires c κs = search needs
-
-slice-read-wide8 : tie.Need-slice-read-wide8
-slice-read-wide8 c = search needs
-
-wide8-requires : tie.Need-wide8-requires
-wide8-requires c κs = search needs
-
-wide-requires : tie.Need-wide-requires
-wide-requires c κs = search needs
-
 waits-still-requires : tie.Need-waits-still-requires
 waits-still-requires c κs =
     let from = c .before .before .before in
@@ -43,15 +25,6 @@ waits-still-requires c κs =
     let s = k .before .before .before .before .before .before in
     turn-looks _ _ _ _ _ _ _ _ refl (s .pre) _ _ (k .count-of .ensures .0)
     (from .wide .ensures ∙ from .before .wide8 .ensures)
-
-cast-tried : tie.Need-cast-tried
-cast-tried c = search needs
-
-slice-write-tried : tie.Need-slice-write-tried
-slice-write-tried c = search needs
-
-same-length : tie.Need-same-length
-same-length c = search needs
 
 returns : tie.Need-returns
 returns c =
@@ -61,12 +34,6 @@ returns c =
     let s = k .before .before .before .before .before .before in
     turn-still _ _ _ _ _ _ _ _ refl (s .pre) _ _ (k .count-of .ensures .0)
     (from .wide .ensures ∙ from .before .wide8 .ensures) (still .waits-still .ensures (c .if1 .taken))
-
-type-entry-requires : tie.Need-type-entry-requires
-type-entry-requires c κs = search needs
-
-count-of-requires-2 : tie.Need-count-of-requires-2
-count-of-requires-2 c κs = search needs
 
 -- the number of members is the entry's
 counted : (c : tie.After-count-of2)
@@ -79,9 +46,6 @@ resolve-requires c κs =
     let n = c .before .before .before .before in
     let p = begun (n .before .before .before) .pre in
     rw (counted n) (record { rows = p .usable .rows; inside = p .inside .inside; uses = p .uses; room = p .room })
-
-cast-stuck : tie.Need-cast-stuck
-cast-stuck c = search needs
 
 mul-stuck : tie.Need-mul-stuck
 mul-stuck c = omega (arith, begun-2 (c .before .before .before) .pre .small)
@@ -99,38 +63,14 @@ slice-write-tried-2 c =
     let p = begun-2 (c .before .before .before) .pre in
     omega (arith, p .among, p .tries .rows)
 
-same-length-2 : tie.Need-same-length-2
-same-length-2 c = search needs
-
-same-length-3 : tie.Need-same-length-3
-same-length-3 c = search needs
-
-same-length-4 : tie.Need-same-length-4
-same-length-4 c = search needs
-
 returns-2 : tie.Need-returns-2
 returns-2 c =
     let resolved = c .before .before .before in
     let n = resolved .before .before .before .before .before in
     turn-waits _ _ _ _ _ _ _ _ (counted n) _ (resolved .resolve .ensures) (begun-2 resolved .pre) (c .if2 .taken)
 
-wide-requires-2 : tie.Need-wide-requires-2
-wide-requires-2 c κs = search needs
-
-wide-requires-3 : tie.Need-wide-requires-3
-wide-requires-3 c κs = search needs
-
-add-end : tie.Need-add-end
-add-end c = search needs
-
-cast-t24 : tie.Need-cast-t24
-cast-t24 c = omega (arith, begun-2 (c .before .before .before .before .before) .pre .small)
-
-sub-add-entry : tie.Need-sub-add-entry
-sub-add-entry c = search needs
-
-part-add-entry-start : tie.Need-part-add-entry-start
-part-add-entry-start c = search needs
+cast-t23 : tie.Need-cast-t23
+cast-t23 c = omega (arith, begun-2 (c .before .before .before .before .before) .pre .small)
 
 -- the type's name lies in the book
 end : (c : tie.After-wide3)
@@ -162,9 +102,6 @@ add-entry-requires c κs =
       bytes = s .pre .bytes;
     }
 
-same-length-5 : tie.Need-same-length-5
-same-length-5 c = search needs
-
 returns-3 : tie.Need-returns-3
 returns-3 c =
     let wide = c .before .before .before .before .before .before in
@@ -187,36 +124,36 @@ pub take-turn-spec : {M : Type 1} → statement M
 take-turn-spec =
     tie.close
     (tie.spec
-    mul-count-of
-    slice-read-count-of
-    count-of-requires
-    slice-read-wide8
-    wide8-requires
-    wide-requires
+    (λ c. search needs)
+    (λ c. search needs)
+    (λ c κs. search needs)
+    (λ c. search needs)
+    (λ c κs. search needs)
+    (λ c κs. search needs)
     waits-still-requires
-    cast-tried
-    slice-write-tried
-    same-length
+    (λ c. search needs)
+    (λ c. search needs)
+    (λ c. search needs)
     returns
-    type-entry-requires
-    count-of-requires-2
+    (λ c κs. search needs)
+    (λ c κs. search needs)
     resolve-requires
-    cast-stuck
+    (λ c. search needs)
     mul-stuck
     slice-write-stuck
     cast-tried-2
     slice-write-tried-2
-    same-length-2
-    same-length-3
-    same-length-4
+    (λ c. search needs)
+    (λ c. search needs)
+    (λ c. search needs)
     returns-2
-    wide-requires-2
-    wide-requires-3
-    add-end
-    cast-t24
-    sub-add-entry
-    part-add-entry-start
+    (λ c κs. search needs)
+    (λ c κs. search needs)
+    (λ c. search needs)
+    cast-t23
+    (λ c. search needs)
+    (λ c. search needs)
     part-add-entry-end
     add-entry-requires
-    same-length-5
+    (λ c. search needs)
     returns-3)

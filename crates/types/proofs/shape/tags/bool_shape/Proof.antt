@@ -11,28 +11,10 @@ rounded : (c : tie.After-wide64) → (c .wide64 .result + 31) / 32 * 32 ≡ alig
 unfolding alignUp
 rounded c = rw (c .wide64 .ensures)
 
-wide64-requires : tie.Need-wide64-requires
-wide64-requires c κs = search needs
-
-add-up : tie.Need-add-up
-add-up c = search needs
-
-mul-up : tie.Need-mul-up
-mul-up c = search needs
-
-refused-requires : tie.Need-refused-requires
-refused-requires c κs = search needs
-
 returns : tie.Need-returns
 returns c =
     let at-up = c .before .before in
     c .refused .ensures ∙ bool-over _ (at-up .before .args .n) _ (rounded at-up) (c .before .if1 .taken)
-
-cast-long : tie.Need-cast-long
-cast-long c = search needs
-
-tag-within-requires : tie.Need-tag-within-requires
-tag-within-requires c κs = search needs
 
 returns-2 : tie.Need-returns-2
 returns-2 c =
@@ -43,11 +25,11 @@ pub bool-shape-spec : {M : Type 1} → statement M
 bool-shape-spec =
     tie.close
     (tie.spec
-    wide64-requires
-    add-up
-    mul-up
-    refused-requires
+    (λ c κs. search needs)
+    (λ c. search needs)
+    (λ c. search needs)
+    (λ c κs. search needs)
     returns
-    cast-long
-    tag-within-requires
+    (λ c. search needs)
+    (λ c κs. search needs)
     returns-2)

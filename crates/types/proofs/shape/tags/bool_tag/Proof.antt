@@ -5,9 +5,6 @@ use Rattle.types.proofs.shape.ShapeLaws.{tag-bool, tag-other}
 use Rattle.types.proofs.shape.tags.bool_tag.Statement.{statement}
 use Rattle.types.proofs.shape.tags.bool_tag.Tie as tie
 
-is-bool-requires : tie.Need-is-bool-requires
-is-bool-requires c κs = search needs
-
 returns : tie.Need-returns
 returns c =
     let a = c .before .before .before .args in
@@ -19,4 +16,4 @@ returns-2 c =
     tag-other (a .ty) (a .lengths .now) (sym (c .before .is-bool .ensures) ∙ c .if1 .left)
 
 pub bool-tag-spec : {M : Type 1} → statement M
-bool-tag-spec = tie.close (tie.spec is-bool-requires returns returns-2)
+bool-tag-spec = tie.close (tie.spec (λ c κs. search needs) returns returns-2)

@@ -5,16 +5,10 @@ use Rattle.types.proofs.shape.ShapeLaws.{too-many, few}
 use Rattle.types.proofs.shape.tags.lengths_ok.Statement.{statement}
 use Rattle.types.proofs.shape.tags.lengths_ok.Tie as tie
 
-most-lengths-requires : tie.Need-most-lengths-requires
-most-lengths-requires c κs = search needs
-
 returns : tie.Need-returns
 returns c =
     let a = c .before .before .before .args in
     too-many (a .ty) (a .lengths .now) (rw (c .before .most-lengths .ensures) at (c .if1 .taken))
-
-none-zero-requires : tie.Need-none-zero-requires
-none-zero-requires c κs = search needs
 
 returns-2 : tie.Need-returns-2
 returns-2 c =
@@ -24,4 +18,4 @@ returns-2 c =
     ∙ few (a .ty) (a .lengths .now) (rw (at-most .most-lengths .ensures) at (c .before .if1 .left))
 
 pub lengths-ok-spec : {M : Type 1} → statement M
-lengths-ok-spec = tie.close (tie.spec most-lengths-requires returns none-zero-requires returns-2)
+lengths-ok-spec = tie.close (tie.spec (λ c κs. search needs) returns (λ c κs. search needs) returns-2)

@@ -35,12 +35,6 @@ mul-wide64 c = omega arith
 shared-slice-read-wide64 : tie.Need-shared-slice-read-wide64 Inv-loop μ-loop
 shared-slice-read-wide64 c = omega arith
 
-wide64-requires : tie.Need-wide64-requires Inv-loop μ-loop
-wide64-requires c κs = search needs
-
-product-fits-requires : tie.Need-product-fits-requires Inv-loop μ-loop
-product-fits-requires c κs = search needs
-
 returns : tie.Need-returns Inv-loop μ-loop
 returns c =
     let in-loop = c .before .before .before .before in
@@ -73,8 +67,8 @@ multiplied-spec =
     loop-holds
     mul-wide64
     shared-slice-read-wide64
-    wide64-requires
-    product-fits-requires
+    (λ c κs. search needs)
+    (λ c κs. search needs)
     returns
     mul-n
     add-i

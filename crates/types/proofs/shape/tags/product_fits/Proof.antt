@@ -9,13 +9,10 @@ returns c =
     let a = c .before .args in
     fits-zero (a .a) (a .b) (a .most) (c .if1 .taken)
 
-div-result : tie.Need-div-result
-div-result c = search needs
-
 returns-2 : tie.Need-returns-2
 returns-2 c =
     let a = c .before .args in
     fits-div (a .a) (a .b) (a .most) (c .if1 .left)
 
 pub product-fits-spec : {M : Type 1} → statement M
-product-fits-spec = tie.close (tie.spec returns div-result returns-2)
+product-fits-spec = tie.close (tie.spec returns (λ c. search needs) returns-2)

@@ -19,9 +19,6 @@ small c =
     let start = then1 .before .before in
     rw (c .type-in .ensures) (type-below (start .pre) (start .args .s .ty) (there then1))
 
-is-there-requires : tie.Need-is-there-requires
-is-there-requires c κs = search needs
-
 returns : tie.Need-returns
 returns c = symbol-many _ _ _ (there (c .before)) (c .if2 .taken)
 
@@ -30,17 +27,11 @@ type-in-requires c κs =
     let start = c .before .before .before in
     there-fits (start .args .types .now) (start .args .s .ty) (there (c .before))
 
-cast-sum : tie.Need-cast-sum
-cast-sum c = search needs
-
-mul-sum : tie.Need-mul-sum
-mul-sum c = search needs
-
 add-sum : tie.Need-add-sum
 add-sum c = omega (arith, small c, c .before .if2 .left)
 
-cast-t13 : tie.Need-cast-t13
-cast-t13 c = omega (arith, small c, c .before .if2 .left)
+cast-t12 : tie.Need-cast-t12
+cast-t12 c = omega (arith, small c, c .before .if2 .left)
 
 returns-2 : tie.Need-returns-2
 returns-2 c =
@@ -54,12 +45,12 @@ pub symbol-type-spec : {M : Type 1} → statement M
 symbol-type-spec =
     tie.close
     (tie.spec
-    is-there-requires
+    (λ c κs. search needs)
     returns
     type-in-requires
-    cast-sum
-    mul-sum
+    (λ c. search needs)
+    (λ c. search needs)
     add-sum
-    cast-t13
+    cast-t12
     returns-2
     returns-3)

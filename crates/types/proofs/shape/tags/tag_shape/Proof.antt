@@ -17,21 +17,6 @@ ok : (c : tie.Then2)
     (c .before .before .before .before .before .args .lengths .now) ≡ true
 ok c = sym (c .before .lengths-ok .ensures) ∙ c .if2 .taken
 
-is-there-requires : tie.Need-is-there-requires
-is-there-requires c κs = search needs
-
-lengths-ok-requires : tie.Need-lengths-ok-requires
-lengths-ok-requires c κs = search needs
-
-bool-tag-requires : tie.Need-bool-tag-requires
-bool-tag-requires c κs = search needs
-
-length-at-requires : tie.Need-length-at-requires
-length-at-requires c κs = search needs
-
-bool-shape-requires : tie.Need-bool-shape-requires
-bool-shape-requires c κs = search needs
-
 returns : tie.Need-returns
 returns c =
     let at-tag = c .before .before .before in
@@ -63,9 +48,6 @@ returns-2 c =
     ∙ others (a .types .now) (a .ty) (a .lengths .now) (there at-there) (ok at-ok)
     (sym (at-tag .bool-tag .ensures) ∙ c .before .if3 .left)
 
-refused-requires : tie.Need-refused-requires
-refused-requires c κs = search needs
-
 returns-3 : tie.Need-returns-3
 returns-3 c =
     let at-lengths = c .before .before in
@@ -74,9 +56,6 @@ returns-3 c =
     c .refused .ensures
     ∙ lengths-wrong (a .types .now) (a .ty) (a .lengths .now) (there at-there)
     (sym (at-lengths .lengths-ok .ensures) ∙ c .before .if2 .left)
-
-refused-requires-2 : tie.Need-refused-requires-2
-refused-requires-2 c κs = search needs
 
 returns-4 : tie.Need-returns-4
 returns-4 c =
@@ -89,15 +68,15 @@ pub tag-shape-spec : {M : Type 1} → statement M
 tag-shape-spec =
     tie.close
     (tie.spec
-    is-there-requires
-    lengths-ok-requires
-    bool-tag-requires
-    length-at-requires
-    bool-shape-requires
+    (λ c κs. search needs)
+    (λ c κs. search needs)
+    (λ c κs. search needs)
+    (λ c κs. search needs)
+    (λ c κs. search needs)
     returns
     plain-shape-requires
     returns-2
-    refused-requires
+    (λ c κs. search needs)
     returns-3
-    refused-requires-2
+    (λ c κs. search needs)
     returns-4)

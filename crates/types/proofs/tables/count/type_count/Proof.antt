@@ -4,16 +4,17 @@ use Prim.Native.Nat.{_+_, _-_, _≤_}
 use native.Mathlib.Nat.{sub-zero, zero-add}
 use mathlib.Core.Path.{_≡_, sym, _∙_}
 use Rattle.types.specs.adding.Ids.{idWord}
+use Rattle.types.specs.tables.Limits.{mostTypes}
 use Rattle.types.specs.tables.Registry.{countFrom, typeCount}
 use Rattle.types.proofs.tables.CountLaws.{count-stop, count-on, count-end}
 use Rattle.types.proofs.tables.count.type_count.Statement.{statement}
 use Rattle.types.proofs.tables.count.type_count.Tie as tie
 
 abbrev Inv-loop : tie.InvT-loop
-Inv-loop types i₀ i = (i ≤ 200) × (typeCount types ≡ i + countFrom (idWord types) i (200 - i))
+Inv-loop types i₀ i = (i ≤ mostTypes) × (typeCount types ≡ i + countFrom (idWord types) i (mostTypes - i))
 
 abbrev μ-loop : tie.MeasureT-loop
-μ-loop types i₀ i = 200 - i
+μ-loop types i₀ i = mostTypes - i
 
 loop-holds : tie.Need-loop-holds Inv-loop μ-loop
 unfolding typeCount
@@ -35,7 +36,7 @@ returns : tie.Need-returns Inv-loop μ-loop
 returns c =
     let at-loop = c .before .before .before in
     sym (at-loop .loop .inv .1
-    ∙ count-stop (idWord (at-loop .before .args .types .now)) 200 (at-loop .loop .i)
+    ∙ count-stop (idWord (at-loop .before .args .types .now)) mostTypes (at-loop .loop .i)
     (c .before .before .loop-test .taken)
     (c .if1 .taken))
 
@@ -50,7 +51,7 @@ loop-again c =
     let at-loop = c .before .before .before in (
       omega arith,
       at-loop .loop .inv .1
-          ∙ count-on (idWord (at-loop .before .args .types .now)) 200 (at-loop .loop .i)
+          ∙ count-on (idWord (at-loop .before .args .types .now)) mostTypes (at-loop .loop .i)
           (c .before .before .loop-test .taken) (c .if1 .left),
     )
 
@@ -58,7 +59,7 @@ returns-2 : tie.Need-returns-2 Inv-loop μ-loop
 returns-2 c =
     let at-loop = c .before in
     sym (at-loop .loop .inv .1
-    ∙ count-end (idWord (at-loop .before .args .types .now)) 200 (at-loop .loop .i) (c .loop-test .left))
+    ∙ count-end (idWord (at-loop .before .args .types .now)) mostTypes (at-loop .loop .i) (c .loop-test .left))
 
 pub type-count-spec : {M : Type 1} → statement M
 type-count-spec =

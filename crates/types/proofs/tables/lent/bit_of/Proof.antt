@@ -9,15 +9,9 @@ returns : tie.Need-returns
 unfolding bitOf
 returns c = simp (eq-eqb _ _ (c .if1 .taken))
 
-sub-t3 : tie.Need-sub-t3
-sub-t3 c = search needs
-
-cast-t5 : tie.Need-cast-t5
-cast-t5 c = search needs
-
 returns-2 : tie.Need-returns-2
 unfolding bitOf
 returns-2 c = simp (ne-eqb _ _ (c .if1 .left))
 
 pub bit-of-spec : {M : Type 1} → statement M
-bit-of-spec = tie.close (tie.spec returns sub-t3 cast-t5 returns-2)
+bit-of-spec = tie.close (tie.spec returns (λ c. search needs) (λ c. search needs) returns-2)

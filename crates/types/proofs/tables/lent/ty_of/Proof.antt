@@ -6,22 +6,13 @@ use Rattle.types.proofs.atomics.AtomicLaws.{at-is}
 use Rattle.types.proofs.tables.lent.ty_of.Statement.{statement}
 use Rattle.types.proofs.tables.lent.ty_of.Tie as tie
 
-wide-requires : tie.Need-wide-requires
-wide-requires c κs = search needs
-
-at-requires : tie.Need-at-requires
-at-requires c κs = search needs
-
 returns : tie.Need-returns
 unfolding tyOf
 returns c = simp (lt-ltb _ _ (c .before .before .if1 .taken), at-is _ _ (c .at .ensures), c .before .wide .ensures)
-
-wide-requires-2 : tie.Need-wide-requires-2
-wide-requires-2 c κs = search needs
 
 returns-2 : tie.Need-returns-2
 unfolding tyOf
 returns-2 c = simp (le-ltb _ _ (c .before .if1 .left), c .wide2 .ensures)
 
 pub ty-of-spec : {M : Type 1} → statement M
-ty-of-spec = tie.close (tie.spec wide-requires at-requires returns wide-requires-2 returns-2)
+ty-of-spec = tie.close (tie.spec (λ c κs. search needs) (λ c κs. search needs) returns (λ c κs. search needs) returns-2)

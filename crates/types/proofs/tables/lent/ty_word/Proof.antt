@@ -6,18 +6,6 @@ use Rattle.types.specs.tables.Lent.{tyWord}
 use Rattle.types.proofs.tables.lent.ty_word.Statement.{statement}
 use Rattle.types.proofs.tables.lent.ty_word.Tie as tie
 
-enum-known-ty : tie.Need-enum-known-ty
-enum-known-ty c = search needs
-
-num-requires : tie.Need-num-requires
-num-requires c κs = search needs
-
-cast-result : tie.Need-cast-result
-cast-result c = search needs
-
-enum-known-ty-2 : tie.Need-enum-known-ty-2
-enum-known-ty-2 c = search needs
-
 cast-result-2 : tie.Need-cast-result-2
 cast-result-2 c =
     let h = rw (c .before .ty2 .given .1) at (c .before .before .before .pre) in
@@ -38,10 +26,10 @@ pub ty-word-spec : {M : Type 1} → statement M
 ty-word-spec =
     tie.close
     (tie.spec
-    enum-known-ty
-    num-requires
-    cast-result
-    enum-known-ty-2
+    (λ c. search needs)
+    (λ c κs. search needs)
+    (λ c. search needs)
+    (λ c. search needs)
     cast-result-2
     add-result
     returns

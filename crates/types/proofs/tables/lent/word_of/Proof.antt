@@ -5,14 +5,8 @@ use Rattle.types.proofs.tables.TableLaws.{word-below}
 use Rattle.types.proofs.tables.lent.word_of.Statement.{statement}
 use Rattle.types.proofs.tables.lent.word_of.Tie as tie
 
-ty-word-requires : tie.Need-ty-word-requires
-ty-word-requires c κs = search needs
-
 cast-result : tie.Need-cast-result
 cast-result c = omega (arith, c .ty-word .ensures, word-below (c .before .args .ty) (c .before .pre))
 
-returns : tie.Need-returns
-returns c = search needs
-
 pub word-of-spec : {M : Type 1} → statement M
-word-of-spec = tie.close (tie.spec ty-word-requires cast-result returns)
+word-of-spec = tie.close (tie.spec (λ c κs. search needs) cast-result (λ c. search needs))

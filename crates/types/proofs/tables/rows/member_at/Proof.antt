@@ -6,17 +6,11 @@ use Rattle.types.proofs.tables.rows.RowWords.{member-said}
 use Rattle.types.proofs.tables.rows.member_at.Statement.{statement}
 use Rattle.types.proofs.tables.rows.member_at.Tie as tie
 
-member-row-requires : tie.Need-member-row-requires
-member-row-requires c κs = search needs
-
 returns : tie.Need-returns
 returns c = ap memberSays (c .member-row .ensures) ∙ member-said _ _
-
-member-past-requires : tie.Need-member-past-requires
-member-past-requires c κs = search needs
 
 returns-2 : tie.Need-returns-2
 returns-2 c = ap memberSays (c .member-past .ensures) ∙ member-said _ _
 
 pub member-at-spec : {M : Type 1} → statement M
-member-at-spec = tie.close (tie.spec member-row-requires returns member-past-requires returns-2)
+member-at-spec = tie.close (tie.spec (λ c κs. search needs) returns (λ c κs. search needs) returns-2)

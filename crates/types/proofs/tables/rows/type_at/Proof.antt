@@ -6,17 +6,11 @@ use Rattle.types.proofs.tables.rows.RowWords.{type-said}
 use Rattle.types.proofs.tables.rows.type_at.Statement.{statement}
 use Rattle.types.proofs.tables.rows.type_at.Tie as tie
 
-type-row-requires : tie.Need-type-row-requires
-type-row-requires c κs = search needs
-
 returns : tie.Need-returns
 returns c = ap typeRow (c .type-row .ensures) ∙ type-said _ _
-
-type-past-requires : tie.Need-type-past-requires
-type-past-requires c κs = search needs
 
 returns-2 : tie.Need-returns-2
 returns-2 c = ap typeRow (c .type-past .ensures) ∙ type-said _ _
 
 pub type-at-spec : {M : Type 1} → statement M
-type-at-spec = tie.close (tie.spec type-row-requires returns type-past-requires returns-2)
+type-at-spec = tie.close (tie.spec (λ c κs. search needs) returns (λ c κs. search needs) returns-2)

@@ -3,23 +3,8 @@ use borrow.Author.Needs.{needs}
 use Rattle.types.proofs.tables.sizes.size_in.Statement.{statement}
 use Rattle.types.proofs.tables.sizes.size_in.Tie as tie
 
-enum-known-ty : tie.Need-enum-known-ty
-enum-known-ty c = search needs
-
-size-requires : tie.Need-size-requires
-size-requires c κs = search needs
-
-cast-result : tie.Need-cast-result
-cast-result c = search needs
-
-enum-known-ty-2 : tie.Need-enum-known-ty-2
-enum-known-ty-2 c = search needs
-
 type-row-requires : tie.Need-type-row-requires
 type-row-requires c κs = rw (c .before .ty2 .given .1) at (c .before .before .before .pre)
-
-wide64-requires : tie.Need-wide64-requires
-wide64-requires c κs = search needs
 
 returns : tie.Need-returns
 returns c = rw (c .before .before .ty .given .1) (c .size .ensures)
@@ -31,11 +16,11 @@ pub size-in-spec : {M : Type 1} → statement M
 size-in-spec =
     tie.close
     (tie.spec
-    enum-known-ty
-    size-requires
-    cast-result
-    enum-known-ty-2
+    (λ c. search needs)
+    (λ c κs. search needs)
+    (λ c. search needs)
+    (λ c. search needs)
     type-row-requires
-    wide64-requires
+    (λ c κs. search needs)
     returns
     returns-2)

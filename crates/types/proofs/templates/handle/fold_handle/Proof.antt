@@ -21,9 +21,6 @@ loop-holds c = (omega arith, refl)
 shared-slice-read-fold-byte : tie.Need-shared-slice-read-fold-byte Inv-loop μ-loop
 shared-slice-read-fold-byte c = omega arith
 
-fold-byte-requires : tie.Need-fold-byte-requires Inv-loop μ-loop
-fold-byte-requires c κs = search needs
-
 add-i : tie.Need-add-i Inv-loop μ-loop
 add-i c = omega arith
 
@@ -50,7 +47,7 @@ fold-handle-spec =
     μ-loop
     loop-holds
     shared-slice-read-fold-byte
-    fold-byte-requires
+    (λ c κs. search needs)
     add-i
     loop-less
     loop-again

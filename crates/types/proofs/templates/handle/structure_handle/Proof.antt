@@ -5,15 +5,9 @@ use Rattle.types.specs.templates.Handle.{notZero, handleOf}
 use Rattle.types.proofs.templates.handle.structure_handle.Statement.{statement}
 use Rattle.types.proofs.templates.handle.structure_handle.Tie as tie
 
-fold-handle-requires : tie.Need-fold-handle-requires
-fold-handle-requires c κs = search needs
-
-finish-handle-requires : tie.Need-finish-handle-requires
-finish-handle-requires c κs = search needs
-
 returns : tie.Need-returns
 unfolding handleOf
 returns c = c .finish-handle .ensures ∙ ap notZero (c .before .fold-handle .ensures)
 
 pub structure-handle-spec : {M : Type 1} → statement M
-structure-handle-spec = tie.close (tie.spec fold-handle-requires finish-handle-requires returns)
+structure-handle-spec = tie.close (tie.spec (λ c κs. search needs) (λ c κs. search needs) returns)

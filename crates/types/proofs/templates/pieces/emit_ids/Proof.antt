@@ -29,21 +29,6 @@ loop-holds c =
     let n = c .before .args .n in
     turn-first (λ j. memberIds j (n - j)) n (rw sub-zero) (c .before .pre .1)
 
-slice-aggregate-store16 : tie.Need-slice-aggregate-store16 Inv-loop μ-loop
-slice-aggregate-store16 c = search needs
-
-add-low16 : tie.Need-add-low16 Inv-loop μ-loop
-add-low16 c = search needs
-
-low16-requires : tie.Need-low16-requires Inv-loop μ-loop
-low16-requires c κs = search needs
-
-store16-requires : tie.Need-store16-requires Inv-loop μ-loop
-store16-requires c κs = search needs
-
-slice-aggregate-emit : tie.Need-slice-aggregate-emit Inv-loop μ-loop
-slice-aggregate-emit c = search needs
-
 emit-requires : tie.Need-emit-requires Inv-loop μ-loop
 emit-requires c κs =
     let at-store16 = c .before .before .before in
@@ -51,12 +36,6 @@ emit-requires c κs =
     let at-start = at-loop .before .before in
     let l = at-loop .loop in
     rw (came (at-store16)) (left-room _ _ (ids-on (at-start .args .n) (l .i) (omega arith)) (l .inv .rest))
-
-add-i : tie.Need-add-i Inv-loop μ-loop
-add-i c = search needs
-
-loop-less : tie.Need-loop-less Inv-loop μ-loop
-loop-less c = search needs
 
 loop-again : tie.Need-loop-again Inv-loop μ-loop
 loop-again c =
@@ -86,14 +65,14 @@ emit-ids-spec =
     Inv-loop
     μ-loop
     loop-holds
-    slice-aggregate-store16
-    add-low16
-    low16-requires
-    store16-requires
-    slice-aggregate-emit
+    (λ c. search needs)
+    (λ c. search needs)
+    (λ c κs. search needs)
+    (λ c κs. search needs)
+    (λ c. search needs)
     emit-requires
-    add-i
-    loop-less
+    (λ c. search needs)
+    (λ c. search needs)
     loop-again
     same-length
     returns)

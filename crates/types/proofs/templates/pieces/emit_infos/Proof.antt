@@ -17,12 +17,6 @@ Inv-loop types members out₀ first n k₀ i₀ out k i =
 abbrev μ-loop : tie.MeasureT-loop
 μ-loop types members out₀ first n k₀ i₀ out k i = n - i
 
-wide-requires : tie.Need-wide-requires Inv-loop μ-loop
-wide-requires c κs = search needs
-
-wide-requires-2 : tie.Need-wide-requires-2 Inv-loop μ-loop
-wide-requires-2 c κs = search needs
-
 loop-holds : tie.Need-loop-holds Inv-loop μ-loop
 loop-holds c =
     let at-start = c .before .before .before in
@@ -50,9 +44,6 @@ info-requires c κs =
     let rows = at-start .pre .0 in
     (row-inside first n (c .loop-test .taken) rows, row-type first n (c .loop-test .taken) rows)
 
-slice-aggregate-emit : tie.Need-slice-aggregate-emit Inv-loop μ-loop
-slice-aggregate-emit c = search needs
-
 emit-requires : tie.Need-emit-requires Inv-loop μ-loop
 emit-requires c κs =
     let at-info = c .before .before in
@@ -65,12 +56,6 @@ emit-requires c κs =
     let is = infos-on (at-start .args .members .now) [] (at-first .wide .result) (at-n .wide2 .result) (l .i)
     (turn .loop-test .taken) _ in
     rw (at-info .info .ensures) (left-room _ _ is (l .inv .rest))
-
-add-i : tie.Need-add-i Inv-loop μ-loop
-add-i c = search needs
-
-loop-less : tie.Need-loop-less Inv-loop μ-loop
-loop-less c = search needs
 
 loop-again : tie.Need-loop-again Inv-loop μ-loop
 loop-again c =
@@ -107,15 +92,15 @@ emit-infos-spec =
     (tie.spec
     Inv-loop
     μ-loop
-    wide-requires
-    wide-requires-2
+    (λ c κs. search needs)
+    (λ c κs. search needs)
     loop-holds
     add-info
     info-requires
-    slice-aggregate-emit
+    (λ c. search needs)
     emit-requires
-    add-i
-    loop-less
+    (λ c. search needs)
+    (λ c. search needs)
     loop-again
     same-length
     returns)

@@ -4,24 +4,6 @@ use Rattle.types.proofs.templates.TemplateLaws.{table-part}
 use Rattle.types.proofs.templates.pieces.emit_name.Statement.{statement}
 use Rattle.types.proofs.templates.pieces.emit_name.Tie as tie
 
-wide-requires : tie.Need-wide-requires
-wide-requires c κs = search needs
-
-wide-requires-2 : tie.Need-wide-requires-2
-wide-requires-2 c κs = search needs
-
-add-to : tie.Need-add-to
-add-to c = search needs
-
-sub-emit : tie.Need-sub-emit
-sub-emit c = search needs
-
-part-emit-start : tie.Need-part-emit-start
-part-emit-start c = search needs
-
-part-emit-end : tie.Need-part-emit-end
-part-emit-end c = search needs
-
 emit-requires : tie.Need-emit-requires
 emit-requires c κs =
     let at-long = c .before .before in
@@ -29,9 +11,6 @@ emit-requires c κs =
     let at-start = at-from .before .before .before in
     let a = at-start .args in
     rw (table-part (a .names .now) (a .name) (at-from .wide .ensures) (at-long .wide2 .ensures)) (at-start .pre .1)
-
-same-length : tie.Need-same-length
-same-length c = search needs
 
 returns : tie.Need-returns
 returns c =
@@ -47,12 +26,12 @@ pub emit-name-spec : {M : Type 1} → statement M
 emit-name-spec =
     tie.close
     (tie.spec
-    wide-requires
-    wide-requires-2
-    add-to
-    sub-emit
-    part-emit-start
-    part-emit-end
+    (λ c κs. search needs)
+    (λ c κs. search needs)
+    (λ c. search needs)
+    (λ c. search needs)
+    (λ c. search needs)
+    (λ c. search needs)
     emit-requires
-    same-length
+    (λ c. search needs)
     returns)

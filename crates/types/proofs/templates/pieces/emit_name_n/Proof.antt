@@ -13,17 +13,11 @@ emit-name-requires c κs =
     let a = at-start .args in
     (at-start .pre .0, left-room (nameIn (a .names .now) (a .name)) semicolonN refl (left-all (at-start .pre .1)))
 
-slice-aggregate-emit : tie.Need-slice-aggregate-emit
-slice-aggregate-emit c = search needs
-
 emit-requires : tie.Need-emit-requires
 emit-requires c κs =
     let at-emit-name = c .before .before .before .before in
     let at-start = at-emit-name .before .before .before .before in
     left-on semicolonN refl (left-all (at-start .pre .1)) (at-emit-name .emit-name .ensures) .room
-
-same-length : tie.Need-same-length
-same-length c = search needs
 
 returns : tie.Need-returns
 returns c =
@@ -33,4 +27,4 @@ returns c =
 
 pub emit-name-n-spec : {M : Type 1} → statement M
 emit-name-n-spec =
-    tie.close (tie.spec emit-name-requires slice-aggregate-emit emit-requires same-length returns)
+    tie.close (tie.spec emit-name-requires (λ c. search needs) emit-requires (λ c. search needs) returns)

@@ -18,12 +18,6 @@ Inv-loop members names out₀ first n k₀ i₀ t11 out k i =
 abbrev μ-loop : tie.MeasureT-loop
 μ-loop members names out₀ first n k₀ i₀ t11 out k i = n - i
 
-wide-requires : tie.Need-wide-requires Inv-loop μ-loop
-wide-requires c κs = search needs
-
-wide-requires-2 : tie.Need-wide-requires-2 Inv-loop μ-loop
-wide-requires-2 c κs = search needs
-
 loop-holds : tie.Need-loop-holds Inv-loop μ-loop
 loop-holds c =
     let at-start = c .before .before .before .before in
@@ -68,9 +62,6 @@ emit-name-requires c κs =
       left-room _ _ is (l .inv .rest),
     )
 
-slice-aggregate-emit : tie.Need-slice-aggregate-emit Inv-loop μ-loop
-slice-aggregate-emit c = search needs
-
 emit-requires : tie.Need-emit-requires Inv-loop μ-loop
 emit-requires c κs =
     let at-emit-name = c .before .before .before .before in
@@ -85,12 +76,6 @@ emit-requires c κs =
     let named = name-came (a .members .now) (a .names .now) (at-first .wide .result) (at-n .wide2 .result) (l .i)
     (turn .loop-test .taken) (at-name-row .name-row .ensures) (l .inv .rest) (at-emit-name .emit-name .ensures) in
     left-room (0 ∷ []) _ refl named
-
-add-i : tie.Need-add-i Inv-loop μ-loop
-add-i c = search needs
-
-loop-less : tie.Need-loop-less Inv-loop μ-loop
-loop-less c = search needs
 
 loop-again : tie.Need-loop-again Inv-loop μ-loop
 loop-again c =
@@ -126,16 +111,16 @@ emit-names-spec =
     (tie.spec
     Inv-loop
     μ-loop
-    wide-requires
-    wide-requires-2
+    (λ c κs. search needs)
+    (λ c κs. search needs)
     loop-holds
     add-name-row
     name-row-requires
     emit-name-requires
-    slice-aggregate-emit
+    (λ c. search needs)
     emit-requires
-    add-i
-    loop-less
+    (λ c. search needs)
+    (λ c. search needs)
     loop-again
     same-length
     returns)

@@ -5,18 +5,6 @@ use Rattle.types.proofs.templates.TemplateLaws.{zeros-padding, padding-
 use Rattle.types.proofs.templates.pieces.emit_padding.Statement.{statement}
 use Rattle.types.proofs.templates.pieces.emit_padding.Tie as tie
 
-add-n : tie.Need-add-n
-add-n c = search needs
-
-mul-n : tie.Need-mul-n
-mul-n c = search needs
-
-sub-n : tie.Need-sub-n
-sub-n c = search needs
-
-array-share-prefix-zeros : tie.Need-array-share-prefix-zeros
-array-share-prefix-zeros c = search needs
-
 slice-aggregate-emit : tie.Need-slice-aggregate-emit
 slice-aggregate-emit c =
     let at-start = c .before .before in
@@ -28,9 +16,6 @@ emit-requires c κs =
     let at-start = c .before .before .before in
     rw (zeros-padding (at-start .args .sink .at)) (at-start .pre)
 
-same-length : tie.Need-same-length
-same-length c = search needs
-
 returns : tie.Need-returns
 returns c =
     let at-emit = c .before .before in
@@ -41,11 +26,11 @@ pub emit-padding-spec : {M : Type 1} → statement M
 emit-padding-spec =
     tie.close
     (tie.spec
-    add-n
-    mul-n
-    sub-n
-    array-share-prefix-zeros
+    (λ c. search needs)
+    (λ c. search needs)
+    (λ c. search needs)
+    (λ c. search needs)
     slice-aggregate-emit
     emit-requires
-    same-length
+    (λ c. search needs)
     returns)

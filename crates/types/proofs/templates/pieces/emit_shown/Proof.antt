@@ -4,9 +4,6 @@ use Rattle.types.proofs.templates.TemplateLaws.{shown-udt, shown-bare, 
 use Rattle.types.proofs.templates.pieces.emit_shown.Statement.{statement}
 use Rattle.types.proofs.templates.pieces.emit_shown.Tie as tie
 
-enum-told : tie.Need-enum-told
-enum-told c = search needs
-
 emit-name-n-requires : tie.Need-emit-name-n-requires
 emit-name-n-requires c κs =
     let at-start = c .before .before .before .before .before .before in
@@ -14,9 +11,6 @@ emit-name-n-requires c κs =
     let kind = c .before .enum-told .given .1 in
     let is = shown-udt (a .names .now) (a .d) kind in
     (at-start .pre .0, rw is at (at-start .pre .1))
-
-same-length : tie.Need-same-length
-same-length c = search needs
 
 returns : tie.Need-returns
 returns c =
@@ -28,9 +22,6 @@ returns c =
     let is = shown-udt (a .names .now) (a .d) kind in
     rw is (at-emit-name-n .emit-name-n .ensures)
 
-enum-told-2 : tie.Need-enum-told-2
-enum-told-2 c = search needs
-
 emit-name-requires : tie.Need-emit-name-requires
 emit-name-requires c κs =
     let at-start = c .before .before .before .before .before .before in
@@ -38,9 +29,6 @@ emit-name-requires c κs =
     let kind = c .before .enum-told2 .given .1 in
     let is = shown-bare (a .names .now) (a .d) kind in
     (at-start .pre .0, rw is at (at-start .pre .1))
-
-same-length-2 : tie.Need-same-length-2
-same-length-2 c = search needs
 
 returns-2 : tie.Need-returns-2
 returns-2 c =
@@ -52,12 +40,6 @@ returns-2 c =
     let is = shown-bare (a .names .now) (a .d) kind in
     rw is (at-emit-name .emit-name .ensures)
 
-enum-told-3 : tie.Need-enum-told-3
-enum-told-3 c = search needs
-
-user-id-requires : tie.Need-user-id-requires
-user-id-requires c κs = search needs
-
 emit-name-n-requires-2 : tie.Need-emit-name-n-requires-2
 emit-name-n-requires-2 c κs =
     let at-user = c .before .before in
@@ -67,9 +49,6 @@ emit-name-n-requires-2 c κs =
     let kind = told .enum-told3 .given .1 in
     let is = shown-string (a .names .now) (a .d) kind (at-user .user-id .ensures) (c .before .if1 .taken) in
     (at-start .pre .0, rw is at (at-start .pre .1))
-
-same-length-3 : tie.Need-same-length-3
-same-length-3 c = search needs
 
 returns-3 : tie.Need-returns-3
 returns-3 c =
@@ -83,9 +62,6 @@ returns-3 c =
     let is = shown-string (a .names .now) (a .d) kind (at-user .user-id .ensures) (then1 .if1 .taken) in
     rw is (at-emit-name-n2 .emit-name-n2 .ensures)
 
-slice-aggregate-emit : tie.Need-slice-aggregate-emit
-slice-aggregate-emit c = search needs
-
 emit-requires : tie.Need-emit-requires
 emit-requires c κs =
     let else1 = c .before .before in
@@ -96,9 +72,6 @@ emit-requires c κs =
     let kind = told .enum-told3 .given .1 in
     let is = shown-ascii (a .names .now) (a .d) kind (at-user .user-id .ensures) (else1 .if1 .left) in
     rw is at (at-start .pre .1)
-
-same-length-4 : tie.Need-same-length-4
-same-length-4 c = search needs
 
 returns-4 : tie.Need-returns-4
 returns-4 c =
@@ -112,9 +85,6 @@ returns-4 c =
     let is = shown-ascii (a .names .now) (a .d) kind (at-user .user-id .ensures) (else1 .if1 .left) in
     rw is (at-emit .emit .ensures)
 
-enum-told-4 : tie.Need-enum-told-4
-enum-told-4 c = search needs
-
 emit-name-n-requires-3 : tie.Need-emit-name-n-requires-3
 emit-name-n-requires-3 c κs =
     let at-start = c .before .before .before .before .before .before in
@@ -122,9 +92,6 @@ emit-name-n-requires-3 c κs =
     let kind = c .before .enum-told4 .given .1 in
     let is = shown-aoi (a .names .now) (a .d) kind in
     (at-start .pre .0, rw is at (at-start .pre .1))
-
-same-length-5 : tie.Need-same-length-5
-same-length-5 c = search needs
 
 returns-5 : tie.Need-returns-5
 returns-5 c =
@@ -140,24 +107,24 @@ pub emit-shown-spec : {M : Type 1} → statement M
 emit-shown-spec =
     tie.close
     (tie.spec
-    enum-told
+    (λ c. search needs)
     emit-name-n-requires
-    same-length
+    (λ c. search needs)
     returns
-    enum-told-2
+    (λ c. search needs)
     emit-name-requires
-    same-length-2
+    (λ c. search needs)
     returns-2
-    enum-told-3
-    user-id-requires
+    (λ c. search needs)
+    (λ c κs. search needs)
     emit-name-n-requires-2
-    same-length-3
+    (λ c. search needs)
     returns-3
-    slice-aggregate-emit
+    (λ c. search needs)
     emit-requires
-    same-length-4
+    (λ c. search needs)
     returns-4
-    enum-told-4
+    (λ c. search needs)
     emit-name-n-requires-3
-    same-length-5
+    (λ c. search needs)
     returns-5)

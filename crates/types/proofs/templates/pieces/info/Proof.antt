@@ -8,38 +8,11 @@ use Rattle.types.proofs.templates.TemplateLaws.{info-bytes}
 use Rattle.types.proofs.templates.pieces.info.Statement.{statement}
 use Rattle.types.proofs.templates.pieces.info.Tie as tie
 
-member-row-requires : tie.Need-member-row-requires
-member-row-requires c κs = search needs
-
-slice-aggregate-store16 : tie.Need-slice-aggregate-store16
-slice-aggregate-store16 c = search needs
-
-info-of-requires : tie.Need-info-of-requires
-info-of-requires c κs = search needs
-
-store16-requires : tie.Need-store16-requires
-store16-requires c κs = search needs
-
-slice-aggregate-store16-2 : tie.Need-slice-aggregate-store16-2
-slice-aggregate-store16-2 c = search needs
-
 type-in-requires : tie.Need-type-in-requires
 type-in-requires c κs =
     let at-member-row = c .before .before .before .before .before in
     let at-start = at-member-row .before in
     rw (at-member-row .member-row .ensures) (at-start .pre .1)
-
-low16-requires : tie.Need-low16-requires
-low16-requires c κs = search needs
-
-store16-requires-2 : tie.Need-store16-requires-2
-store16-requires-2 c κs = search needs
-
-slice-aggregate-store32 : tie.Need-slice-aggregate-store32
-slice-aggregate-store32 c = search needs
-
-store32-requires : tie.Need-store32-requires
-store32-requires c κs = search needs
 
 returns : tie.Need-returns
 returns c =
@@ -60,14 +33,14 @@ pub info-spec : {M : Type 1} → statement M
 info-spec =
     tie.close
     (tie.spec
-    member-row-requires
-    slice-aggregate-store16
-    info-of-requires
-    store16-requires
-    slice-aggregate-store16-2
+    (λ c κs. search needs)
+    (λ c. search needs)
+    (λ c κs. search needs)
+    (λ c κs. search needs)
+    (λ c. search needs)
     type-in-requires
-    low16-requires
-    store16-requires-2
-    slice-aggregate-store32
-    store32-requires
+    (λ c κs. search needs)
+    (λ c κs. search needs)
+    (λ c. search needs)
+    (λ c κs. search needs)
     returns)

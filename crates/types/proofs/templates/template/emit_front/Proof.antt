@@ -27,9 +27,6 @@ emit-shown-requires c κs =
     let room = left-room (shownIn (a .names .now) (a .d)) _ refl infos in
     (omega (arith, at-start .pre .rows .name, at-start .pre .table), room)
 
-slice-aggregate-emit : tie.Need-slice-aggregate-emit
-slice-aggregate-emit c = search needs
-
 emit-requires : tie.Need-emit-requires
 emit-requires c κs =
     let at-emit-shown = c .before .before .before .before in
@@ -54,9 +51,6 @@ emit-names-requires c κs =
     let zero = left-on _ refl shown (at-emit .emit .ensures) in
     record { rows = at-start .pre .rows; table = at-start .pre .table; room = zero .room }
 
-same-length : tie.Need-same-length
-same-length c = search needs
-
 returns : tie.Need-returns
 returns c =
     let at-emit-names = c .before .before in
@@ -77,8 +71,8 @@ emit-front-spec =
     (tie.spec
     emit-infos-requires
     emit-shown-requires
-    slice-aggregate-emit
+    (λ c. search needs)
     emit-requires
     emit-names-requires
-    same-length
+    (λ c. search needs)
     returns)

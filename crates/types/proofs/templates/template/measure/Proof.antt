@@ -6,15 +6,12 @@ use Rattle.types.proofs.templates.template.WalkLaws.{template-small, qu
 use Rattle.types.proofs.templates.template.measure.Statement.{statement}
 use Rattle.types.proofs.templates.template.measure.Tie as tie
 
-slice-aggregate-walk : tie.Need-slice-aggregate-walk
-slice-aggregate-walk c = search needs
-
 walk-requires : tie.Need-walk-requires
 walk-requires c κs =
     let at-start = c .before .before in
     let a = at-start .args in
     let small = template-small (a .types .now) (a .members .now) (a .names .now) (a .d) (at-start .pre) in
-    (refl, record { rows = at-start .pre; table = c .before .walk-arg .given .0; room = quiet-room _ _ _ small })
+    (refl, record { rows = at-start .pre; table = c .before .walk-arg .given .0; room = quiet-room small })
 
 returns : tie.Need-returns
 returns c =
@@ -28,4 +25,4 @@ returns c =
     }
 
 pub measure-spec : {M : Type 1} → statement M
-measure-spec = tie.close (tie.spec slice-aggregate-walk walk-requires returns)
+measure-spec = tie.close (tie.spec (λ c. search needs) walk-requires returns)

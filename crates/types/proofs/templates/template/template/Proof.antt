@@ -10,18 +10,9 @@ use Rattle.types.proofs.tables.ThereLaws.{kept-there, there-below}
 use Rattle.types.proofs.templates.template.template.Statement.{statement}
 use Rattle.types.proofs.templates.template.template.Tie as tie
 
-enum-told : tie.Need-enum-told
-enum-told c = search needs
-
 returns : tie.Need-returns
 returns c =
     rw (c .enum-told .given .1) (given-absent _ _ refl)
-
-enum-known-ty : tie.Need-enum-known-ty
-enum-known-ty c = search needs
-
-is-there-requires : tie.Need-is-there-requires
-is-there-requires c κs = search needs
 
 type-row-requires : tie.Need-type-row-requires
 type-row-requires c κs = there-below _ _ (sym (c .before .is-there .ensures) ∙ c .if1 .taken)
@@ -46,9 +37,6 @@ readable c =
 template-bytes-requires : tie.Need-template-bytes-requires
 template-bytes-requires c κs = readable c
 
-cast-if2 : tie.Need-cast-if2
-cast-if2 c = search needs
-
 returns-2 : tie.Need-returns-2
 returns-2 c =
     let row = c .before .before in
@@ -59,9 +47,6 @@ write-template-requires : tie.Need-write-template-requires
 write-template-requires c κs =
     let long = c .before .before in
     (readable (long .before), rw (long .template-bytes .ensures) at (c .before .if2 .left))
-
-same-length : tie.Need-same-length
-same-length c = search needs
 
 returns-3 : tie.Need-returns-3
 returns-3 c =
@@ -87,15 +72,15 @@ pub template-spec : {M : Type 1} → statement M
 template-spec =
     tie.close
     (tie.spec
-    enum-told
+    (λ c. search needs)
     returns
-    enum-known-ty
-    is-there-requires
+    (λ c. search needs)
+    (λ c κs. search needs)
     type-row-requires
     template-bytes-requires
-    cast-if2
+    (λ c. search needs)
     returns-2
     write-template-requires
-    same-length
+    (λ c. search needs)
     returns-3
     returns-4)

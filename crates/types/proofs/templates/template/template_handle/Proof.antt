@@ -5,15 +5,9 @@ use Rattle.types.specs.templates.Handle.{notZero, handleOf}
 use Rattle.types.proofs.templates.template.template_handle.Statement.{statement}
 use Rattle.types.proofs.templates.template.template_handle.Tie as tie
 
-measure-requires : tie.Need-measure-requires
-measure-requires c κs = search needs
-
-finish-handle-requires : tie.Need-finish-handle-requires
-finish-handle-requires c κs = search needs
-
 returns : tie.Need-returns
 unfolding handleOf
 returns c = c .finish-handle .ensures ∙ ap notZero (c .before .measure .ensures .fold)
 
 pub template-handle-spec : {M : Type 1} → statement M
-template-handle-spec = tie.close (tie.spec measure-requires finish-handle-requires returns)
+template-handle-spec = tie.close (tie.spec (λ c κs. search needs) (λ c κs. search needs) returns)

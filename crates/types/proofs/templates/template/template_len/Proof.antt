@@ -6,9 +6,6 @@ use Rattle.types.proofs.tables.ThereLaws.{kept-there, there-below}
 use Rattle.types.proofs.templates.template.template_len.Statement.{statement}
 use Rattle.types.proofs.templates.template.template_len.Tie as tie
 
-is-there-requires : tie.Need-is-there-requires
-is-there-requires c κs = search needs
-
 type-row-requires : tie.Need-type-row-requires
 type-row-requires c κs = there-below _ _ (sym (c .before .is-there .ensures) ∙ c .if1 .taken)
 
@@ -36,4 +33,4 @@ returns-2 c = rw (sym (c .before .is-there .ensures) ∙ c .if1 .left)
 pub template-len-spec : {M : Type 1} → statement M
 template-len-spec =
     tie.close
-    (tie.spec is-there-requires type-row-requires template-bytes-requires returns returns-2)
+    (tie.spec (λ c κs. search needs) type-row-requires template-bytes-requires returns returns-2)

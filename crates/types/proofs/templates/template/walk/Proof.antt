@@ -16,9 +16,6 @@ emit-front-requires c κs =
     let room = front-room (a .types .now) (a .members .now) (a .names .now) (a .d) (asked .room) in
     record { rows = asked .rows; table = asked .table; room = room }
 
-user-id-requires : tie.Need-user-id-requires
-user-id-requires c κs = search needs
-
 emit-padding-requires : tie.Need-emit-padding-requires
 emit-padding-requires c κs =
     let at-user = c .before .before in
@@ -44,9 +41,6 @@ emit-ids-requires c κs =
     let ids = left-on (memberIds 0 (a .d .count)) refl left (at-emit-padding .emit-padding .ensures) in
     (omega (arith, at-start .pre .1 .rows .rows), ids .room)
 
-same-length : tie.Need-same-length
-same-length c = search needs
-
 returns : tie.Need-returns
 returns c =
     let at-emit-ids = c .before .before in
@@ -62,9 +56,6 @@ returns c =
     let ids = left-on (memberIds 0 (a .d .count)) refl left (at-emit-padding .emit-padding .ensures) in
     ids .then _ _ (at-emit-ids .emit-ids .ensures)
 
-same-length-2 : tie.Need-same-length-2
-same-length-2 c = search needs
-
 returns-2 : tie.Need-returns-2
 returns-2 c =
     let at-emit-front = c .before .before .before .before in
@@ -78,10 +69,10 @@ walk-spec =
     tie.close
     (tie.spec
     emit-front-requires
-    user-id-requires
+    (λ c κs. search needs)
     emit-padding-requires
     emit-ids-requires
-    same-length
+    (λ c. search needs)
     returns
-    same-length-2
+    (λ c. search needs)
     returns-2)

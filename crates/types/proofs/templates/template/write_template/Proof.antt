@@ -10,14 +10,8 @@ walk-requires c κs =
     let at-start = c .before .before .before in
     let a = at-start .args in
     let small = template-small (a .types .now) (a .members .now) (a .names .now) (a .d) (at-start .pre .0) in
-    let room = writing-room _ _ _ small (at-start .pre .1) in
+    let room = writing-room small (at-start .pre .1) in
     (refl, record { rows = at-start .pre .0; table = c .before .walk-arg .given .0; room = room })
 
-same-length : tie.Need-same-length
-same-length c = search needs
-
-returns : tie.Need-returns
-returns c = search needs
-
 pub write-template-spec : {M : Type 1} → statement M
-write-template-spec = tie.close (tie.spec walk-requires same-length returns)
+write-template-spec = tie.close (tie.spec walk-requires (λ c. search needs) (λ c. search needs))

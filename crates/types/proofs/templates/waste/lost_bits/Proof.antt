@@ -14,18 +14,6 @@ Inv-loop types members first n total bits₀ i₀ bits i = Counting types member
 abbrev μ-loop : tie.MeasureT-loop
 μ-loop types members first n total bits₀ i₀ bits i = n - i
 
-wide-requires : tie.Need-wide-requires Inv-loop μ-loop
-wide-requires c κs = search needs
-
-wide-requires-2 : tie.Need-wide-requires-2 Inv-loop μ-loop
-wide-requires-2 c κs = search needs
-
-wide64-requires : tie.Need-wide64-requires Inv-loop μ-loop
-wide64-requires c κs = search needs
-
-mul-total : tie.Need-mul-total Inv-loop μ-loop
-mul-total c = search needs
-
 loop-holds : tie.Need-loop-holds Inv-loop μ-loop
 loop-holds c =
     let at-first = c .before .before in
@@ -69,12 +57,6 @@ add-bits c =
     (at-start .pre .rows) in
     omega (arith, at-loop .loop .inv .small, c .seen-bits .ensures .small)
 
-add-i : tie.Need-add-i Inv-loop μ-loop
-add-i c = search needs
-
-loop-less : tie.Need-loop-less Inv-loop μ-loop
-loop-less c = search needs
-
 loop-again : tie.Need-loop-again Inv-loop μ-loop
 loop-again c =
     let turn = c .before .before in
@@ -110,17 +92,17 @@ lost-bits-spec =
     (tie.spec
     Inv-loop
     μ-loop
-    wide-requires
-    wide-requires-2
-    wide64-requires
-    mul-total
+    (λ c κs. search needs)
+    (λ c κs. search needs)
+    (λ c κs. search needs)
+    (λ c. search needs)
     loop-holds
     add-member-row
     member-row-requires
     seen-bits-requires
     add-bits
-    add-i
-    loop-less
+    (λ c. search needs)
+    (λ c. search needs)
     loop-again
     returns
     returns-2)

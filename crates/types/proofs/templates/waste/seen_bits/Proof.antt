@@ -12,18 +12,6 @@ product c =
     let at-start = told .before .before .before in
     rw (c .before .size-in .ensures, c .elements .ensures .is) (at-start .pre .small (told .enum-told .given .1))
 
-returns : tie.Need-returns
-returns c = search needs
-
-enum-told : tie.Need-enum-told
-enum-told c = search needs
-
-size-in-requires : tie.Need-size-in-requires
-size-in-requires c κs = search needs
-
-elements-requires : tie.Need-elements-requires
-elements-requires c κs = search needs
-
 mul-result : tie.Need-mul-result
 mul-result c = omega (arith, product c)
 
@@ -39,22 +27,16 @@ returns-2 c =
     whole-bits (a .types .now) (a .m) (else1 .if1 .left) (at-enum-told .enum-told .given .1)
     (c .before .size-in .ensures) (c .elements .ensures .is) (at-start .pre)
 
-enum-told-2 : tie.Need-enum-told-2
-enum-told-2 c = search needs
-
-returns-3 : tie.Need-returns-3
-returns-3 c = search needs
-
 pub seen-bits-spec : {M : Type 1} → statement M
 seen-bits-spec =
     tie.close
     (tie.spec
-    returns
-    enum-told
-    size-in-requires
-    elements-requires
+    (λ c. search needs)
+    (λ c. search needs)
+    (λ c κs. search needs)
+    (λ c κs. search needs)
     mul-result
     mul-result-2
     returns-2
-    enum-told-2
-    returns-3)
+    (λ c. search needs)
+    (λ c. search needs))

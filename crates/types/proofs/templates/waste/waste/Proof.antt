@@ -6,9 +6,6 @@ use Rattle.types.proofs.tables.ThereLaws.{kept-there, there-below}
 use Rattle.types.proofs.templates.waste.waste.Statement.{statement}
 use Rattle.types.proofs.templates.waste.waste.Tie as tie
 
-is-there-requires : tie.Need-is-there-requires
-is-there-requires c κs = search needs
-
 type-row-requires : tie.Need-type-row-requires
 type-row-requires c κs = there-below _ _ (sym (c .before .is-there .ensures) ∙ c .if1 .taken)
 
@@ -35,4 +32,4 @@ returns-2 c names = rw (sym (c .before .is-there .ensures) ∙ c .if1 .left)
 
 pub waste-spec : {M : Type 1} → statement M
 waste-spec =
-    tie.close (tie.spec is-there-requires type-row-requires lost-bits-requires returns returns-2)
+    tie.close (tie.spec (λ c κs. search needs) type-row-requires lost-bits-requires returns returns-2)

@@ -28,35 +28,14 @@ here c =
       bit = arm .bit .given .1;
     }
 
-member-row-requires : tie.Need-member-row-requires
-member-row-requires c κs = search needs
-
 returns : tie.Need-returns
 returns c = unflagged-hidden _ _ (c .before .member-row .ensures) (c .if1 .taken)
-
-enum-known-bit : tie.Need-enum-known-bit
-enum-known-bit c = search needs
-
-bit-in-byte-requires : tie.Need-bit-in-byte-requires
-bit-in-byte-requires c κs = search needs
-
-wide-requires : tie.Need-wide-requires
-wide-requires c κs = search needs
 
 add-bit-at : tie.Need-add-bit-at
 add-bit-at c = omega (arith, flag-inside (here c) .0, start c .good)
 
 bit-at-requires : tie.Need-bit-at-requires
 bit-at-requires c κs = flag-inside (here c)
-
-put-bit-requires : tie.Need-put-bit-requires
-put-bit-requires c κs = search needs
-
-enum-told : tie.Need-enum-told
-enum-told c = search needs
-
-same-length : tie.Need-same-length
-same-length c = search needs
 
 returns-2 : tie.Need-returns-2
 returns-2 c =
@@ -75,15 +54,15 @@ pub keep-flag-spec : {M : Type 1} → statement M
 keep-flag-spec =
     tie.close
     (tie.spec
-    member-row-requires
+    (λ c κs. search needs)
     returns
-    enum-known-bit
-    bit-in-byte-requires
-    wide-requires
+    (λ c. search needs)
+    (λ c κs. search needs)
+    (λ c κs. search needs)
     add-bit-at
     bit-at-requires
-    put-bit-requires
-    enum-told
-    same-length
+    (λ c κs. search needs)
+    (λ c. search needs)
+    (λ c. search needs)
     returns-2
     returns-3)

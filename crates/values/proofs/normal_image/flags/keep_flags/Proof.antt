@@ -20,7 +20,7 @@ abbrev in-loop : tie.After-slice-known2 Inv-loop μ-loop → tie.In-loop Inv-loo
 in-loop c = c .before .before .before .before
 
 loop-holds : tie.Need-loop-holds Inv-loop μ-loop
-loop-holds c = (omega arith, keeping-none _ _ _ _ _ _ refl)
+loop-holds c = (omega arith, keeping-none refl)
 
 add-keep-flag : tie.Need-add-keep-flag Inv-loop μ-loop
 add-keep-flag c = omega (arith, start c .pre .0 .rows, c .loop-test .taken)
@@ -43,7 +43,7 @@ loop-again c =
     let kept = c .before .before in
     let turn = in-loop c in (
       omega (arith, turn .loop-test .taken),
-      keeping-more _ (turn .before .loop .inv .1) (kept .keep-flag .kept .1 .1 .1 .1 .1 .0) (kept .keep-flag .ensures),
+      keeping-more (turn .before .loop .inv .1) (kept .keep-flag .kept .1 .1 .1 .1 .1 .0) (kept .keep-flag .ensures),
     )
 
 same-length : tie.Need-same-length Inv-loop μ-loop

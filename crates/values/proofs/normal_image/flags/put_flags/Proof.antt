@@ -22,7 +22,7 @@ abbrev in-loop : tie.After-slice-known2 Inv-loop μ-loop → tie.In-loop Inv-loo
 in-loop c = c .before .before .before .before
 
 loop-holds : tie.Need-loop-holds Inv-loop μ-loop
-loop-holds c = (omega arith, putting-none _ _ _ _ _ _ _ refl)
+loop-holds c = (omega arith, putting-none refl)
 
 add-put-flag : tie.Need-add-put-flag Inv-loop μ-loop
 add-put-flag c = omega (arith, start c .pre .0 .rows, c .loop-test .taken)
@@ -46,7 +46,7 @@ loop-again c =
     let put = c .before .before in
     let turn = in-loop c in (
       omega (arith, turn .loop-test .taken),
-      putting-more _ (turn .before .loop .inv .1) (turn .loop-test .taken) (put .put-flag .kept .1 .1 .1 .1 .0)
+      putting-more (turn .before .loop .inv .1) (turn .loop-test .taken) (put .put-flag .kept .1 .1 .1 .1 .0)
           (put .put-flag .ensures),
     )
 

@@ -17,12 +17,6 @@ is-bool c = ap (λ f. f .kind) (sym (c .before .form-of .ensures)) ∙ c .if1 .t
 no-bool : (c : tie.Else1) → formOf (c .before .before .before .args .a) .kind ≡ 1 → ⊥
 no-bool c e = c .if1 .left (ap (λ f. f .kind) (c .before .form-of .ensures) ∙ e)
 
-form-of-requires : tie.Need-form-of-requires
-form-of-requires c κs = search needs
-
-times-of-requires : tie.Need-times-of-requires
-times-of-requires c κs = search needs
-
 normal-bools-requires : tie.Need-normal-bools-requires
 normal-bools-requires c κs =
     let then1 = c .before .before in
@@ -30,9 +24,6 @@ normal-bools-requires c κs =
     let a = start .args in
     bools-room (a .a) (is-bool then1) (a .n) (c .before .times-of .result) (a .base) (length (a .image .now))
     (c .before .times-of .ensures) (start .pre)
-
-same-length : tie.Need-same-length
-same-length c = search needs
 
 returns : tie.Need-returns
 returns c =
@@ -53,9 +44,9 @@ pub normal-atomics-spec : {M : Type 1} → statement M
 normal-atomics-spec =
     tie.close
     (tie.spec
-    form-of-requires
-    times-of-requires
+    (λ c κs. search needs)
+    (λ c κs. search needs)
     normal-bools-requires
-    same-length
+    (λ c. search needs)
     returns
     returns-2)

@@ -25,9 +25,6 @@ add-x c = omega arith
 slice-read-x : tie.Need-slice-read-x Inv-loop μ-loop
 slice-read-x c = omega arith
 
-truth-byte-requires : tie.Need-truth-byte-requires Inv-loop μ-loop
-truth-byte-requires c κs = search needs
-
 add-image : tie.Need-add-image Inv-loop μ-loop
 add-image c = omega arith
 
@@ -61,7 +58,7 @@ normal-bools-spec =
     loop-holds
     add-x
     slice-read-x
-    truth-byte-requires
+    (λ c κs. search needs)
     add-image
     slice-write-image
     add-k

@@ -6,42 +6,6 @@ use Rattle.values.proofs.normal_image.leaves.LeafMade.{text-made}
 use Rattle.values.proofs.normal_image.leaves.normal_text.Statement.{statement}
 use Rattle.values.proofs.normal_image.leaves.normal_text.Tie as tie
 
-wide-requires : tie.Need-wide-requires
-wide-requires c κs = search needs
-
-add-room : tie.Need-add-room
-add-room c = search needs
-
-mul-room : tie.Need-mul-room
-mul-room c = search needs
-
-load32-requires : tie.Need-load32-requires
-load32-requires c κs = search needs
-
-shorter-requires : tie.Need-shorter-requires
-shorter-requires c κs = search needs
-
-wide-requires-2 : tie.Need-wide-requires-2
-wide-requires-2 c κs = search needs
-
-store32-requires : tie.Need-store32-requires
-store32-requires c κs = search needs
-
-add-clear : tie.Need-add-clear
-add-clear c = search needs
-
-add-clear-2 : tie.Need-add-clear-2
-add-clear-2 c = search needs
-
-sub-clear : tie.Need-sub-clear
-sub-clear c = search needs
-
-clear-requires : tie.Need-clear-requires
-clear-requires c κs = search needs
-
-same-length : tie.Need-same-length
-same-length c = search needs
-
 returns : tie.Need-returns
 returns c =
     let at-clear = c .before .before in
@@ -62,16 +26,16 @@ pub normal-text-spec : {M : Type 1} → statement M
 normal-text-spec =
     tie.close
     (tie.spec
-    wide-requires
-    add-room
-    mul-room
-    load32-requires
-    shorter-requires
-    wide-requires-2
-    store32-requires
-    add-clear
-    add-clear-2
-    sub-clear
-    clear-requires
-    same-length
+    (λ c κs. search needs)
+    (λ c. search needs)
+    (λ c. search needs)
+    (λ c κs. search needs)
+    (λ c κs. search needs)
+    (λ c κs. search needs)
+    (λ c κs. search needs)
+    (λ c. search needs)
+    (λ c. search needs)
+    (λ c. search needs)
+    (λ c κs. search needs)
+    (λ c. search needs)
     returns)

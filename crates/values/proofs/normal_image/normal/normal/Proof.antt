@@ -45,9 +45,6 @@ fits : (c : tie.Else2)
     (c .before .before .before .before .before .before .before .before .args .image .now) ≡ true
 fits c = sym (product (c .before)) ∙ not-false _ (c .if2 .left)
 
-is-there-requires : tie.Need-is-there-requires
-is-there-requires c κs = search needs
-
 returns : tie.Need-returns
 returns c =
     let at-there = c .before in
@@ -55,19 +52,10 @@ returns c =
     no-type (a .types .now) (a .members .now) (a .ty) (a .count) (a .image .now)
     (sym (at-there .is-there .ensures) ∙ not-true _ (c .if1 .taken))
 
-as-size-requires : tie.Need-as-size-requires
-as-size-requires c κs = search needs
-
 size-of-ty-requires : tie.Need-size-of-ty-requires
 size-of-ty-requires c κs =
     let a = c .before .before .before .before .args in
     there-fits (a .types .now) (a .ty) (there (c .before))
-
-times-of-requires : tie.Need-times-of-requires
-times-of-requires c κs = search needs
-
-is-product-requires : tie.Need-is-product-requires
-is-product-requires c κs = search needs
 
 returns-2 : tie.Need-returns-2
 returns-2 c =
@@ -93,9 +81,6 @@ normal-value-requires c κs =
       },
     )
 
-same-length : tie.Need-same-length
-same-length c = search needs
-
 returns-3 : tie.Need-returns-3
 returns-3 c =
     let at-value = c .before .before in
@@ -110,13 +95,13 @@ pub normal-spec : {M : Type 1} → statement M
 normal-spec =
     tie.close
     (tie.spec
-    is-there-requires
+    (λ c κs. search needs)
     returns
-    as-size-requires
+    (λ c κs. search needs)
     size-of-ty-requires
-    times-of-requires
-    is-product-requires
+    (λ c κs. search needs)
+    (λ c κs. search needs)
     returns-2
     normal-value-requires
-    same-length
+    (λ c. search needs)
     returns-3)

@@ -7,16 +7,10 @@ use Rattle.values.proofs.writing.SettingLaws.{atomics-fit, value-here, 
 use Rattle.values.proofs.normal_image.normal.normal_value.Statement.{statement}
 use Rattle.values.proofs.normal_image.normal.normal_value.Tie as tie
 
-enum-known-ty : tie.Need-enum-known-ty
-enum-known-ty c = search needs
-
 normal-atomics-requires : tie.Need-normal-atomics-requires
 normal-atomics-requires c κs =
     let at-ty = c .before .before in
     omega (arith, atomics-fit (at-ty .before .before .before .pre .1) (at-ty .ty .given .1))
-
-enum-known-ty-2 : tie.Need-enum-known-ty-2
-enum-known-ty-2 c = search needs
 
 normal-struct-requires : tie.Need-normal-struct-requires
 normal-struct-requires c κs =
@@ -24,9 +18,6 @@ normal-struct-requires c κs =
     let at-ty = then1 .before .before in
     let p = at-ty .before .before .before .pre in
     (p .0, value-here (p .1) (at-ty .ty2 .given .1) (then1 .if1 .taken))
-
-same-length : tie.Need-same-length
-same-length c = search needs
 
 returns : tie.Need-returns
 returns c =
@@ -44,9 +35,6 @@ normal-elements-requires c κs =
     let p = at-ty .before .before .before .pre in
     (p .0, values-here (p .1) (at-ty .ty2 .given .1) (else1 .if1 .left))
 
-same-length-2 : tie.Need-same-length-2
-same-length-2 c = search needs
-
 returns-2 : tie.Need-returns-2
 returns-2 c =
     let at-atomics = c .before .before in
@@ -54,9 +42,6 @@ returns-2 c =
     let p = at-ty .before .before .before .pre in
     atomics-normal (p .0) (p .1) (at-atomics .normal-atomics .kept .1 .1 .0) (λ k. c .slice-known2 .given k .fits)
     (at-ty .ty .given .1) (at-atomics .normal-atomics .ensures)
-
-same-length-3 : tie.Need-same-length-3
-same-length-3 c = search needs
 
 returns-3 : tie.Need-returns-3
 returns-3 c =
@@ -72,14 +57,14 @@ pub normal-value-spec : {M : Type 1} → statement M
 normal-value-spec =
     tie.close
     (tie.spec
-    enum-known-ty
+    (λ c. search needs)
     normal-atomics-requires
-    enum-known-ty-2
+    (λ c. search needs)
     normal-struct-requires
-    same-length
+    (λ c. search needs)
     returns
     normal-elements-requires
-    same-length-2
+    (λ c. search needs)
     returns-2
-    same-length-3
+    (λ c. search needs)
     returns-3)

@@ -7,8 +7,8 @@ use mathlib.Core.Bool.{false}
 use lib.ListN.{length}
 use Rattle.types.specs.atomics.Atomic.{bitString}
 use Rattle.values.specs.inside.reading.Walk.{atomicsOut, bitsOut, elementOut, numbersOut, upTo}
-use Rattle.values.proofs.reading.atomics.AtomicRunLaws.{one-long, array-long, elements-long}
-use Rattle.values.proofs.reading.atomics.AtomicRunLaws.{atomics-bits, atomics-one, atomics-array}
+use Rattle.values.proofs.reading.atomics.AtomicRunLaws.{one-long, array-long, elements-long, atomics-bits}
+use Rattle.values.proofs.reading.atomics.AtomicRunLaws.{atomics-one, atomics-array}
 use Rattle.values.proofs.stream.PutLaws.{put-as}
 use Rattle.values.proofs.reading.atomics.put_atomics.Statement.{statement}
 use Rattle.values.proofs.reading.atomics.put_atomics.Tie as tie
@@ -41,15 +41,9 @@ array c =
     let a = c .before .before .before .before .before .args in
     atomics-array (a .a) (a .n) (a .s .now) (plain (c .before)) (c .if2 .left)
 
-is-bits-requires : tie.Need-is-bits-requires
-is-bits-requires c κs = search needs
-
 put-bits-requires : tie.Need-put-bits-requires
 put-bits-requires c κs =
     omega (arith, ap length (bits (c .before)), c .before .before .before .before .before .pre .1)
-
-same-length : tie.Need-same-length
-same-length c = search needs
 
 returns : tie.Need-returns
 returns c = put-as (bits (c .before .before .before .before)) (c .before .before .put-bits .ensures)
@@ -62,9 +56,6 @@ put-run-requires c κs =
       omega (arith, ap length (one (c .before)), elements-long (a .a) 1 (a .s .now), at-start .pre .1),
     )
 
-same-length-2 : tie.Need-same-length-2
-same-length-2 c = search needs
-
 returns-2 : tie.Need-returns-2
 returns-2 c = put-as (one (c .before .before .before .before)) (c .before .before .put-run .ensures)
 
@@ -76,9 +67,6 @@ put-numbers-requires c κs =
       omega (arith, ap length (array (c .before)), at-start .pre .1),
     )
 
-same-length-3 : tie.Need-same-length-3
-same-length-3 c = search needs
-
 returns-3 : tie.Need-returns-3
 returns-3 c = put-as (array (c .before .before .before .before)) (c .before .before .put-numbers .ensures)
 
@@ -86,13 +74,13 @@ pub put-atomics-spec : {M : Type 1} → statement M
 put-atomics-spec =
     tie.close
     (tie.spec
-    is-bits-requires
+    (λ c κs. search needs)
     put-bits-requires
-    same-length
+    (λ c. search needs)
     returns
     put-run-requires
-    same-length-2
+    (λ c. search needs)
     returns-2
     put-numbers-requires
-    same-length-3
+    (λ c. search needs)
     returns-3)

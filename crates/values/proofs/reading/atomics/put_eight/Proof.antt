@@ -77,19 +77,10 @@ eight c =
 
 -- ---- the needs
 
-bit-of-requires : tie.Need-bit-of-requires
-bit-of-requires c κs = search needs
-
-put-entry-requires : tie.Need-put-entry-requires
-put-entry-requires c κs = search needs
-
 add-put-entry : tie.Need-add-put-entry
 add-put-entry c =
     let at-start = start1 (c .before .before .before) in
     omega (arith, at-start .pre, at-start .good)
-
-bit-of-requires-2 : tie.Need-bit-of-requires-2
-bit-of-requires-2 c κs = search needs
 
 put-entry-requires-2 : tie.Need-put-entry-requires-2
 put-entry-requires-2 c κs =
@@ -101,9 +92,6 @@ add-put-entry-2 c =
     let at-start = start2 (c .before .before .before) in
     omega (arith, at-start .pre, at-start .good)
 
-bit-of-requires-3 : tie.Need-bit-of-requires-3
-bit-of-requires-3 c κs = search needs
-
 put-entry-requires-3 : tie.Need-put-entry-requires-3
 put-entry-requires-3 c κs =
     let last = c .before .before .before .before in
@@ -113,9 +101,6 @@ add-put-entry-3 : tie.Need-add-put-entry-3
 add-put-entry-3 c =
     let at-start = start3 (c .before .before .before) in
     omega (arith, at-start .pre, at-start .good)
-
-bit-of-requires-4 : tie.Need-bit-of-requires-4
-bit-of-requires-4 c κs = search needs
 
 put-entry-requires-4 : tie.Need-put-entry-requires-4
 put-entry-requires-4 c κs =
@@ -127,9 +112,6 @@ add-put-entry-4 c =
     let at-start = start4 (c .before .before .before) in
     omega (arith, at-start .pre, at-start .good)
 
-bit-of-requires-5 : tie.Need-bit-of-requires-5
-bit-of-requires-5 c κs = search needs
-
 put-entry-requires-5 : tie.Need-put-entry-requires-5
 put-entry-requires-5 c κs =
     let last = c .before .before .before .before in
@@ -139,9 +121,6 @@ add-put-entry-5 : tie.Need-add-put-entry-5
 add-put-entry-5 c =
     let at-start = start5 (c .before .before .before) in
     omega (arith, at-start .pre, at-start .good)
-
-bit-of-requires-6 : tie.Need-bit-of-requires-6
-bit-of-requires-6 c κs = search needs
 
 put-entry-requires-6 : tie.Need-put-entry-requires-6
 put-entry-requires-6 c κs =
@@ -153,9 +132,6 @@ add-put-entry-6 c =
     let at-start = start6 (c .before .before .before) in
     omega (arith, at-start .pre, at-start .good)
 
-bit-of-requires-7 : tie.Need-bit-of-requires-7
-bit-of-requires-7 c κs = search needs
-
 put-entry-requires-7 : tie.Need-put-entry-requires-7
 put-entry-requires-7 c κs =
     let last = c .before .before .before .before in
@@ -165,9 +141,6 @@ add-put-entry-7 : tie.Need-add-put-entry-7
 add-put-entry-7 c =
     let at-start = start7 (c .before .before .before) in
     omega (arith, at-start .pre, at-start .good)
-
-bit-of-requires-8 : tie.Need-bit-of-requires-8
-bit-of-requires-8 c κs = search needs
 
 put-entry-requires-8 : tie.Need-put-entry-requires-8
 put-entry-requires-8 c κs =
@@ -184,28 +157,28 @@ pub put-eight-spec : {M : Type 1} → statement M
 put-eight-spec =
     tie.close
     (tie.spec
-    bit-of-requires
-    put-entry-requires
+    (λ c κs. search needs)
+    (λ c κs. search needs)
     add-put-entry
-    bit-of-requires-2
+    (λ c κs. search needs)
     put-entry-requires-2
     add-put-entry-2
-    bit-of-requires-3
+    (λ c κs. search needs)
     put-entry-requires-3
     add-put-entry-3
-    bit-of-requires-4
+    (λ c κs. search needs)
     put-entry-requires-4
     add-put-entry-4
-    bit-of-requires-5
+    (λ c κs. search needs)
     put-entry-requires-5
     add-put-entry-5
-    bit-of-requires-6
+    (λ c κs. search needs)
     put-entry-requires-6
     add-put-entry-6
-    bit-of-requires-7
+    (λ c κs. search needs)
     put-entry-requires-7
     add-put-entry-7
-    bit-of-requires-8
+    (λ c κs. search needs)
     put-entry-requires-8
     same-length
     returns)

@@ -28,9 +28,6 @@ long c = put-length (c .put-run .ensures) ∙ c .before .before .before .before 
 put-entry-requires : tie.Need-put-entry-requires
 put-entry-requires c κs = omega (arith, fits (c .before .before .before))
 
-add-put-run : tie.Need-add-put-run
-add-put-run c = search needs
-
 put-run-requires : tie.Need-put-run-requires
 put-run-requires c κs =
     let at-start = c .before .before .before .before .before .before .before in
@@ -46,9 +43,6 @@ add-result c =
     let after = c .before .before .before .before .before .before in
     omega (arith, fits (start after), next after, start after .good)
 
-same-length : tie.Need-same-length
-same-length c = search needs
-
 returns : tie.Need-returns
 returns c =
     let after = c .before .before .before .before .before .before in
@@ -61,9 +55,9 @@ put-numbers-spec =
     tie.close
     (tie.spec
     put-entry-requires
-    add-put-run
+    (λ c. search needs)
     put-run-requires
     put-entry-requires-2
     add-result
-    same-length
+    (λ c. search needs)
     returns)

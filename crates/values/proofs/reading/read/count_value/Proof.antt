@@ -7,15 +7,9 @@ use borrow.Author.Needs.{needs}
 use Rattle.values.proofs.reading.read.count_value.Statement.{statement}
 use Rattle.values.proofs.reading.read.count_value.Tie as tie
 
-enum-known-ty : tie.Need-enum-known-ty
-enum-known-ty c = search needs
-
 count-atomics-requires : tie.Need-count-atomics-requires
 count-atomics-requires c κs =
     c .before .before .before .pre .1 .1
-
-enum-known-ty-2 : tie.Need-enum-known-ty-2
-enum-known-ty-2 c = search needs
 
 count-structs-requires : tie.Need-count-structs-requires
 count-structs-requires c κs =
@@ -42,9 +36,9 @@ pub count-value-spec : {M : Type 1} → statement M
 count-value-spec =
     tie.close
     (tie.spec
-    enum-known-ty
+    (λ c. search needs)
     count-atomics-requires
-    enum-known-ty-2
+    (λ c. search needs)
     count-structs-requires
     returns
     returns-2)

@@ -7,16 +7,10 @@ use Rattle.values.proofs.reading.read.is_product.Tie as tie
 returns : tie.Need-returns
 returns c = product-none (c .before .args .long) (c .before .args .size) (c .before .args .n) (c .if1 .taken)
 
-rem-if2 : tie.Need-rem-if2
-rem-if2 c = search needs
-
 returns-2 : tie.Need-returns-2
 returns-2 c =
     let a = c .before .before .args in
     product-not (a .long) (a .size) (a .n) (c .before .if1 .left) (c .if2 .taken)
-
-div-result : tie.Need-div-result
-div-result c = search needs
 
 returns-3 : tie.Need-returns-3
 returns-3 c =
@@ -24,4 +18,4 @@ returns-3 c =
     product-is (a .long) (a .size) (a .n) (c .before .if1 .left) (c .if2 .left)
 
 pub is-product-spec : {M : Type 1} → statement M
-is-product-spec = tie.close (tie.spec returns rem-if2 returns-2 div-result returns-3)
+is-product-spec = tie.close (tie.spec returns (λ c. search needs) returns-2 (λ c. search needs) returns-3)

@@ -37,9 +37,6 @@ product c =
     ∙ ap₂ (λ (s n : ℕ). eqb (length image) (s * n)) (at-size .size-of-ty .ensures)
     (at-times .times-of .ensures ∙ ap times same)
 
-is-there-requires : tie.Need-is-there-requires
-is-there-requires c κs = search needs
-
 returns : tie.Need-returns
 returns c =
     let at-there = c .before in
@@ -47,19 +44,10 @@ returns c =
     no-type (a .types .now) (a .members .now) (a .ty) (a .count) (a .image .now) (a .out .now)
     (sym (at-there .is-there .ensures) ∙ not-true _ (c .if1 .taken))
 
-as-size-requires : tie.Need-as-size-requires
-as-size-requires c κs = search needs
-
 size-of-ty-requires : tie.Need-size-of-ty-requires
 size-of-ty-requires c κs =
     let a = c .before .before .before .before .before .args in
     there-fits (a .types .now) (a .ty) (there (c .before))
-
-times-of-requires : tie.Need-times-of-requires
-times-of-requires c κs = search needs
-
-is-product-requires : tie.Need-is-product-requires
-is-product-requires c κs = search needs
 
 returns-2 : tie.Need-returns-2
 returns-2 c =
@@ -68,9 +56,6 @@ returns-2 c =
     let a = at-else .before .before .before .before .args in
     no-image (a .types .now) (a .members .now) (a .ty) (a .count) (a .image .now) (a .out .now) (there at-else)
     (sym (product at-product) ∙ not-true _ (c .if2 .taken))
-
-least-requires : tie.Need-least-requires
-least-requires c κs = search needs
 
 returns-3 : tie.Need-returns-3
 returns-3 c =
@@ -108,9 +93,6 @@ read-within-requires c κs =
       omega (arith, at-least .least .ensures, at-room .if3 .left),
     )
 
-same-length : tie.Need-same-length
-same-length c = search needs
-
 returns-4 : tie.Need-returns-4
 returns-4 c =
     let at-read = c .before .before in
@@ -129,15 +111,15 @@ pub read-spec : {M : Type 1} → statement M
 read-spec =
     tie.close
     (tie.spec
-    is-there-requires
+    (λ c κs. search needs)
     returns
-    as-size-requires
+    (λ c κs. search needs)
     size-of-ty-requires
-    times-of-requires
-    is-product-requires
+    (λ c κs. search needs)
+    (λ c κs. search needs)
     returns-2
-    least-requires
+    (λ c κs. search needs)
     returns-3
     read-within-requires
-    same-length
+    (λ c. search needs)
     returns-4)

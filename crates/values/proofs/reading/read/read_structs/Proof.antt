@@ -19,9 +19,6 @@ read-struct-requires c κs =
           (at-then .if1 .taken)) (at-start .pre .1),
     )
 
-same-length : tie.Need-same-length
-same-length c = search needs
-
 returns : tie.Need-returns
 returns c =
     let at-read = c .before .before in
@@ -44,9 +41,6 @@ read-elements-requires c κs =
           (at-else .if1 .left)) (at-start .pre .1),
     )
 
-same-length-2 : tie.Need-same-length-2
-same-length-2 c = search needs
-
 returns-2 : tie.Need-returns-2
 returns-2 c =
     let at-read = c .before .before in
@@ -60,8 +54,8 @@ read-structs-spec =
     tie.close
     (tie.spec
     read-struct-requires
-    same-length
+    (λ c. search needs)
     returns
     read-elements-requires
-    same-length-2
+    (λ c. search needs)
     returns-2)

@@ -11,9 +11,6 @@ use borrow.Author.Needs.{needs}
 use Rattle.values.proofs.reading.read.read_value.Statement.{statement}
 use Rattle.values.proofs.reading.read.read_value.Tie as tie
 
-enum-known-ty : tie.Need-enum-known-ty
-enum-known-ty c = search needs
-
 put-atomics-requires : tie.Need-put-atomics-requires
 put-atomics-requires c κs =
     let at-ty = c .before .before in
@@ -25,9 +22,6 @@ put-atomics-requires c κs =
     (at-start .pre .1) in
     (v .long, omega (arith, r .entries, r .texts))
 
-same-length : tie.Need-same-length
-same-length c = search needs
-
 returns : tie.Need-returns
 returns c =
     let at-put = c .before .before in
@@ -37,22 +31,16 @@ returns c =
     wrote-as (value-atomic (a .types .now) (a .members .now) (a .n) (a .image .now) (a .ty) _ (at-ty .ty .given .1))
     (put-wrote (a .base) 0 (textless-atomics _ (a .n) (a .image .now)) (at-put .put-atomics .ensures))
 
-enum-known-ty-2 : tie.Need-enum-known-ty-2
-enum-known-ty-2 c = search needs
-
 read-structs-requires : tie.Need-read-structs-requires
 read-structs-requires c κs =
     let at-ty = c .before .before in
     let at-start = at-ty .before .before .before .before in
     let a = at-start .args in
     let is = at-ty .ty2 .given .1 in (
-      (at-start .pre .0 .0, images (a .types .now) (a .ty) _ (a .n) (a .image .now) is (at-start .pre .0 .1)),
+      (at-start .pre .0 .0, images (a .types .now) (a .ty) (a .n) (a .image .now) is (at-start .pre .0 .1)),
       room-as (ap (λ (t : Ty). valueOut (a .types .now) (a .members .now) t (a .n) (a .image .now)) is)
           (at-start .pre .1),
     )
-
-same-length-2 : tie.Need-same-length-2
-same-length-2 c = search needs
 
 returns-2 : tie.Need-returns-2
 returns-2 c =
@@ -67,11 +55,11 @@ pub read-value-spec : {M : Type 1} → statement M
 read-value-spec =
     tie.close
     (tie.spec
-    enum-known-ty
+    (λ c. search needs)
     put-atomics-requires
-    same-length
+    (λ c. search needs)
     returns
-    enum-known-ty-2
+    (λ c. search needs)
     read-structs-requires
-    same-length-2
+    (λ c. search needs)
     returns-2)

@@ -22,9 +22,6 @@ same c =
     stream-is (a .types .now) (a .members .now) (at-start .pre .0 .0) (a .ty) (a .n) (a .image .now)
     (at-start .pre .0 .1) (λ k. c .shared-slice-known .given k .fits)
 
-count-value-requires : tie.Need-count-value-requires
-count-value-requires c κs = search needs
-
 returns : tie.Need-returns
 returns c =
     let at-count = c .before in
@@ -35,12 +32,6 @@ returns c =
     no-room (a .types .now) (a .members .now) (a .ty) (a .n) (a .image .now) (a .out .now)
     (over-room (a .types .now) (a .members .now) (a .ty) (a .n) (a .image .now) (a .out .now) (a .room)
     (same at-known) (at-start .pre .1) (omega (arith, over)))
-
-mul-left : tie.Need-mul-left
-mul-left c = search needs
-
-sub-left : tie.Need-sub-left
-sub-left c = search needs
 
 text-value-requires : tie.Need-text-value-requires
 text-value-requires c κs =
@@ -64,18 +55,6 @@ returns-2 c =
     (over-room (a .types .now) (a .members .now) (a .ty) (a .n) (a .image .now) (a .out .now) (a .room)
     (same at-known) (at-start .pre .1) (omega (arith, over, is, at-else .if1 .left)))
 
-cast-store32 : tie.Need-cast-store32
-cast-store32 c = search needs
-
-store32-requires : tie.Need-store32-requires
-store32-requires c κs = search needs
-
-mul-base : tie.Need-mul-base
-mul-base c = search needs
-
-add-base : tie.Need-add-base
-add-base c = search needs
-
 read-value-requires : tie.Need-read-value-requires
 read-value-requires c κs =
     let at-store = c .before .before .before in
@@ -96,12 +75,6 @@ read-value-requires c κs =
         most = omega (arith, is, text, at-start .pre .1, at-left .if2 .left, at-else .if1 .left);
       },
     )
-
-add-t17 : tie.Need-add-t17
-add-t17 c = search needs
-
-same-length : tie.Need-same-length
-same-length c = search needs
 
 returns-3 : tie.Need-returns-3
 returns-3 c =
@@ -125,17 +98,17 @@ pub read-within-spec : {M : Type 1} → statement M
 read-within-spec =
     tie.close
     (tie.spec
-    count-value-requires
+    (λ c κs. search needs)
     returns
-    mul-left
-    sub-left
+    (λ c. search needs)
+    (λ c. search needs)
     text-value-requires
     returns-2
-    cast-store32
-    store32-requires
-    mul-base
-    add-base
+    (λ c. search needs)
+    (λ c κs. search needs)
+    (λ c. search needs)
+    (λ c. search needs)
     read-value-requires
-    add-t17
-    same-length
+    (λ c. search needs)
+    (λ c. search needs)
     returns-3)

@@ -14,19 +14,13 @@ use Rattle.values.proofs.reading.read.text_value.Tie as tie
 returns : tie.Need-returns
 returns c = no-texts (c .before .before .pre .1 (not-true _ (c .if1 .taken)))
 
-enum-told : tie.Need-enum-told
-enum-told c = search needs
-
-enum-known-ty : tie.Need-enum-known-ty
-enum-known-ty c = search needs
-
 text-structs-requires : tie.Need-text-structs-requires
 text-structs-requires c κs =
     let at-start = c .before .before .before .before .before in
     let a = at-start .args in (
       at-start .pre .0 .0,
       (
-        images (a .types .now) (a .ty) _ (a .n) (a .image .now) (c .before .ty .given .1)
+        images (a .types .now) (a .ty) (a .n) (a .image .now) (c .before .ty .given .1)
             (at-start .pre .0 .1 .1),
         at-start .pre .0 .1 .0,
       ),
@@ -47,4 +41,4 @@ returns-3 c =
 
 pub text-value-spec : {M : Type 1} → statement M
 text-value-spec =
-    tie.close (tie.spec returns enum-told enum-known-ty text-structs-requires returns-2 returns-3)
+    tie.close (tie.spec returns (λ c. search needs) (λ c. search needs) text-structs-requires returns-2 returns-3)

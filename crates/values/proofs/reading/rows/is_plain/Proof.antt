@@ -4,17 +4,8 @@ use Rattle.values.proofs.normal_image.FlagRows.{plain-hidden, plain-bit
 use Rattle.values.proofs.reading.rows.is_plain.Statement.{statement}
 use Rattle.values.proofs.reading.rows.is_plain.Tie as tie
 
-member-row-requires : tie.Need-member-row-requires
-member-row-requires c κs = search needs
-
 returns : tie.Need-returns
 returns c = plain-hidden (c .before .member-row .ensures) (c .if1 .taken)
-
-enum-told : tie.Need-enum-told
-enum-told c = search needs
-
-enum-told-2 : tie.Need-enum-told-2
-enum-told-2 c = search needs
 
 returns-2 : tie.Need-returns-2
 returns-2 c =
@@ -27,4 +18,5 @@ returns-3 c =
     plain-whole (seen .before .member-row .ensures) (seen .if1 .left) (c .enum-told2 .given .1)
 
 pub is-plain-spec : {M : Type 1} → statement M
-is-plain-spec = tie.close (tie.spec member-row-requires returns enum-told enum-told-2 returns-2 returns-3)
+is-plain-spec = tie.close (tie.spec (λ c κs. search needs) returns (λ c. search needs)
+    (λ c. search needs) returns-2 returns-3)

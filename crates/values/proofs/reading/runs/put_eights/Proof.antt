@@ -3,8 +3,7 @@ use native.Mathlib.Omega.{arith}
 use borrow.Author.Needs.{needs}
 use Prim.Native.Nat.{_*_, _-_}
 use Rattle.values.proofs.reading.runs.RunLaws.{Running, formed, run-start, run-room, run-length, numbers-on}
-use Rattle.values.proofs.reading.runs.RunLaws.{numbers-done}
-use Rattle.values.proofs.reading.runs.RunLaws.{number-fits}
+use Rattle.values.proofs.reading.runs.RunLaws.{numbers-done, number-fits}
 use Rattle.values.proofs.reading.runs.put_eights.Statement.{statement}
 use Rattle.values.proofs.reading.runs.put_eights.Tie as tie
 
@@ -13,9 +12,6 @@ Inv-loop n s out₀ at f p₀ i₀ out p i = Running (formed f 8 s) n out₀ at 
 
 abbrev μ-loop : tie.MeasureT-loop
 μ-loop n s out₀ at f p₀ i₀ out p i = n - i
-
-form-of-requires : tie.Need-form-of-requires Inv-loop μ-loop
-form-of-requires c κs = search needs
 
 loop-holds : tie.Need-loop-holds Inv-loop μ-loop
 loop-holds c = run-start (c .before .before .before .pre .1)
@@ -83,7 +79,7 @@ put-eights-spec =
     (tie.spec
     Inv-loop
     μ-loop
-    form-of-requires
+    (λ c κs. search needs)
     loop-holds
     mul-load64
     load64-requires

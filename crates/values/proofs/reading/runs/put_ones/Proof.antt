@@ -5,8 +5,7 @@ use Prim.Native.Nat.{_*_, _-_}
 use mathlib.Core.Path.{_≡_, ap, _∙_}
 use Rattle.words.specs.Words.{wordAt}
 use Rattle.values.proofs.reading.runs.RunLaws.{Running, formed, run-start, run-room, run-length, numbers-on}
-use Rattle.values.proofs.reading.runs.RunLaws.{numbers-done}
-use Rattle.values.proofs.reading.runs.RunLaws.{number-fits}
+use Rattle.values.proofs.reading.runs.RunLaws.{numbers-done, number-fits}
 use Rattle.values.proofs.reading.runs.put_ones.Statement.{statement}
 use Rattle.values.proofs.reading.runs.put_ones.Tie as tie
 
@@ -16,9 +15,6 @@ Inv-loop n s out₀ at f p₀ i₀ out p i = Running (formed f 1 s) n out₀ at 
 abbrev μ-loop : tie.MeasureT-loop
 μ-loop n s out₀ at f p₀ i₀ out p i = n - i
 
-form-of-requires : tie.Need-form-of-requires Inv-loop μ-loop
-form-of-requires c κs = search needs
-
 loop-holds : tie.Need-loop-holds Inv-loop μ-loop
 loop-holds c = run-start (c .before .before .before .pre .1)
 
@@ -26,12 +22,6 @@ load8-requires : tie.Need-load8-requires Inv-loop μ-loop
 load8-requires c κs =
     let start = c .before .before .before .before .before in
     omega (arith, start .pre .0 .long, c .loop-test .taken)
-
-wide8-requires : tie.Need-wide8-requires Inv-loop μ-loop
-wide8-requires c κs = search needs
-
-wide64-requires : tie.Need-wide64-requires Inv-loop μ-loop
-wide64-requires c κs = search needs
 
 extend-requires : tie.Need-extend-requires Inv-loop μ-loop
 extend-requires c κs =
@@ -88,11 +78,11 @@ put-ones-spec =
     (tie.spec
     Inv-loop
     μ-loop
-    form-of-requires
+    (λ c κs. search needs)
     loop-holds
     load8-requires
-    wide8-requires
-    wide64-requires
+    (λ c κs. search needs)
+    (λ c κs. search needs)
     extend-requires
     put-entry-requires
     add-p

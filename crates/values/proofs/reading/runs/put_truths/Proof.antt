@@ -20,9 +20,6 @@ loop-holds c = run-start (c .before .before .pre .1)
 shared-slice-read-truth : tie.Need-shared-slice-read-truth Inv-loop μ-loop
 shared-slice-read-truth c = omega arith
 
-truth-requires : tie.Need-truth-requires Inv-loop μ-loop
-truth-requires c κs = search needs
-
 put-entry-requires : tie.Need-put-entry-requires Inv-loop μ-loop
 put-entry-requires c κs =
     let in-loop = c .before .before .before in
@@ -65,7 +62,7 @@ put-truths-spec =
     μ-loop
     loop-holds
     shared-slice-read-truth
-    truth-requires
+    (λ c κs. search needs)
     put-entry-requires
     add-p
     add-i

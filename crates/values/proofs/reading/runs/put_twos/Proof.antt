@@ -4,8 +4,7 @@ use borrow.Author.Needs.{needs}
 use Prim.Native.Nat.{_*_, _-_}
 use mathlib.Core.Path.{_∙_}
 use Rattle.values.proofs.reading.runs.RunLaws.{Running, formed, run-start, run-room, run-length, numbers-on}
-use Rattle.values.proofs.reading.runs.RunLaws.{numbers-done}
-use Rattle.values.proofs.reading.runs.RunLaws.{number-fits}
+use Rattle.values.proofs.reading.runs.RunLaws.{numbers-done, number-fits}
 use Rattle.values.proofs.reading.runs.put_twos.Statement.{statement}
 use Rattle.values.proofs.reading.runs.put_twos.Tie as tie
 
@@ -14,9 +13,6 @@ Inv-loop n s out₀ at f p₀ i₀ out p i = Running (formed f 2 s) n out₀ at 
 
 abbrev μ-loop : tie.MeasureT-loop
 μ-loop n s out₀ at f p₀ i₀ out p i = n - i
-
-form-of-requires : tie.Need-form-of-requires Inv-loop μ-loop
-form-of-requires c κs = search needs
 
 loop-holds : tie.Need-loop-holds Inv-loop μ-loop
 loop-holds c = run-start (c .before .before .before .pre .1)
@@ -30,12 +26,6 @@ load16-requires : tie.Need-load16-requires Inv-loop μ-loop
 load16-requires c κs =
     let start = c .before .before .before .before .before in
     omega (arith, start .pre .0 .long, c .loop-test .taken)
-
-wide16-requires : tie.Need-wide16-requires Inv-loop μ-loop
-wide16-requires c κs = search needs
-
-wide64-requires : tie.Need-wide64-requires Inv-loop μ-loop
-wide64-requires c κs = search needs
 
 extend-requires : tie.Need-extend-requires Inv-loop μ-loop
 extend-requires c κs =
@@ -90,12 +80,12 @@ put-twos-spec =
     (tie.spec
     Inv-loop
     μ-loop
-    form-of-requires
+    (λ c κs. search needs)
     loop-holds
     mul-load16
     load16-requires
-    wide16-requires
-    wide64-requires
+    (λ c κs. search needs)
+    (λ c κs. search needs)
     extend-requires
     put-entry-requires
     add-p

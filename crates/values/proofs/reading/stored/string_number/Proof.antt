@@ -5,15 +5,6 @@ use Rattle.values.proofs.reading.StoredLaws.{string-fits, string-misfit
 use Rattle.values.proofs.reading.stored.string_number.Statement.{statement}
 use Rattle.values.proofs.reading.stored.string_number.Tie as tie
 
-type-row-requires : tie.Need-type-row-requires
-type-row-requires c κs = search needs
-
-is-string-requires : tie.Need-is-string-requires
-is-string-requires c κs = search needs
-
-wide-requires : tie.Need-wide-requires
-wide-requires c κs = search needs
-
 returns : tie.Need-returns
 returns c =
     let then1 = c .before .before in
@@ -21,9 +12,6 @@ returns c =
     let a = at-type .before .args in
     string-fits (a .types .now) (a .i) (a .long) (at-type .type-row .ensures)
     (sym (then1 .before .is-string .ensures) ∙ then1 .if1 .taken) (c .if2 .taken ∙ c .before .wide .ensures)
-
-number-requires : tie.Need-number-requires
-number-requires c κs = search needs
 
 returns-2 : tie.Need-returns-2
 returns-2 c =
@@ -35,9 +23,6 @@ returns-2 c =
     ∙ string-misfits (a .types .now) (a .i) (a .long) (at-type .type-row .ensures)
     (sym (then1 .before .is-string .ensures) ∙ then1 .if1 .taken)
     (λ e. else2 .if2 .left (e ∙ sym (else2 .before .wide .ensures)))
-
-number-requires-2 : tie.Need-number-requires-2
-number-requires-2 c κs = search needs
 
 returns-3 : tie.Need-returns-3
 returns-3 c =
@@ -52,11 +37,11 @@ pub string-number-spec : {M : Type 1} → statement M
 string-number-spec =
     tie.close
     (tie.spec
-    type-row-requires
-    is-string-requires
-    wide-requires
+    (λ c κs. search needs)
+    (λ c κs. search needs)
+    (λ c κs. search needs)
     returns
-    number-requires
+    (λ c κs. search needs)
     returns-2
-    number-requires-2
+    (λ c κs. search needs)
     returns-3)

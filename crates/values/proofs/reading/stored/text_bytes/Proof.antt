@@ -25,20 +25,11 @@ first : (c : tie.After-wide)
     c .wide .result ≡ typeAt (arm .before .before .before .args .types .now) (arm .ty .given .0 .0) .first
 first c = c .wide .ensures ∙ ap (λ (d : StructDef). d .first) (c .before .type-row .ensures)
 
-enum-told : tie.Need-enum-told
-enum-told c = search needs
-
 returns : tie.Need-returns
 returns c = held-atomic (c .enum-told .given .1) (c .before .before .before .pre .1)
 
-enum-known-ty : tie.Need-enum-known-ty
-enum-known-ty c = search needs
-
 type-row-requires : tie.Need-type-row-requires
 type-row-requires c κs = known (c .before) .low
-
-wide-requires : tie.Need-wide-requires
-wide-requires c κs = search needs
 
 capacity-at-requires : tie.Need-capacity-at-requires
 capacity-at-requires c κs = omega (arith, first c, known (c .before .before .before) .rows)
@@ -60,11 +51,11 @@ pub text-bytes-spec : {M : Type 1} → statement M
 text-bytes-spec =
     tie.close
     (tie.spec
-    enum-told
+    (λ c. search needs)
     returns
-    enum-known-ty
+    (λ c. search needs)
     type-row-requires
-    wide-requires
+    (λ c κs. search needs)
     capacity-at-requires
     text-length-requires
     returns-2)

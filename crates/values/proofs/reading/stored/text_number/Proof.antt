@@ -11,15 +11,6 @@ there : (c : tie.Then1)
     → isThere (c .before .before .before .args .types .now) (c .before .before .before .args .ty) ≡ true
 there c = sym (c .before .is-there .ensures) ∙ c .if1 .taken
 
-is-there-requires : tie.Need-is-there-requires
-is-there-requires c κs = search needs
-
-enum-told : tie.Need-enum-told
-enum-told c = search needs
-
-number-requires : tie.Need-number-requires
-number-requires c κs = search needs
-
 returns : tie.Need-returns
 returns c =
     let told = c .before in
@@ -27,9 +18,6 @@ returns c =
     let a = then1 .before .before .before .args in
     c .number .ensures
     ∙ number-atomic (a .types .now) (a .ty) (a .image .now) (there then1) (told .enum-told .given .1)
-
-enum-known-ty : tie.Need-enum-known-ty
-enum-known-ty c = search needs
 
 string-number-requires : tie.Need-string-number-requires
 string-number-requires c κs =
@@ -46,9 +34,6 @@ returns-2 c =
     c .string-number .ensures
     ∙ number-struct (a .types .now) (a .ty) (a .image .now) (there then1) (arm .ty .given .1)
 
-number-requires-2 : tie.Need-number-requires-2
-number-requires-2 c κs = search needs
-
 returns-3 : tie.Need-returns-3
 returns-3 c =
     let else1 = c .before in
@@ -60,12 +45,12 @@ pub text-number-spec : {M : Type 1} → statement M
 text-number-spec =
     tie.close
     (tie.spec
-    is-there-requires
-    enum-told
-    number-requires
+    (λ c κs. search needs)
+    (λ c. search needs)
+    (λ c κs. search needs)
     returns
-    enum-known-ty
+    (λ c. search needs)
     string-number-requires
     returns-2
-    number-requires-2
+    (λ c κs. search needs)
     returns-3)

@@ -2,11 +2,24 @@
 -- holds only earlier ones, so that the number falls (document 01, "Reading"). Each function in a file of its own.
 use Rattle.values.proofs.reading.walk.+read_elements+read_members+read_nested+read_struct.{statement}
 use Rattle.values.proofs.reading.walk.+read_elements+read_members+read_nested+read_struct.Tie.{close}
-use Rattle.values.proofs.reading.walk.+read_elements+read_members+read_nested+read_struct.Proof.Measures as measures
-use Rattle.values.proofs.reading.walk.+read_elements+read_members+read_nested+read_struct.Proof.Elements as elements
-use Rattle.values.proofs.reading.walk.+read_elements+read_members+read_nested+read_struct.Proof.Members.{members-closed}
-use Rattle.values.proofs.reading.walk.+read_elements+read_members+read_nested+read_struct.Proof.Nested.{nested-closed}
-use Rattle.values.proofs.reading.walk.+read_elements+read_members+read_nested+read_struct.Proof.Struct.{struct-closed}
+use
+    Rattle.values.proofs.reading.walk.+read_elements+read_members+read_nested+read_struct.Proof.Measures
+    as measures
+use
+    Rattle.values.proofs.reading.walk.+read_elements+read_members+read_nested+read_struct.Proof.Elements
+    as elements
+use
+    Rattle.values.proofs.reading.walk.+read_elements+read_members+read_nested+read_struct.Proof.Members.{
+      members-closed,
+    }
+use
+    Rattle.values.proofs.reading.walk.+read_elements+read_members+read_nested+read_struct.Proof.Nested.{
+      nested-closed,
+    }
+use
+    Rattle.values.proofs.reading.walk.+read_elements+read_members+read_nested+read_struct.Proof.Struct.{
+      struct-closed,
+    }
 mod Measures
 mod Elements
 mod Members

@@ -2,11 +2,21 @@
 -- "Value stream"): each function in a file of its own.
 use Rattle.values.proofs.stream.count.+count_members+count_nested+count_struct+count_structs.{statement}
 use Rattle.values.proofs.stream.count.+count_members+count_nested+count_struct+count_structs.Tie.{close}
-use Rattle.values.proofs.stream.count.+count_members+count_nested+count_struct+count_structs.Proof.Measures as measures
-use Rattle.values.proofs.stream.count.+count_members+count_nested+count_struct+count_structs.Proof.Members as members
-use Rattle.values.proofs.stream.count.+count_members+count_nested+count_struct+count_structs.Proof.Nested as nested
-use Rattle.values.proofs.stream.count.+count_members+count_nested+count_struct+count_structs.Proof.Struct as struct
-use Rattle.values.proofs.stream.count.+count_members+count_nested+count_struct+count_structs.Proof.Structs as structs
+use
+    Rattle.values.proofs.stream.count.+count_members+count_nested+count_struct+count_structs.Proof.Measures
+    as measures
+use
+    Rattle.values.proofs.stream.count.+count_members+count_nested+count_struct+count_structs.Proof.Members
+    as members
+use
+    Rattle.values.proofs.stream.count.+count_members+count_nested+count_struct+count_structs.Proof.Nested
+    as nested
+use
+    Rattle.values.proofs.stream.count.+count_members+count_nested+count_struct+count_structs.Proof.Struct
+    as struct
+use
+    Rattle.values.proofs.stream.count.+count_members+count_nested+count_struct+count_structs.Proof.Structs
+    as structs
 mod Measures
 mod Members
 mod Nested

@@ -14,15 +14,6 @@ product c =
     bytes-fit (at-start .args .a) (at-start .args .n) (c .before .size-of .ensures) (c .times-of .ensures)
     (at-start .pre)
 
-is-bits-requires : tie.Need-is-bits-requires
-is-bits-requires c κs = search needs
-
-size-of-requires : tie.Need-size-of-requires
-size-of-requires c κs = search needs
-
-times-of-requires : tie.Need-times-of-requires
-times-of-requires c κs = search needs
-
 mul-result : tie.Need-mul-result
 mul-result c = omega (arith, product c)
 
@@ -46,9 +37,6 @@ returns-2 c =
     atomics-one (at-start .args .a) (at-start .args .n) (sym (else1 .before .is-bits .ensures) ∙ else1 .if1 .left)
     (c .if2 .taken)
 
-add-result-2 : tie.Need-add-result-2
-add-result-2 c = search needs
-
 returns-3 : tie.Need-returns-3
 returns-3 c =
     let else1 = c .before in
@@ -60,13 +48,13 @@ pub atomic-entries-spec : {M : Type 1} → statement M
 atomic-entries-spec =
     tie.close
     (tie.spec
-    is-bits-requires
-    size-of-requires
-    times-of-requires
+    (λ c κs. search needs)
+    (λ c κs. search needs)
+    (λ c κs. search needs)
     mul-result
     mul-result-2
     add-result
     returns
     returns-2
-    add-result-2
+    (λ c. search needs)
     returns-3)

@@ -6,17 +6,11 @@ use Rattle.values.proofs.stream.CountLeaves.{atomics-over}
 use Rattle.values.proofs.stream.count.count_atomics.Statement.{statement}
 use Rattle.values.proofs.stream.count.count_atomics.Tie as tie
 
-add-result : tie.Need-add-result
-add-result c = search needs
-
 returns : tie.Need-returns
 returns c = λ b. atomics-over (c .before .args .a) (c .before .args .n) (c .if1 .taken)
-
-atomic-entries-requires : tie.Need-atomic-entries-requires
-atomic-entries-requires c κs = search needs
 
 returns-2 : tie.Need-returns-2
 returns-2 c = λ b. plain-counted (c .atomic-entries .ensures) (omega arith)
 
 pub count-atomics-spec : {M : Type 1} → statement M
-count-atomics-spec = tie.close (tie.spec add-result returns atomic-entries-requires returns-2)
+count-atomics-spec = tie.close (tie.spec (λ c. search needs) returns (λ c κs. search needs) returns-2)

@@ -7,34 +7,16 @@ use Rattle.values.proofs.stream.CountLeaves.{atomics-few, leaf-hidden, 
 use Rattle.values.proofs.stream.count.leaf_entries.Statement.{statement}
 use Rattle.values.proofs.stream.count.leaf_entries.Tie as tie
 
-member-row-requires : tie.Need-member-row-requires
-member-row-requires c κs = search needs
-
 returns : tie.Need-returns
 returns c =
     let m = c .before .member-row in
     (λ j. rw (← m .ensures) (leaf-hidden (m .result) j (c .if1 .taken)), omega arith)
-
-wide-requires : tie.Need-wide-requires
-wide-requires c κs = search needs
-
-enum-told : tie.Need-enum-told
-enum-told c = search needs
 
 returns-2 : tie.Need-returns-2
 returns-2 c =
     let else1 = c .before .before .before in
     let m = else1 .before .member-row in
     (λ j. rw (← m .ensures) (leaf-bit (m .result) j (else1 .if1 .left) (c .enum-told .given .1)), omega arith)
-
-enum-told-2 : tie.Need-enum-told-2
-enum-told-2 c = search needs
-
-enum-known-ty : tie.Need-enum-known-ty
-enum-known-ty c = search needs
-
-atomic-entries-requires : tie.Need-atomic-entries-requires
-atomic-entries-requires c κs = search needs
 
 few : (c : tie.After-atomic-entries) → c .atomic-entries .result ≤ 2 ^ 39
 few c =
@@ -59,9 +41,6 @@ returns-3 c =
       omega (arith, few c),
     )
 
-enum-told-3 : tie.Need-enum-told-3
-enum-told-3 c = search needs
-
 returns-4 : tie.Need-returns-4
 returns-4 c =
     let at-none = c .before .before in
@@ -76,15 +55,15 @@ pub leaf-entries-spec : {M : Type 1} → statement M
 leaf-entries-spec =
     tie.close
     (tie.spec
-    member-row-requires
+    (λ c κs. search needs)
     returns
-    wide-requires
-    enum-told
+    (λ c κs. search needs)
+    (λ c. search needs)
     returns-2
-    enum-told-2
-    enum-known-ty
-    atomic-entries-requires
+    (λ c. search needs)
+    (λ c. search needs)
+    (λ c κs. search needs)
     add-result
     returns-3
-    enum-told-3
+    (λ c. search needs)
     returns-4)

@@ -1,6 +1,6 @@
 -- `values::bare_in` meets its contract.
 use borrow.Author.Tests.{eq-eqb, ne-eqb}
-use Rattle.values.specs.stream.Entry.{bareIn}
+use Rattle.values.specs.inside.stream.Entry.{bareIn}
 use Rattle.values.proofs.stream.entry.bare_in.Statement.{statement}
 use Rattle.values.proofs.stream.entry.bare_in.Tie as tie
 

@@ -7,9 +7,6 @@ use Rattle.values.proofs.stream.EntryLaws.{entry-said, nothing-said}
 use Rattle.values.proofs.stream.entry.entry_at.Statement.{statement}
 use Rattle.values.proofs.stream.entry.entry_at.Tie as tie
 
-is-inside-requires : tie.Need-is-inside-requires
-is-inside-requires c κs = search needs
-
 load-entry-requires : tie.Need-load-entry-requires
 load-entry-requires c κs = leb-true _ _ (sym (c .before .is-inside .ensures) ∙ c .if1 .taken)
 
@@ -23,4 +20,4 @@ returns-2 : tie.Need-returns-2
 returns-2 c = nothing-said _ _ (sym (c .before .is-inside .ensures) ∙ c .if1 .left)
 
 pub entry-at-spec : {M : Type 1} → statement M
-entry-at-spec = tie.close (tie.spec is-inside-requires load-entry-requires returns returns-2)
+entry-at-spec = tie.close (tie.spec (λ c κs. search needs) load-entry-requires returns returns-2)

@@ -1,7 +1,7 @@
 -- `values::loaded_of` meets its contract: an arm for each kind.
 use borrow.Author.Needs.{needs}
 use mathlib.Core.Path.{refl}
-use Rattle.values.specs.stream.Entry.{loadedOf}
+use Rattle.values.specs.inside.stream.Entry.{loadedOf}
 use Rattle.values.proofs.stream.EntryLaws.{kind-told, kind-above}
 use Rattle.values.proofs.stream.entry.loaded_of.Statement.{statement}
 use Rattle.values.proofs.stream.entry.loaded_of.Tie as tie

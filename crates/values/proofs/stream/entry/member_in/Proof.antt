@@ -5,9 +5,6 @@ use Rattle.values.proofs.stream.EntryLaws.{low-is, low-none}
 use Rattle.values.proofs.stream.entry.member_in.Statement.{statement}
 use Rattle.values.proofs.stream.entry.member_in.Tie as tie
 
-low-requires : tie.Need-low-requires
-low-requires c κs = search needs
-
 returns : tie.Need-returns
 returns c = low-is entry.Member (c .before .if1 .taken) (c .low .ensures)
 
@@ -15,4 +12,4 @@ returns-2 : tie.Need-returns-2
 returns-2 c = low-none entry.Member (c .if1 .left)
 
 pub member-in-spec : {M : Type 1} → statement M
-member-in-spec = tie.close (tie.spec low-requires returns returns-2)
+member-in-spec = tie.close (tie.spec (λ c κs. search needs) returns returns-2)

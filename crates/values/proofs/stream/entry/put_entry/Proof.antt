@@ -4,21 +4,6 @@ use Rattle.values.proofs.stream.EntryLaws.{entry-stored}
 use Rattle.values.proofs.stream.entry.put_entry.Statement.{statement}
 use Rattle.values.proofs.stream.entry.put_entry.Tie as tie
 
-wide8-requires : tie.Need-wide8-requires
-wide8-requires c κs = search needs
-
-store32-requires : tie.Need-store32-requires
-store32-requires c κs = search needs
-
-add-store64 : tie.Need-add-store64
-add-store64 c = search needs
-
-store64-requires : tie.Need-store64-requires
-store64-requires c κs = search needs
-
-same-length : tie.Need-same-length
-same-length c = search needs
-
 returns : tie.Need-returns
 returns c =
     let payload = c .before .before in
@@ -30,4 +15,5 @@ returns c =
 
 pub put-entry-spec : {M : Type 1} → statement M
 put-entry-spec =
-    tie.close (tie.spec wide8-requires store32-requires add-store64 store64-requires same-length returns)
+    tie.close (tie.spec (λ c κs. search needs) (λ c κs. search needs) (λ c. search needs) (λ c κs. search needs)
+    (λ c. search needs) returns)

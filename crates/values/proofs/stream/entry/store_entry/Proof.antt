@@ -6,22 +6,10 @@ use Rattle.values.proofs.stream.EntryLaws.{stored-nowhere, stored-there
 use Rattle.values.proofs.stream.entry.store_entry.Statement.{statement}
 use Rattle.values.proofs.stream.entry.store_entry.Tie as tie
 
-is-inside-requires : tie.Need-is-inside-requires
-is-inside-requires c κs = search needs
-
-kind-requires : tie.Need-kind-requires
-kind-requires c κs = search needs
-
-payload-requires : tie.Need-payload-requires
-payload-requires c κs = search needs
-
 put-entry-requires : tie.Need-put-entry-requires
 put-entry-requires c κs =
     let then1 = c .before .before .before in
     leb-true _ _ (sym (then1 .before .is-inside .ensures) ∙ then1 .if1 .taken)
-
-same-length : tie.Need-same-length
-same-length c = search needs
 
 returns : tie.Need-returns
 returns c =
@@ -37,10 +25,10 @@ pub store-entry-spec : {M : Type 1} → statement M
 store-entry-spec =
     tie.close
     (tie.spec
-    is-inside-requires
-    kind-requires
-    payload-requires
+    (λ c κs. search needs)
+    (λ c κs. search needs)
+    (λ c κs. search needs)
     put-entry-requires
-    same-length
+    (λ c. search needs)
     returns
     returns-2)

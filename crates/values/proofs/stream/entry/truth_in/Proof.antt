@@ -1,6 +1,6 @@
 -- `values::truth_in` meets its contract.
 use borrow.Author.Tests.{eq-eqb, ne-eqb}
-use Rattle.values.specs.stream.Entry.{truthIn}
+use Rattle.values.specs.inside.stream.Entry.{truthIn}
 use Rattle.values.proofs.stream.entry.truth_in.Statement.{statement}
 use Rattle.values.proofs.stream.entry.truth_in.Tie as tie
 

@@ -2,8 +2,7 @@
 use Prim.Native.Nat.{_+_, _*_, _-_}
 use native.Mathlib.Omega.{arith}
 use Rattle.values.specs.inside.stream.Steps.{Moved}
-use Rattle.values.specs.stream.Entry.{entryIn}
-use Rattle.values.specs.stream.Form.{loadedStep}
+use Rattle.values.specs.stream.Form.{stepAt}
 use Rattle.values.proofs.stream.FormLaws.{Left, left-start, left-on, left-broken, left-done, words-moved}
 use Rattle.values.proofs.stream.form.entries_ok.Statement.{statement}
 use Rattle.values.proofs.stream.form.entries_ok.Tie as tie
@@ -17,18 +16,19 @@ abbrev μ-loop : tie.MeasureT-loop
 -- the entry's step
 moved : (c : tie.After-next-place Inv-loop μ-loop)
     → Moved (c .before .before .before .before .before .loop .place)
-    (loadedStep (entryIn (c .before .before .before .before .before .before .before .args .s .now)
-    (4 + 12 * c .before .before .before .before .before .loop .k))
+    (stepAt (c .before .before .before .before .before .before .before .args .s .now)
+    (4 + 12 * c .before .before .before .before .before .loop .k)
     (c .before .before .before .before .before .loop .place))
     (c .next-place .result)
 moved c =
     let at-high = c .before in
     let at-low = at-high .before in
-    words-moved _ _ (at-low .before .load32 .ensures) (at-low .load322 .ensures) (at-high .load323 .ensures)
-    (c .next-place .ensures)
+    let in-loop = at-low .before .before in
+    words-moved _ _ (omega (arith, in-loop .before .before .before .pre, in-loop .loop-test .taken))
+    (at-low .before .load32 .ensures) (at-low .load322 .ensures) (at-high .load323 .ensures) (c .next-place .ensures)
 
 loop-holds : tie.Need-loop-holds Inv-loop μ-loop
-loop-holds c = left-start _ _ _
+loop-holds c = left-start
 
 mul-at : tie.Need-mul-at Inv-loop μ-loop
 mul-at c = omega (arith, c .before .before .before .pre, c .loop-test .taken)

@@ -4,12 +4,9 @@ use Prim.Native.Nat.{ℕ, _+_, _*_, _^_, _<_}
 use native.Mathlib.Omega.{arith}
 use mathlib.Core.Path.{_≡_, ap₂, subst}
 use borrow.Author.Needs.{needs}
-use Rattle.values.specs.inside.stream.Steps.{Moved}
-use Rattle.values.specs.stream.Entry.{loadedOf}
-use Rattle.values.specs.stream.Form.{loadedStep}
+use Rattle.values.specs.inside.stream.Steps.{Moved, stepOf}
 use Rattle.values.proofs.stream.FormLaws.{above, bool-broken, bool-fits, high-broken, kind-none, mark-broken}
-use Rattle.values.proofs.stream.FormLaws.{mark-fits}
-use Rattle.values.proofs.stream.FormLaws.{member-fits, moved-none, moved-to, signed-fits}
+use Rattle.values.proofs.stream.FormLaws.{mark-fits, member-fits, moved-none, moved-to, signed-fits}
 use Rattle.values.proofs.stream.form.next_place.Statement.{statement}
 use Rattle.values.proofs.stream.form.next_place.Tie as tie
 
@@ -97,21 +94,6 @@ returns-9 c =
     let a = start .args in
     moved-none (kind-none (a .head) (payload start) (a .place) (c .if6 .left))
 
-wide64-requires : tie.Need-wide64-requires
-wide64-requires c κs = search needs
-
-wide64-requires-2 : tie.Need-wide64-requires-2
-wide64-requires-2 c κs = search needs
-
-mul-other-place : tie.Need-mul-other-place
-mul-other-place c = search needs
-
-add-other-place : tie.Need-add-other-place
-add-other-place c = search needs
-
-other-place-requires : tie.Need-other-place-requires
-other-place-requires c κs = search needs
-
 returns-10 : tie.Need-returns-10
 returns-10 c =
     let high = c .before in
@@ -119,7 +101,7 @@ returns-10 c =
     let a = low .before .before .before .before .args in
     let same : low .wide64 .result + 2 ^ 32 * high .wide642 .result ≡ a .low + 2 ^ 32 * a .high =
     ap₂ (λ (x y : ℕ). x + 2 ^ 32 * y) (low .wide64 .ensures) (high .wide642 .ensures) in
-    subst (λ (x : ℕ). Moved (a .place) (loadedStep (loadedOf (a .head) x) (a .place)) (c .other-place .result)) same
+    subst (λ (x : ℕ). Moved (a .place) (stepOf (a .head) x (a .place)) (c .other-place .result)) same
     (c .other-place .ensures)
 
 pub next-place-spec : {M : Type 1} → statement M
@@ -135,9 +117,9 @@ next-place-spec =
     returns-7
     returns-8
     returns-9
-    wide64-requires
-    wide64-requires-2
-    mul-other-place
-    add-other-place
-    other-place-requires
+    (λ c κs. search needs)
+    (λ c κs. search needs)
+    (λ c. search needs)
+    (λ c. search needs)
+    (λ c κs. search needs)
     returns-10)

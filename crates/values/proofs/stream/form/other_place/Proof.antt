@@ -5,28 +5,12 @@ use mathlib.Core.Path.{sym, ap, _∙_}
 use borrow.Author.Needs.{needs}
 use Rattle.values.specs.stream.Form.{At}
 use Rattle.values.proofs.stream.FormLaws.{kind-none, moved-none, moved-to, plain-broken, plain-fits}
-use Rattle.values.proofs.stream.FormLaws.{text-elsewhere}
-use Rattle.values.proofs.stream.FormLaws.{text-here}
+use Rattle.values.proofs.stream.FormLaws.{text-elsewhere, text-here}
 use Rattle.values.proofs.stream.form.other_place.Statement.{statement}
 use Rattle.values.proofs.stream.form.other_place.Tie as tie
 
 returns : tie.Need-returns
 returns c = let a = c .before .args in moved-none (kind-none (a .head) (a .x) (a .place) (c .if1 .taken))
-
-low-requires : tie.Need-low-requires
-low-requires c κs = search needs
-
-wide-requires : tie.Need-wide-requires
-wide-requires c κs = search needs
-
-high-requires : tie.Need-high-requires
-high-requires c κs = search needs
-
-wide-requires-2 : tie.Need-wide-requires-2
-wide-requires-2 c κs = search needs
-
-add-result : tie.Need-add-result
-add-result c = search needs
 
 returns-2 : tie.Need-returns-2
 returns-2 c =
@@ -55,9 +39,6 @@ returns-3 c =
     (text-elsewhere (a .head) (a .x) (a .place) (at-text .if2 .taken)
     (λ h. c .if3 .left (at-wide .wide .ensures ∙ at-low .low .ensures ∙ h)))
 
-most-of-requires : tie.Need-most-of-requires
-most-of-requires c κs = search needs
-
 returns-4 : tie.Need-returns-4
 returns-4 c =
     let at-most = c .before in
@@ -84,13 +65,13 @@ other-place-spec =
     tie.close
     (tie.spec
     returns
-    low-requires
-    wide-requires
-    high-requires
-    wide-requires-2
-    add-result
+    (λ c κs. search needs)
+    (λ c κs. search needs)
+    (λ c κs. search needs)
+    (λ c κs. search needs)
+    (λ c. search needs)
     returns-2
     returns-3
-    most-of-requires
+    (λ c κs. search needs)
     returns-4
     returns-5)

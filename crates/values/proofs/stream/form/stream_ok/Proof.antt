@@ -16,43 +16,21 @@ returns : tie.Need-returns
 returns c = too-short (c .before .before .args .s .now) (c .if1 .taken)
 
 returns-2 : tie.Need-returns-2
-returns-2 c = too-long (c .before .before .before .args .s .now) (omega (arith, c .before .if1 .left)) (c .if2 .taken)
-
-load32-requires : tie.Need-load32-requires
-load32-requires c κs = search needs
-
-wide-requires : tie.Need-wide-requires
-wide-requires c κs = search needs
-
-mul-base : tie.Need-mul-base
-mul-base c = search needs
-
-add-base : tie.Need-add-base
-add-base c = search needs
+returns-2 c = too-long (c .before .before .before .args .s .now) (c .if2 .taken)
 
 returns-3 : tie.Need-returns-3
 returns-3 c =
-    let at-count = c .before .before in
-    let at-long = at-count .before in
-    let at-short = at-long .before in
-    let s = at-short .before .before .args .s .now in
-    too-many s (omega (arith, at-short .if1 .left)) (omega (arith, at-long .if2 .left))
-    (omega (arith, c .if3 .taken, counted (c .before)))
-
-entries-ok-requires : tie.Need-entries-ok-requires
-entries-ok-requires c κs = search needs
+    let at-short = c .before .before .before .before in
+    too-many (at-short .before .before .args .s .now) (omega (arith, c .if3 .taken, counted (c .before)))
 
 returns-4 : tie.Need-returns-4
 returns-4 c =
     let at-base = c .before in
-    let at-count = at-base .before .before in
-    let at-long = at-count .before in
-    let at-short = at-long .before in
-    let s = at-short .before .before .args .s .now in
+    let at-long = at-base .before .before .before in
+    let s = at-long .before .before .before .args .s .now in
     let n = counted (at-base .before) in
     c .entries-ok .ensures ∙ ap (λ (k : ℕ). formed s (4 + 12 * k) 0 k 0) n
-    ∙ all-ok s (omega (arith, at-short .if1 .left)) (omega (arith, at-long .if2 .left))
-    (omega (arith, at-base .if3 .left, n))
+    ∙ all-ok s (omega (arith, at-long .if2 .left))
 
 pub stream-ok-spec : {M : Type 1} → statement M
 stream-ok-spec =
@@ -60,10 +38,10 @@ stream-ok-spec =
     (tie.spec
     returns
     returns-2
-    load32-requires
-    wide-requires
-    mul-base
-    add-base
+    (λ c κs. search needs)
+    (λ c κs. search needs)
+    (λ c. search needs)
+    (λ c. search needs)
     returns-3
-    entries-ok-requires
+    (λ c κs. search needs)
     returns-4)

@@ -2,11 +2,21 @@
 -- "Value stream"): each function in a file of its own.
 use Rattle.values.proofs.stream.lengths.+text_elements+text_members+text_nested+text_struct.{statement}
 use Rattle.values.proofs.stream.lengths.+text_elements+text_members+text_nested+text_struct.Tie.{close}
-use Rattle.values.proofs.stream.lengths.+text_elements+text_members+text_nested+text_struct.Proof.Measures as measures
-use Rattle.values.proofs.stream.lengths.+text_elements+text_members+text_nested+text_struct.Proof.Elements as elements
-use Rattle.values.proofs.stream.lengths.+text_elements+text_members+text_nested+text_struct.Proof.Members as members
-use Rattle.values.proofs.stream.lengths.+text_elements+text_members+text_nested+text_struct.Proof.Nested as nested
-use Rattle.values.proofs.stream.lengths.+text_elements+text_members+text_nested+text_struct.Proof.Struct as struct
+use
+    Rattle.values.proofs.stream.lengths.+text_elements+text_members+text_nested+text_struct.Proof.Measures
+    as measures
+use
+    Rattle.values.proofs.stream.lengths.+text_elements+text_members+text_nested+text_struct.Proof.Elements
+    as elements
+use
+    Rattle.values.proofs.stream.lengths.+text_elements+text_members+text_nested+text_struct.Proof.Members
+    as members
+use
+    Rattle.values.proofs.stream.lengths.+text_elements+text_members+text_nested+text_struct.Proof.Nested
+    as nested
+use
+    Rattle.values.proofs.stream.lengths.+text_elements+text_members+text_nested+text_struct.Proof.Struct
+    as struct
 mod Measures
 mod Elements
 mod Members

@@ -2,11 +2,21 @@
 -- "Writing"): each function in a file of its own.
 use Rattle.values.proofs.writing.apply.+apply_elements+apply_members+apply_nested+apply_struct.{statement}
 use Rattle.values.proofs.writing.apply.+apply_elements+apply_members+apply_nested+apply_struct.Tie.{close}
-use Rattle.values.proofs.writing.apply.+apply_elements+apply_members+apply_nested+apply_struct.Proof.Elements as elements
-use Rattle.values.proofs.writing.apply.+apply_elements+apply_members+apply_nested+apply_struct.Proof.Measures as measures
-use Rattle.values.proofs.writing.apply.+apply_elements+apply_members+apply_nested+apply_struct.Proof.Members as members
-use Rattle.values.proofs.writing.apply.+apply_elements+apply_members+apply_nested+apply_struct.Proof.Nested as nested
-use Rattle.values.proofs.writing.apply.+apply_elements+apply_members+apply_nested+apply_struct.Proof.Struct as struct
+use
+    Rattle.values.proofs.writing.apply.+apply_elements+apply_members+apply_nested+apply_struct.Proof.Elements
+    as elements
+use
+    Rattle.values.proofs.writing.apply.+apply_elements+apply_members+apply_nested+apply_struct.Proof.Measures
+    as measures
+use
+    Rattle.values.proofs.writing.apply.+apply_elements+apply_members+apply_nested+apply_struct.Proof.Members
+    as members
+use
+    Rattle.values.proofs.writing.apply.+apply_elements+apply_members+apply_nested+apply_struct.Proof.Nested
+    as nested
+use
+    Rattle.values.proofs.writing.apply.+apply_elements+apply_members+apply_nested+apply_struct.Proof.Struct
+    as struct
 mod Elements
 mod Measures
 mod Members

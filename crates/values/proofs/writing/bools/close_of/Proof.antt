@@ -21,7 +21,7 @@ below c =
     omega (arith, start .pre .run .inside, c .loop .inv .upto (start .pre .many) (start .pre .run))
 
 loop-holds : tie.Need-loop-holds Inv-loop μ-loop
-loop-holds c = among-start _ _
+loop-holds c = among-start
 
 kind-of-requires : tie.Need-kind-of-requires Inv-loop μ-loop
 kind-of-requires c κs = (c .before .before .pre .run .form, below c)

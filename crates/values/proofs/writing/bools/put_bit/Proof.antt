@@ -4,18 +4,6 @@ use Rattle.values.proofs.writing.bools.BoolLaws.{bit-set}
 use Rattle.values.proofs.writing.bools.put_bit.Statement.{statement}
 use Rattle.values.proofs.writing.bools.put_bit.Tie as tie
 
-slice-read-byte : tie.Need-slice-read-byte
-slice-read-byte c = search needs
-
-set-bit-requires : tie.Need-set-bit-requires
-set-bit-requires c κs = search needs
-
-slice-write-image : tie.Need-slice-write-image
-slice-write-image c = search needs
-
-same-length : tie.Need-same-length
-same-length c = search needs
-
 returns : tie.Need-returns
 returns c =
     let start = c .before .before .before .before in
@@ -23,4 +11,5 @@ returns c =
     (start .pre .0) (start .pre .1)
 
 pub put-bit-spec : {M : Type 1} → statement M
-put-bit-spec = tie.close (tie.spec slice-read-byte set-bit-requires slice-write-image same-length returns)
+put-bit-spec = tie.close (tie.spec (λ c. search needs) (λ c κs. search needs) (λ c. search needs)
+    (λ c. search needs) returns)

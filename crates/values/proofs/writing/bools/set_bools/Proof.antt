@@ -17,7 +17,7 @@ close-is c = let run = bools-run (start c .pre) in c .close-of .ensures (run .ma
 parts : (c : tie.After-close-of)
     → Parts (start c .args .s .now) (start c .args .k) (start c .args .image .now) (start c .args .base)
     (c .close-of .result - start c .args .k)
-parts c = parts-of (start c .pre) _ (omega (arith, close-is c))
+parts c = parts-of (start c .pre) (omega (arith, close-is c))
 
 close-of-requires : tie.Need-close-of-requires
 close-of-requires c κs =

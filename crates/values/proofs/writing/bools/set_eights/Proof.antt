@@ -16,7 +16,7 @@ abbrev start : tie.In-loop Inv-loop μ-loop → tie.Start Inv-loop μ-loop
 start c = c .before .before .before .before
 
 loop-holds : tie.Need-loop-holds Inv-loop μ-loop
-loop-holds c = (omega arith, laid-none _ _ _ _ _ (omega arith))
+loop-holds c = (omega arith, laid-none (omega arith))
 
 mul-eight : tie.Need-mul-eight Inv-loop μ-loop
 mul-eight c = omega (arith, least-few (start c .pre .0) .small, c .loop-test .taken)
@@ -46,7 +46,7 @@ loop-again c =
     let in-loop = c .before in
     let at-loop = in-loop .before in (
       omega (arith, in-loop .loop-test .taken),
-      laid-byte (start in-loop .args .base) (at-loop .loop .b) _ (at-loop .loop .inv .1)
+      laid-byte (start in-loop .args .base) (at-loop .loop .b) (at-loop .loop .inv .1)
           (omega (arith, start in-loop .pre .1, in-loop .loop-test .taken, at-loop .loop .inv .1 .long))
           (c .eight .ensures),
     )
@@ -57,7 +57,7 @@ same-length c = c .before .loop .inv .1 .long
 returns : tie.Need-returns Inv-loop μ-loop
 returns c =
     let at-loop = c .before in
-    laid-all _ (at-loop .loop .inv .1) (omega (arith, at-loop .loop .inv .0, c .loop-test .left))
+    laid-all (at-loop .loop .inv .1) (omega (arith, at-loop .loop .inv .0, c .loop-test .left))
 
 pub set-eights-spec : {M : Type 1} → statement M
 set-eights-spec =

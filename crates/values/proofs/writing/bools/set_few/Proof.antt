@@ -21,7 +21,7 @@ abbrev in-loop : tie.After-slice-known2 Inv-loop μ-loop → tie.In-loop Inv-loo
 in-loop c = c .before .before .before .before .before
 
 loop-holds : tie.Need-loop-holds Inv-loop μ-loop
-loop-holds c = (omega arith, laid-none _ _ _ _ _ refl)
+loop-holds c = (omega arith, laid-none refl)
 
 cast-put-bit : tie.Need-cast-put-bit Inv-loop μ-loop
 cast-put-bit c = omega (arith, start (c .before) .pre .1 .0, c .before .loop-test .taken)
@@ -68,7 +68,7 @@ same-length c = c .before .loop .inv .1 .long
 returns : tie.Need-returns Inv-loop μ-loop
 returns c =
     let at-loop = c .before in
-    laid-all _ (at-loop .loop .inv .1) (omega (arith, at-loop .loop .inv .0, c .loop-test .left))
+    laid-all (at-loop .loop .inv .1) (omega (arith, at-loop .loop .inv .0, c .loop-test .left))
 
 pub set-few-spec : {M : Type 1} → statement M
 set-few-spec =

@@ -7,9 +7,6 @@ use Rattle.values.proofs.writing.fits.FitRunLaws.{few}
 use Rattle.values.proofs.writing.fits.check_array.Statement.{statement}
 use Rattle.values.proofs.writing.fits.check_array.Tie as tie
 
-kind-at-requires : tie.Need-kind-at-requires
-kind-at-requires c κs = search needs
-
 add-result : tie.Need-add-result
 add-result c =
     let start = c .before .before .before in
@@ -65,7 +62,7 @@ pub check-array-spec : {M : Type 1} → statement M
 check-array-spec =
     tie.close
     (tie.spec
-    kind-at-requires
+    (λ c κs. search needs)
     add-result
     returns
     add-check-run

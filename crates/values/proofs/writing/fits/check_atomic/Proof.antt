@@ -36,21 +36,6 @@ returns c w p =
     one-missing (told .form) (orNull (atomicTakes (at-start .args .a))) w p
     (omega (arith, c .before .if1 .taken, told .count, at-start .pre .1)) (c .refused .ensures)
 
-limits-of-requires : tie.Need-limits-of-requires
-limits-of-requires c κs = search needs
-
-kind-of-requires : tie.Need-kind-of-requires
-kind-of-requires c κs = search needs
-
-payload-of-requires : tie.Need-payload-of-requires
-payload-of-requires c κs = search needs
-
-misfit-requires : tie.Need-misfit-requires
-misfit-requires c κs = search needs
-
-add-result : tie.Need-add-result
-add-result c = search needs
-
 returns-2 : tie.Need-returns-2
 returns-2 c w p =
     let at-misfit = c .before in
@@ -81,11 +66,11 @@ check-atomic-spec =
     (tie.spec
     refused-requires
     returns
-    limits-of-requires
-    kind-of-requires
-    payload-of-requires
-    misfit-requires
-    add-result
+    (λ c κs. search needs)
+    (λ c κs. search needs)
+    (λ c κs. search needs)
+    (λ c κs. search needs)
+    (λ c. search needs)
     returns-2
     refused-requires-2
     returns-3)

@@ -6,9 +6,6 @@ use Rattle.values.proofs.writing.fits.FitLeafLaws.{one-of}
 use Rattle.values.proofs.writing.fits.check_atomics.Statement.{statement}
 use Rattle.values.proofs.writing.fits.check_atomics.Tie as tie
 
-is-bits-requires : tie.Need-is-bits-requires
-is-bits-requires c κs = search needs
-
 check-bits-requires : tie.Need-check-bits-requires
 check-bits-requires c κs =
     let at-bits = c .before in
@@ -20,9 +17,6 @@ returns c =
     let one = c .before .before .before in
     λ p. rw (one .if1 .taken) (c .check-bits .ensures p)
 
-check-atomic-requires : tie.Need-check-atomic-requires
-check-atomic-requires c κs = search needs
-
 returns-2 : tie.Need-returns-2
 returns-2 c =
     let plain = c .before in
@@ -32,20 +26,14 @@ returns-2 c =
     (one-of (one .before .before .args .a) (sym (at-bits .is-bits .ensures) ∙ plain .if2 .left)
     (c .check-atomic .ensures) p)
 
-check-array-requires : tie.Need-check-array-requires
-check-array-requires c κs = search needs
-
-returns-3 : tie.Need-returns-3
-returns-3 c = search needs
-
 pub check-atomics-spec : {M : Type 1} → statement M
 check-atomics-spec =
     tie.close
     (tie.spec
-    is-bits-requires
+    (λ c κs. search needs)
     check-bits-requires
     returns
-    check-atomic-requires
+    (λ c κs. search needs)
     returns-2
-    check-array-requires
-    returns-3)
+    (λ c κs. search needs)
+    (λ c. search needs))

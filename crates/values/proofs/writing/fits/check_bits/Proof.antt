@@ -8,12 +8,6 @@ use Rattle.values.proofs.writing.fits.FitRunLaws.{few}
 use Rattle.values.proofs.writing.fits.check_bits.Statement.{statement}
 use Rattle.values.proofs.writing.fits.check_bits.Tie as tie
 
-kind-at-requires : tie.Need-kind-at-requires
-kind-at-requires c κs = search needs
-
-size-of-requires : tie.Need-size-of-requires
-size-of-requires c κs = search needs
-
 -- the opening is there
 inside : (c : tie.Then1) → let args = c .before .before .before .args in args .k + 1 ≤ args .n
 inside c =
@@ -40,9 +34,6 @@ returns c =
     bits-array (start .pre .0 .0) (at-kind .kind-at .ensures) (start .args .a) (start .pre .1) (opens .if1 .taken)
     (sized .size-of .ensures) (c .check-bools .ensures)
 
-check-atomic-requires : tie.Need-check-atomic-requires
-check-atomic-requires c κs = search needs
-
 returns-2 : tie.Need-returns-2
 returns-2 c =
     let other = c .before in
@@ -55,10 +46,10 @@ pub check-bits-spec : {M : Type 1} → statement M
 check-bits-spec =
     tie.close
     (tie.spec
-    kind-at-requires
-    size-of-requires
+    (λ c κs. search needs)
+    (λ c κs. search needs)
     add-check-bools
     check-bools-requires
     returns
-    check-atomic-requires
+    (λ c κs. search needs)
     returns-2)

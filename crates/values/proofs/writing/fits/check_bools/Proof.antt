@@ -5,8 +5,7 @@ use Prim.Native.Nat.{_-_, _*_}
 use Rattle.values.specs.reading.Leaf.{flag}
 use Rattle.values.specs.writing.Effects.{taken}
 use Rattle.values.proofs.writing.fits.FitRunLaws.{Next, Walked, asked, bool-on, bool-refused, next-closes}
-use Rattle.values.proofs.writing.fits.FitRunLaws.{next-low}
-use Rattle.values.proofs.writing.fits.FitRunLaws.{walked-done, walked-start}
+use Rattle.values.proofs.writing.fits.FitRunLaws.{next-low, walked-done, walked-start}
 use Rattle.values.proofs.writing.fits.check_bools.Statement.{statement}
 use Rattle.values.proofs.writing.fits.check_bools.Tie as tie
 

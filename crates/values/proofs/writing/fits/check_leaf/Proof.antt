@@ -10,29 +10,11 @@ use Rattle.values.proofs.writing.fits.FitRunLaws.{few}
 use Rattle.values.proofs.writing.fits.check_leaf.Statement.{statement}
 use Rattle.values.proofs.writing.fits.check_leaf.Tie as tie
 
-member-row-requires : tie.Need-member-row-requires
-member-row-requires c κs = search needs
-
-wide-requires : tie.Need-wide-requires
-wide-requires c κs = search needs
-
-enum-told : tie.Need-enum-told
-enum-told c = search needs
-
-check-atomic-requires : tie.Need-check-atomic-requires
-check-atomic-requires c κs = search needs
-
 returns : tie.Need-returns
 returns c =
     let at-bit = c .before in
     let m = at-bit .before .before .before .member-row in
     rw (← m .ensures) (member-bit (m .result) (at-bit .enum-told .given .1) (c .check-atomic .ensures))
-
-enum-told-2 : tie.Need-enum-told-2
-enum-told-2 c = search needs
-
-enum-known-ty : tie.Need-enum-known-ty
-enum-known-ty c = search needs
 
 check-atomics-requires : tie.Need-check-atomics-requires
 check-atomics-requires c κs =
@@ -50,9 +32,6 @@ returns-2 c =
     rw (← m .ensures)
     (member-atomic (m .result) (at-none .enum-told2 .given .1) (at-ty .ty .given .1) (at-wide .wide .ensures)
     (c .check-atomics .ensures))
-
-enum-told-3 : tie.Need-enum-told-3
-enum-told-3 c = search needs
 
 refused-requires : tie.Need-refused-requires
 refused-requires c κs =
@@ -74,15 +53,15 @@ pub check-leaf-spec : {M : Type 1} → statement M
 check-leaf-spec =
     tie.close
     (tie.spec
-    member-row-requires
-    wide-requires
-    enum-told
-    check-atomic-requires
+    (λ c κs. search needs)
+    (λ c κs. search needs)
+    (λ c. search needs)
+    (λ c κs. search needs)
     returns
-    enum-told-2
-    enum-known-ty
+    (λ c. search needs)
+    (λ c. search needs)
     check-atomics-requires
     returns-2
-    enum-told-3
+    (λ c. search needs)
     refused-requires
     returns-3)

@@ -8,8 +8,8 @@ use Rattle.values.specs.inside.writing.Effects.{atomicTakes}
 use Rattle.values.specs.inside.writing.Limits.{limitsOf}
 use Rattle.values.specs.writing.Effects.{orNull}
 use Rattle.values.proofs.writing.FitLaws.{misfit-small}
-use Rattle.values.proofs.writing.fits.FitRunLaws.{Judging, Next, Walked, asked, next-closes, next-low}
-use Rattle.values.proofs.writing.fits.FitRunLaws.{number-on, number-refused, walked-done, walked-start}
+use Rattle.values.proofs.writing.fits.FitRunLaws.{Judging, Next, Walked, asked, next-closes, next-low, number-on}
+use Rattle.values.proofs.writing.fits.FitRunLaws.{number-refused, walked-done, walked-start}
 use Rattle.values.proofs.writing.fits.check_numbers.Statement.{statement}
 use Rattle.values.proofs.writing.fits.check_numbers.Tie as tie
 

@@ -8,22 +8,10 @@ use Rattle.values.proofs.writing.fits.FitLeafLaws.{run-of-bools, run-of
 use Rattle.values.proofs.writing.fits.check_run.Statement.{statement}
 use Rattle.values.proofs.writing.fits.check_run.Tie as tie
 
-is-bits-requires : tie.Need-is-bits-requires
-is-bits-requires c κs = search needs
-
-kind-at-requires : tie.Need-kind-at-requires
-kind-at-requires c κs = search needs
-
-size-of-requires : tie.Need-size-of-requires
-size-of-requires c κs = search needs
-
 mul-check-bools : tie.Need-mul-check-bools
 mul-check-bools c =
     let start = c .before .before .before .before .before .before in
     omega (arith, ap (λ (size : ℕ). size * start .args .count) (c .size-of .ensures), start .pre .1)
-
-check-bools-requires : tie.Need-check-bools-requires
-check-bools-requires c κs = search needs
 
 returns : tie.Need-returns
 returns c =
@@ -37,9 +25,6 @@ returns c =
     (sym (at-bits .is-bits .ensures) ∙ bits .if1 .taken) (bools .if2 .taken) (sized .size-of .ensures)
     (c .check-bools .ensures)
 
-check-numbers-requires : tie.Need-check-numbers-requires
-check-numbers-requires c κs = search needs
-
 returns-2 : tie.Need-returns-2
 returns-2 c =
     let other = c .before in
@@ -49,9 +34,6 @@ returns-2 c =
     let start = at-bits .before .before in
     run-of-wholes (start .pre .0 .0) (at-kind .kind-at .ensures) (start .args .a) (start .args .count)
     (sym (at-bits .is-bits .ensures) ∙ bits .if1 .taken) (other .if2 .left) (c .check-numbers .ensures)
-
-check-numbers-requires-2 : tie.Need-check-numbers-requires-2
-check-numbers-requires-2 c κs = search needs
 
 returns-3 : tie.Need-returns-3
 returns-3 c =
@@ -65,13 +47,13 @@ pub check-run-spec : {M : Type 1} → statement M
 check-run-spec =
     tie.close
     (tie.spec
-    is-bits-requires
-    kind-at-requires
-    size-of-requires
+    (λ c κs. search needs)
+    (λ c κs. search needs)
+    (λ c κs. search needs)
     mul-check-bools
-    check-bools-requires
+    (λ c κs. search needs)
     returns
-    check-numbers-requires
+    (λ c κs. search needs)
     returns-2
-    check-numbers-requires-2
+    (λ c κs. search needs)
     returns-3)

@@ -33,9 +33,6 @@ text-length c =
     text-here (c .before .before) .text (text-kind (c .before .before)) .long
     ∙ sym (c .high .ensures ∙ ap (λ x. x / 2 ^ 32) (c .before .payload-of .ensures))
 
-kind-at-requires : tie.Need-kind-at-requires
-kind-at-requires c κs = search needs
-
 add-result : tie.Need-add-result
 add-result c = let at-start = c .before .before .before in omega (arith, few-entries _ (at-start .pre .0 .form))
 
@@ -49,9 +46,6 @@ returns c w p =
 
 payload-of-requires : tie.Need-payload-of-requires
 payload-of-requires c κs = (c .before .before .before .before .pre .0 .form, text-here c .inside)
-
-high-requires : tie.Need-high-requires
-high-requires c κs = search needs
 
 refused-requires : tie.Need-refused-requires
 refused-requires c κs =
@@ -99,11 +93,11 @@ pub check-text-spec : {M : Type 1} → statement M
 check-text-spec =
     tie.close
     (tie.spec
-    kind-at-requires
+    (λ c κs. search needs)
     add-result
     returns
     payload-of-requires
-    high-requires
+    (λ c κs. search needs)
     refused-requires
     returns-2
     add-result-2

@@ -9,9 +9,6 @@ returns : tie.Need-returns
 unfolding misfit
 returns c = simp (eq-eqb _ _ (c .if1 .taken))
 
-whole-misfit-requires : tie.Need-whole-misfit-requires
-whole-misfit-requires c κs = search needs
-
 returns-2 : tie.Need-returns-2
 unfolding misfit
 returns-2 c =
@@ -36,4 +33,4 @@ returns-4 c =
     )
 
 pub misfit-spec : {M : Type 1} → statement M
-misfit-spec = tie.close (tie.spec returns whole-misfit-requires returns-2 returns-3 returns-4)
+misfit-spec = tie.close (tie.spec returns (λ c κs. search needs) returns-2 returns-3 returns-4)

@@ -13,12 +13,9 @@ returns-2 : tie.Need-returns-2
 unfolding signedMisfit
 returns-2 c = simp (le-leb _ _ (c .before .if1 .taken), le-ltb _ _ (c .if2 .left))
 
-above-misfit-requires : tie.Need-above-misfit-requires
-above-misfit-requires c κs = search needs
-
 returns-3 : tie.Need-returns-3
 unfolding signedMisfit
 returns-3 c = simp (lt-leb _ _ (c .before .if1 .left)) (c .above-misfit .ensures)
 
 pub signed-misfit-spec : {M : Type 1} → statement M
-signed-misfit-spec = tie.close (tie.spec returns returns-2 above-misfit-requires returns-3)
+signed-misfit-spec = tie.close (tie.spec returns returns-2 (λ c κs. search needs) returns-3)

@@ -5,15 +5,9 @@ use Rattle.values.specs.inside.writing.Limits.{wholeMisfit}
 use Rattle.values.proofs.writing.limits.whole_misfit.Statement.{statement}
 use Rattle.values.proofs.writing.limits.whole_misfit.Tie as tie
 
-signed-misfit-requires : tie.Need-signed-misfit-requires
-signed-misfit-requires c κs = search needs
-
 returns : tie.Need-returns
 unfolding wholeMisfit
 returns c = simp (eq-eqb _ _ (c .before .if1 .taken)) (c .signed-misfit .ensures)
-
-above-misfit-requires : tie.Need-above-misfit-requires
-above-misfit-requires c κs = search needs
 
 returns-2 : tie.Need-returns-2
 unfolding wholeMisfit
@@ -26,4 +20,4 @@ returns-3 c = simp (ne-eqb _ _ (c .before .if1 .left), ne-eqb _ _ (c .if2 .left)
 
 pub whole-misfit-spec : {M : Type 1} → statement M
 whole-misfit-spec =
-    tie.close (tie.spec signed-misfit-requires returns above-misfit-requires returns-2 returns-3)
+    tie.close (tie.spec (λ c κs. search needs) returns (λ c κs. search needs) returns-2 returns-3)

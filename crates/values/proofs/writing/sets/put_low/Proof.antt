@@ -13,15 +13,6 @@ eight c =
     eight-left (at-start .args .size) (at-start .pre .1) (c .before .before .if1 .left) (c .before .if2 .left)
     (c .if3 .left)
 
-low-requires : tie.Need-low-requires
-low-requires c κs = search needs
-
-store32-requires : tie.Need-store32-requires
-store32-requires c κs = search needs
-
-same-length : tie.Need-same-length
-same-length c = search needs
-
 returns : tie.Need-returns
 returns c =
     let at-store = c .before .before in
@@ -30,15 +21,6 @@ returns c =
     low-stored (a .image .now) (a .at) (a .size) (a .x) 4 (then1 .if1 .taken) (at-store .before .low .ensures)
     (at-store .store32 .ensures)
 
-low16-requires : tie.Need-low16-requires
-low16-requires c κs = search needs
-
-store16-requires : tie.Need-store16-requires
-store16-requires c κs = search needs
-
-same-length-2 : tie.Need-same-length-2
-same-length-2 c = search needs
-
 returns-2 : tie.Need-returns-2
 returns-2 c =
     let at-store = c .before .before in
@@ -46,15 +28,6 @@ returns-2 c =
     let a = then2 .before .before .before .args in
     low-stored (a .image .now) (a .at) (a .size) (a .x) 2 (then2 .if2 .taken) (at-store .before .low16 .ensures)
     (at-store .store16 .ensures)
-
-low8-requires : tie.Need-low8-requires
-low8-requires c κs = search needs
-
-store8-requires : tie.Need-store8-requires
-store8-requires c κs = search needs
-
-same-length-3 : tie.Need-same-length-3
-same-length-3 c = search needs
 
 returns-3 : tie.Need-returns-3
 returns-3 c =
@@ -67,9 +40,6 @@ returns-3 c =
 store64-requires : tie.Need-store64-requires
 store64-requires c κs = omega (arith, eight (c .before), c .before .before .before .before .before .pre .0)
 
-same-length-4 : tie.Need-same-length-4
-same-length-4 c = search needs
-
 returns-4 : tie.Need-returns-4
 returns-4 c =
     let at-store = c .before .before in
@@ -81,18 +51,18 @@ pub put-low-spec : {M : Type 1} → statement M
 put-low-spec =
     tie.close
     (tie.spec
-    low-requires
-    store32-requires
-    same-length
+    (λ c κs. search needs)
+    (λ c κs. search needs)
+    (λ c. search needs)
     returns
-    low16-requires
-    store16-requires
-    same-length-2
+    (λ c κs. search needs)
+    (λ c κs. search needs)
+    (λ c. search needs)
     returns-2
-    low8-requires
-    store8-requires
-    same-length-3
+    (λ c κs. search needs)
+    (λ c κs. search needs)
+    (λ c. search needs)
     returns-3
     store64-requires
-    same-length-4
+    (λ c. search needs)
     returns-4)

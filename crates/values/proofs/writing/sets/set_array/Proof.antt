@@ -65,9 +65,6 @@ set-run-requires c κs =
     let start = c .before .before .before .before .before in
     (start .pre .0, opens (c .before) .taken)
 
-same-length : tie.Need-same-length
-same-length c = search needs
-
 returns-2 : tie.Need-returns-2
 returns-2 c =
     let set = c .before .before in
@@ -76,4 +73,4 @@ returns-2 c =
 
 pub set-array-spec : {M : Type 1} → statement M
 set-array-spec =
-    tie.close (tie.spec kind-of-requires add-result returns add-set-run set-run-requires same-length returns-2)
+    tie.close (tie.spec kind-of-requires add-result returns add-set-run set-run-requires (λ c. search needs) returns-2)

@@ -37,9 +37,6 @@ returns c =
     one-kept (there at-start) (atomicTakes (a .a)) (8 * sizeOf (a .a)) (8 * (a .base))
     (sym (c .before .kind-of .ensures) ∙ c .if1 .taken)
 
-size-of-requires : tie.Need-size-of-requires
-size-of-requires c κs = search needs
-
 payload-of-requires : tie.Need-payload-of-requires
 payload-of-requires c κs =
     let at-start = c .before .before .before .before .before .before in
@@ -55,9 +52,6 @@ add-result-2 : tie.Need-add-result-2
 add-result-2 c =
     let at-start = c .before .before .before .before .before .before .before .before .before .before in
     omega (arith, there at-start .inside, few-entries (at-start .args .s .now) (at-start .pre .0 .0))
-
-same-length : tie.Need-same-length
-same-length c = search needs
 
 returns-2 : tie.Need-returns-2
 returns-2 c =
@@ -79,9 +73,9 @@ set-atomic-spec =
     kind-of-requires
     add-result
     returns
-    size-of-requires
+    (λ c κs. search needs)
     payload-of-requires
     put-low-requires
     add-result-2
-    same-length
+    (λ c. search needs)
     returns-2)

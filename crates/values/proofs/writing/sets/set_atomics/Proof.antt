@@ -31,9 +31,6 @@ leaf c =
     let bits = c .before in
     one (bits .before) ∙ one-is-leaf _ _ _ _ (sym (bits .is-bits .ensures) ∙ c .if2 .left)
 
-is-bits-requires : tie.Need-is-bits-requires
-is-bits-requires c κs = search needs
-
 set-bits-requires : tie.Need-set-bits-requires
 set-bits-requires c κs =
     let bits = c .before .before in
@@ -43,9 +40,6 @@ set-bits-requires c κs =
       (start .pre .0 .0, room-one (a .a) (a .count) (a .base) _ (start .pre .0 .1) (single .if1 .taken)),
       (sym (bits .is-bits .ensures) ∙ c .before .if2 .taken, accepted-as (one single) (start .pre .1)),
     )
-
-same-length : tie.Need-same-length
-same-length c = search needs
 
 returns : tie.Need-returns
 returns c =
@@ -62,9 +56,6 @@ set-atomic-requires c κs =
       accepted-as (leaf plain) (start .pre .1),
     )
 
-same-length-2 : tie.Need-same-length-2
-same-length-2 c = search needs
-
 returns-2 : tie.Need-returns-2
 returns-2 c = let set = c .before .before in applied-as (leaf (set .before .before)) (set .set-atomic .ensures)
 
@@ -77,9 +68,6 @@ set-array-requires c κs =
       (omega (arith, many .if1 .left), start .pre .1),
     )
 
-same-length-3 : tie.Need-same-length-3
-same-length-3 c = search needs
-
 returns-3 : tie.Need-returns-3
 returns-3 c = c .before .before .set-array .ensures
 
@@ -87,13 +75,13 @@ pub set-atomics-spec : {M : Type 1} → statement M
 set-atomics-spec =
     tie.close
     (tie.spec
-    is-bits-requires
+    (λ c κs. search needs)
     set-bits-requires
-    same-length
+    (λ c. search needs)
     returns
     set-atomic-requires
-    same-length-2
+    (λ c. search needs)
     returns-2
     set-array-requires
-    same-length-3
+    (λ c. search needs)
     returns-3)

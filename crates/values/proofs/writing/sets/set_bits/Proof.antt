@@ -47,9 +47,6 @@ number c =
 kind-of-requires : tie.Need-kind-of-requires
 kind-of-requires c κs = let start = c .before .before in (start .pre .0 .0, here start .inside)
 
-size-of-requires : tie.Need-size-of-requires
-size-of-requires c κs = search needs
-
 put-low-requires : tie.Need-put-low-requires
 put-low-requires c κs =
     let start = c .before .before .before .before .before .before in (
@@ -69,9 +66,6 @@ set-bools-requires c κs =
     let w = cleared put in
     bools-asked (sizeOf (start .args .a)) (start .pre .0 .0) (omega (arith, start .pre .0 .1, w .long)) (w .taken)
 
-same-length : tie.Need-same-length
-same-length c = search needs
-
 returns : tie.Need-returns
 returns c =
     let set = c .before .before in
@@ -83,9 +77,6 @@ set-atomic-requires c κs =
     let start = c .before .before .before .before .before in
     (start .pre .0, accepted-as (number (c .before)) (start .pre .1 .1))
 
-same-length-2 : tie.Need-same-length-2
-same-length-2 c = search needs
-
 returns-2 : tie.Need-returns-2
 returns-2 c = let set = c .before .before in applied-as (number (set .before .before)) (set .set-atomic .ensures)
 
@@ -94,12 +85,12 @@ set-bits-spec =
     tie.close
     (tie.spec
     kind-of-requires
-    size-of-requires
+    (λ c κs. search needs)
     put-low-requires
     add-set-bools
     set-bools-requires
-    same-length
+    (λ c. search needs)
     returns
     set-atomic-requires
-    same-length-2
+    (λ c. search needs)
     returns-2)

@@ -37,16 +37,10 @@ payload-of-requires c κs =
     let at-start = c .before .before .before .before .before in
     (at-start .pre .0 .0, there at-start .inside)
 
-put-bit-requires : tie.Need-put-bit-requires
-put-bit-requires c κs = search needs
-
 add-result-2 : tie.Need-add-result-2
 add-result-2 c =
     let at-start = c .before .before .before .before .before .before .before .before .before in
     omega (arith, there at-start .inside, few-entries (at-start .args .s .now) (at-start .pre .0 .0))
-
-same-length : tie.Need-same-length
-same-length c = search needs
 
 returns-2 : tie.Need-returns-2
 returns-2 c =
@@ -67,7 +61,7 @@ set-flag-spec =
     add-result
     returns
     payload-of-requires
-    put-bit-requires
+    (λ c κs. search needs)
     add-result-2
-    same-length
+    (λ c. search needs)
     returns-2)

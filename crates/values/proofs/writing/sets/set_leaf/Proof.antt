@@ -4,8 +4,7 @@ use borrow.Author.Needs.{needs}
 use denote.Ref.{now}
 use Rattle.values.proofs.writing.ApplyLaws.{accepted-as, applied-as}
 use Rattle.values.proofs.writing.sets.SetLeafLaws.{LeafHere, atomics-inside, atomics-is, flag-inside, flag-is}
-use Rattle.values.proofs.writing.sets.SetLeafLaws.{leaf-start}
-use Rattle.values.proofs.writing.sets.SetLeafLaws.{nested-never}
+use Rattle.values.proofs.writing.sets.SetLeafLaws.{leaf-start, nested-never}
 use Rattle.values.proofs.writing.sets.set_leaf.Statement.{statement}
 use Rattle.values.proofs.writing.sets.set_leaf.Tie as tie
 
@@ -32,17 +31,8 @@ here c =
 member-row-requires : tie.Need-member-row-requires
 member-row-requires c κs = c .before .before .pre .0 .1 .0 .inside
 
-wide-requires : tie.Need-wide-requires
-wide-requires c κs = search needs
-
-wide-requires-2 : tie.Need-wide-requires-2
-wide-requires-2 c κs = search needs
-
 add-start : tie.Need-add-start
 add-start c = omega (arith, leaf-start (here c), c .before .before .before .before .before .good)
-
-enum-known-bit : tie.Need-enum-known-bit
-enum-known-bit c = search needs
 
 set-flag-requires : tie.Need-set-flag-requires
 set-flag-requires c κs =
@@ -53,20 +43,11 @@ set-flag-requires c κs =
       accepted-as (flag-is (here read) (bit .bit .given .1) (start .pre .1 .0) _ _) (start .pre .1 .1),
     )
 
-same-length : tie.Need-same-length
-same-length c = search needs
-
 returns : tie.Need-returns
 returns c =
     let set = c .before .before in
     let bit = set .before .before .before in
     λ trees. applied-as (flag-is (here (bit .before .before)) (bit .bit .given .1) trees _ _) (set .set-flag .ensures)
-
-enum-told : tie.Need-enum-told
-enum-told c = search needs
-
-enum-known-ty : tie.Need-enum-known-ty
-enum-known-ty c = search needs
 
 set-atomics-requires : tie.Need-set-atomics-requires
 set-atomics-requires c κs =
@@ -79,9 +60,6 @@ set-atomics-requires c κs =
           (start .pre .1 .1),
     )
 
-same-length-2 : tie.Need-same-length-2
-same-length-2 c = search needs
-
 returns-2 : tie.Need-returns-2
 returns-2 c =
     let set = c .before .before in
@@ -90,9 +68,6 @@ returns-2 c =
     let read = told .before .before in
     λ trees. applied-as (atomics-is (here read) (told .enum-told .given .1) (ty .ty .given .1) trees _ _)
     (set .set-atomics .ensures)
-
-enum-told-2 : tie.Need-enum-told-2
-enum-told-2 c = search needs
 
 add-result : tie.Need-add-result
 add-result c =
@@ -109,18 +84,18 @@ set-leaf-spec =
     tie.close
     (tie.spec
     member-row-requires
-    wide-requires
-    wide-requires-2
+    (λ c κs. search needs)
+    (λ c κs. search needs)
     add-start
-    enum-known-bit
+    (λ c. search needs)
     set-flag-requires
-    same-length
+    (λ c. search needs)
     returns
-    enum-told
-    enum-known-ty
+    (λ c. search needs)
+    (λ c. search needs)
     set-atomics-requires
-    same-length-2
+    (λ c. search needs)
     returns-2
-    enum-told-2
+    (λ c. search needs)
     add-result
     returns-3)

@@ -9,8 +9,8 @@ use Rattle.values.specs.stream.Form.{countIn}
 use Rattle.values.proofs.stream.LeftLaws.{few-entries}
 use Rattle.values.proofs.writing.sets.SetLaws.{width-of}
 use Rattle.values.proofs.writing.sets.SetRunLaws.{Asked, Numbers, numbers-closed, numbers-end, numbers-long}
-use Rattle.values.proofs.writing.sets.SetRunLaws.{numbers-null}
-use Rattle.values.proofs.writing.sets.SetRunLaws.{numbers-put, numbers-room, numbers-start, numbers-there}
+use Rattle.values.proofs.writing.sets.SetRunLaws.{numbers-null, numbers-put, numbers-room, numbers-start}
+use Rattle.values.proofs.writing.sets.SetRunLaws.{numbers-there}
 use Rattle.values.proofs.writing.sets.set_numbers.Statement.{statement}
 use Rattle.values.proofs.writing.sets.set_numbers.Tie as tie
 
@@ -38,11 +38,8 @@ long : (c : tie.At-loop Inv-loop μ-loop)
     → length (c .loop .image) ≡ length (c .before .before .before .before .args .image .now)
 long c = numbers-long (c .loop .inv) (asked (c .before))
 
-size-of-requires : tie.Need-size-of-requires Inv-loop μ-loop
-size-of-requires c κs = search needs
-
 loop-holds : tie.Need-loop-holds Inv-loop μ-loop
-loop-holds c = numbers-start _ _ _ _ _ _
+loop-holds c = numbers-start
 
 sub-loop : tie.Need-sub-loop Inv-loop μ-loop
 sub-loop c = omega (arith, c .loop .inv .further)
@@ -147,7 +144,7 @@ set-numbers-spec =
     (tie.spec
     Inv-loop
     μ-loop
-    size-of-requires
+    (λ c κs. search needs)
     loop-holds
     sub-loop
     kind-of-requires

@@ -40,9 +40,6 @@ numbers : (c : tie.Else1)
     ≡ numbersIn (a .a) (a .count) (a .base) (leftAt (a .s .now) (a .k)) (flat (a .image .now))
 numbers c = run-numbers _ _ _ _ _ (sym (c .before .is-bits .ensures) ∙ c .if1 .left)
 
-is-bits-requires : tie.Need-is-bits-requires
-is-bits-requires c κs = search needs
-
 kind-of-requires : tie.Need-kind-of-requires
 kind-of-requires c κs =
     let start = c .before .before .before .before in
@@ -59,9 +56,6 @@ set-bools-requires c κs =
     bools-asked (sizeOf (start .args .a) * start .args .count) (start .pre .0 .0) (start .pre .0 .1)
     (accepted-as (bools first) (start .pre .1))
 
-same-length : tie.Need-same-length
-same-length c = search needs
-
 returns : tie.Need-returns
 returns c =
     let set = c .before .before in
@@ -75,9 +69,6 @@ set-numbers-requires c κs =
     let start = other .before .before .before .before .before .before in
     (start .pre .0, accepted-as (wholes other) (start .pre .1))
 
-same-length-2 : tie.Need-same-length-2
-same-length-2 c = search needs
-
 returns-2 : tie.Need-returns-2
 returns-2 c = let set = c .before .before in applied-as (wholes (set .before .before)) (set .set-numbers .ensures)
 
@@ -87,9 +78,6 @@ set-numbers-requires-2 c κs =
     let start = other .before .before .before .before in
     (start .pre .0, accepted-as (numbers other) (start .pre .1))
 
-same-length-3 : tie.Need-same-length-3
-same-length-3 c = search needs
-
 returns-3 : tie.Need-returns-3
 returns-3 c = let set = c .before .before in applied-as (numbers (set .before .before)) (set .set-numbers2 .ensures)
 
@@ -97,14 +85,14 @@ pub set-run-spec : {M : Type 1} → statement M
 set-run-spec =
     tie.close
     (tie.spec
-    is-bits-requires
+    (λ c κs. search needs)
     kind-of-requires
     set-bools-requires
-    same-length
+    (λ c. search needs)
     returns
     set-numbers-requires
-    same-length-2
+    (λ c. search needs)
     returns-2
     set-numbers-requires-2
-    same-length-3
+    (λ c. search needs)
     returns-3)

@@ -74,40 +74,10 @@ returns c =
 payload-of-requires : tie.Need-payload-of-requires
 payload-of-requires c κs = (start-of c .pre .0 .0, there (start-of c) .inside)
 
-high-requires : tie.Need-high-requires
-high-requires c κs = search needs
-
-wide-requires : tie.Need-wide-requires
-wide-requires c κs = search needs
-
 load32-requires : tie.Need-load32-requires
 load32-requires c κs =
     let at-start = start-of (else-long c) in
     omega (arith, entries-inside (at-start .args .s .now) (at-start .pre .0 .0))
-
-wide-requires-2 : tie.Need-wide-requires-2
-wide-requires-2 c κs = search needs
-
-mul-start : tie.Need-mul-start
-mul-start c = search needs
-
-add-start : tie.Need-add-start
-add-start c = search needs
-
-low-requires : tie.Need-low-requires
-low-requires c κs = search needs
-
-wide-requires-3 : tie.Need-wide-requires-3
-wide-requires-3 c κs = search needs
-
-add-start-2 : tie.Need-add-start-2
-add-start-2 c = search needs
-
-add-end : tie.Need-add-end
-add-end c = search needs
-
-high-requires-2 : tie.Need-high-requires-2
-high-requires-2 c κs = search needs
 
 store32-requires : tie.Need-store32-requires
 store32-requires c κs = omega (arith, start-of (else-start (c .before .before)) .pre .0 .1)
@@ -119,12 +89,6 @@ add-copy : tie.Need-add-copy
 add-copy c =
     let at-start = start-of (else-start (wide3-at c)) in
     omega (arith, at-start .pre .0 .1, at-start .good)
-
-sub-copy : tie.Need-sub-copy
-sub-copy c = search needs
-
-part-copy-start : tie.Need-part-copy-start
-part-copy-start c = search needs
 
 part-copy-end : tie.Need-part-copy-end
 part-copy-end c =
@@ -162,9 +126,6 @@ add-clear-2 c =
     let at-start = start-of (else-start at-wide3) in
     omega (arith, at-start .pre .0 .1, at-start .good, w .short, long-is (wide-at at-wide3))
 
-wide-requires-4 : tie.Need-wide-requires-4
-wide-requires-4 c κs = search needs
-
 sub-clear : tie.Need-sub-clear
 sub-clear c =
     let at-wide3 = wide3-at (copy-arg-at (c .before)) in
@@ -191,9 +152,6 @@ add-result-2 c =
     let at-start = start-of (else-start (wide3-at (copy-arg-at (c .before .before .before .before)))) in
     omega (arith, there at-start .inside, few-entries (at-start .args .s .now) (at-start .pre .0 .0))
 
-same-length : tie.Need-same-length
-same-length c = search needs
-
 returns-2 : tie.Need-returns-2
 returns-2 c =
     let at-clear = c .before .before in
@@ -205,7 +163,7 @@ returns-2 c =
     let else1 = else-start at-wide3 in
     let at-start = start-of else1 in
     let a = at-start .args in
-    text-set (there at-start) (a .capacity) (a .base) _ _ _ _ (fits else1) (start-is at-wide3)
+    text-set (there at-start) (a .capacity) (a .base) (fits else1) (start-is at-wide3)
     (long-is (wide-at at-wide3))
     (at-store .before .high2 .ensures
     ∙ ap (λ (x : ℕ). x / 2 ^ 32) (wide-at at-wide3 .before .before .payload-of .ensures))
@@ -220,28 +178,28 @@ set-text-spec =
     add-result
     returns
     payload-of-requires
-    high-requires
-    wide-requires
+    (λ c κs. search needs)
+    (λ c κs. search needs)
     load32-requires
-    wide-requires-2
-    mul-start
-    add-start
-    low-requires
-    wide-requires-3
-    add-start-2
-    add-end
-    high-requires-2
+    (λ c κs. search needs)
+    (λ c. search needs)
+    (λ c. search needs)
+    (λ c κs. search needs)
+    (λ c κs. search needs)
+    (λ c. search needs)
+    (λ c. search needs)
+    (λ c κs. search needs)
     store32-requires
     add-copy
-    sub-copy
-    part-copy-start
+    (λ c. search needs)
+    (λ c. search needs)
     part-copy-end
     copy-requires
     add-clear
     add-clear-2
-    wide-requires-4
+    (λ c κs. search needs)
     sub-clear
     clear-requires
     add-result-2
-    same-length
+    (λ c. search needs)
     returns-2)

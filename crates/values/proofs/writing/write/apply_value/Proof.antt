@@ -5,13 +5,10 @@ use borrow.Author.Needs.{needs}
 use Rattle.words.specs.Bits.{flat}
 use Rattle.values.specs.inside.writing.Passes.{leftAt}
 use Rattle.values.proofs.writing.ApplyLaws.{accepted-as, applied-as}
-use Rattle.values.proofs.writing.SettingLaws.{atomics-fit, atomics-write, value-here, value-write}
-use Rattle.values.proofs.writing.SettingLaws.{values-here, values-write}
+use Rattle.values.proofs.writing.SettingLaws.{atomics-fit, atomics-write, value-here, value-write, values-here}
+use Rattle.values.proofs.writing.SettingLaws.{values-write}
 use Rattle.values.proofs.writing.write.apply_value.Statement.{statement}
 use Rattle.values.proofs.writing.write.apply_value.Tie as tie
-
-enum-known-ty : tie.Need-enum-known-ty
-enum-known-ty c = search needs
 
 set-atomics-requires : tie.Need-set-atomics-requires
 set-atomics-requires c κs =
@@ -23,9 +20,6 @@ set-atomics-requires c κs =
       accepted-as (atomics-write (a .types .now) (a .members .now) (a .n) (leftAt (a .s .now) 0) (flat (a .image .now))
           is) (start .pre .1),
     )
-
-enum-known-ty-2 : tie.Need-enum-known-ty-2
-enum-known-ty-2 c = search needs
 
 apply-struct-requires : tie.Need-apply-struct-requires
 apply-struct-requires c κs =
@@ -39,9 +33,6 @@ apply-struct-requires c κs =
       accepted-as (value-write (a .types .now) (a .members .now) (a .n) (leftAt (a .s .now) 0) (flat (a .image .now)) is
           (then1 .if1 .taken)) (start .pre .1),
     )
-
-same-length : tie.Need-same-length
-same-length c = search needs
 
 returns : tie.Need-returns
 returns c =
@@ -65,9 +56,6 @@ apply-elements-requires c κs =
           is (else1 .if1 .left)) (start .pre .1),
     )
 
-same-length-2 : tie.Need-same-length-2
-same-length-2 c = search needs
-
 returns-2 : tie.Need-returns-2
 returns-2 c =
     let at-elements = c .before .before in
@@ -76,9 +64,6 @@ returns-2 c =
     let a = at-ty .before .before .before .before .args in
     applied-as (values-write (a .types .now) (a .members .now) (a .n) (leftAt (a .s .now) 0) (flat (a .image .now))
     (at-ty .ty2 .given .1) (else1 .if1 .left)) (at-elements .apply-elements .ensures)
-
-same-length-3 : tie.Need-same-length-3
-same-length-3 c = search needs
 
 returns-3 : tie.Need-returns-3
 returns-3 c =
@@ -92,14 +77,14 @@ pub apply-value-spec : {M : Type 1} → statement M
 apply-value-spec =
     tie.close
     (tie.spec
-    enum-known-ty
+    (λ c. search needs)
     set-atomics-requires
-    enum-known-ty-2
+    (λ c. search needs)
     apply-struct-requires
-    same-length
+    (λ c. search needs)
     returns
     apply-elements-requires
-    same-length-2
+    (λ c. search needs)
     returns-2
-    same-length-3
+    (λ c. search needs)
     returns-3)

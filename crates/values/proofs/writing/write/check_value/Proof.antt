@@ -7,18 +7,12 @@ use Rattle.values.proofs.writing.StepLaws.{checked-as}
 use Rattle.values.proofs.writing.write.check_value.Statement.{statement}
 use Rattle.values.proofs.writing.write.check_value.Tie as tie
 
-enum-known-ty : tie.Need-enum-known-ty
-enum-known-ty c = search needs
-
 check-atomics-requires : tie.Need-check-atomics-requires
 check-atomics-requires c κs =
     let at-ty = c .before in
     let start = at-ty .before .before .before in
     let p = start .pre in
     ((p .1, omega arith), atomics-few (start .args .types .now) (start .args .n) (p .0 .1 .1) (at-ty .ty .given .1))
-
-enum-known-ty-2 : tie.Need-enum-known-ty-2
-enum-known-ty-2 c = search needs
 
 check-struct-requires : tie.Need-check-struct-requires
 check-struct-requires c κs =
@@ -62,9 +56,9 @@ pub check-value-spec : {M : Type 1} → statement M
 check-value-spec =
     tie.close
     (tie.spec
-    enum-known-ty
+    (λ c. search needs)
     check-atomics-requires
-    enum-known-ty-2
+    (λ c. search needs)
     check-struct-requires
     returns
     check-elements-requires

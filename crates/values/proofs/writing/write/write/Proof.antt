@@ -44,9 +44,6 @@ fits : (c : tie.Else2)
     (c .before .before .before .before .before .before .before .before .before .args .image .now) ≡ true
 fits c = sym (product (c .before)) ∙ not-false _ (c .if2 .left)
 
-is-there-requires : tie.Need-is-there-requires
-is-there-requires c κs = search needs
-
 returns : tie.Need-returns
 returns c =
     let at-there = c .before in
@@ -54,19 +51,10 @@ returns c =
     no-type (a .types .now) (a .members .now) (a .ty) (a .count) (a .s .now) (a .image .now)
     (sym (at-there .is-there .ensures) ∙ not-true _ (c .if1 .taken))
 
-as-size-requires : tie.Need-as-size-requires
-as-size-requires c κs = search needs
-
 size-of-ty-requires : tie.Need-size-of-ty-requires
 size-of-ty-requires c κs =
     let a = c .before .before .before .before .before .args in
     there-fits (a .types .now) (a .ty) (there (c .before))
-
-times-of-requires : tie.Need-times-of-requires
-times-of-requires c κs = search needs
-
-is-product-requires : tie.Need-is-product-requires
-is-product-requires c κs = search needs
 
 returns-2 : tie.Need-returns-2
 returns-2 c =
@@ -75,9 +63,6 @@ returns-2 c =
     let a = at-else .before .before .before .before .args in
     no-image (a .types .now) (a .members .now) (a .ty) (a .count) (a .s .now) (a .image .now) (there at-else)
     (sym (product at-product) ∙ not-true _ (c .if2 .taken))
-
-stream-ok-requires : tie.Need-stream-ok-requires
-stream-ok-requires c κs = search needs
 
 returns-3 : tie.Need-returns-3
 returns-3 c =
@@ -109,9 +94,6 @@ write-entries-requires c κs =
       ),
     )
 
-same-length : tie.Need-same-length
-same-length c = search needs
-
 returns-4 : tie.Need-returns-4
 returns-4 c =
     let at-entries = c .before .before in
@@ -129,15 +111,15 @@ pub write-spec : {M : Type 1} → statement M
 write-spec =
     tie.close
     (tie.spec
-    is-there-requires
+    (λ c κs. search needs)
     returns
-    as-size-requires
+    (λ c κs. search needs)
     size-of-ty-requires
-    times-of-requires
-    is-product-requires
+    (λ c κs. search needs)
+    (λ c κs. search needs)
     returns-2
-    stream-ok-requires
+    (λ c κs. search needs)
     returns-3
     write-entries-requires
-    same-length
+    (λ c. search needs)
     returns-4)

@@ -18,9 +18,6 @@ load32-requires c κs =
     let start = c .before .before in
     omega (arith, entries-inside (start .args .s .now) (start .pre .1 .1))
 
-wide-requires : tie.Need-wide-requires
-wide-requires c κs = search needs
-
 check-value-requires : tie.Need-check-value-requires
 check-value-requires c κs =
     let known = c .before .before in
@@ -29,9 +26,6 @@ check-value-requires c κs =
       (start .pre .0, (v .fits, omega (arith, v .long, start .good))),
       record { form = start .pre .1 .1; count = counted c },
     )
-
-place-of-requires : tie.Need-place-of-requires
-place-of-requires c κs = search needs
 
 entry-refusal-requires : tie.Need-entry-refusal-requires
 entry-refusal-requires c κs =
@@ -53,9 +47,6 @@ returns c =
     refused-entered (a .types .now) (a .members .now) (a .ty) (a .n) (a .s .now) (a .image .now) (start .pre .1 .1)
     (c .entry-refusal .result) (checked .check-value .ensures) (omega (arith, then1 .if1 .taken)) (why .0)
     (why .1 ∙ place .place-of .ensures)
-
-place-of-requires-2 : tie.Need-place-of-requires-2
-place-of-requires-2 c κs = search needs
 
 returns-2 : tie.Need-returns-2
 returns-2 c =
@@ -83,9 +74,6 @@ apply-value-requires c κs =
           (omega (arith, else2 .if2 .left, counted wide)),
     )
 
-same-length : tie.Need-same-length
-same-length c = search needs
-
 returns-3 : tie.Need-returns-3
 returns-3 c =
     let applied = c .before .before in
@@ -104,13 +92,13 @@ write-entries-spec =
     tie.close
     (tie.spec
     load32-requires
-    wide-requires
+    (λ c κs. search needs)
     check-value-requires
-    place-of-requires
+    (λ c κs. search needs)
     entry-refusal-requires
     returns
-    place-of-requires-2
+    (λ c κs. search needs)
     returns-2
     apply-value-requires
-    same-length
+    (λ c. search needs)
     returns-3)

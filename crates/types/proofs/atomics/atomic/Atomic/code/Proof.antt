@@ -6,12 +6,9 @@ use Rattle.types.specs.declared.atomics.atomic.AtomicRow.{AtomicRow}
 use Rattle.types.proofs.atomics.atomic.Atomic.code.Statement.{statement}
 use Rattle.types.proofs.atomics.atomic.Atomic.code.Tie as tie
 
-row-requires : tie.Need-row-requires
-row-requires c κs = search needs
-
 returns : tie.Need-returns
 unfolding rowOf
 returns c = ap (λ (r : AtomicRow). r .0) (c .row .ensures)
 
 pub code-spec : {M : Type 1} → statement M
-code-spec = tie.close (tie.spec row-requires returns)
+code-spec = tie.close (tie.spec (λ c κs. search needs) returns)

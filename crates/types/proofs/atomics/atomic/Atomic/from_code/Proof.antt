@@ -24,24 +24,9 @@ Inv-loop code rows i₀ i =
 abbrev μ-loop : tie.MeasureT-loop
 μ-loop code rows i₀ i = 15 - i
 
-table-requires : tie.Need-table-requires Inv-loop μ-loop
-table-requires c κs = search needs
-
 loop-holds : tie.Need-loop-holds Inv-loop μ-loop
 unfolding codeGiven
 loop-holds c = (omega arith, (c .table .ensures, sym (first-said _ atomics)))
-
-mul-row : tie.Need-mul-row Inv-loop μ-loop
-mul-row c = search needs
-
-array-copy-out-row : tie.Need-array-copy-out-row Inv-loop μ-loop
-array-copy-out-row c = search needs
-
-cast-own : tie.Need-cast-own Inv-loop μ-loop
-cast-own c = search needs
-
-at-requires : tie.Need-at-requires Inv-loop μ-loop
-at-requires c κs = search needs
 
 returns : tie.Need-returns Inv-loop μ-loop
 unfolding rowOf
@@ -87,12 +72,12 @@ from-code-spec =
     (tie.spec
     Inv-loop
     μ-loop
-    table-requires
+    (λ c κs. search needs)
     loop-holds
-    mul-row
-    array-copy-out-row
-    cast-own
-    at-requires
+    (λ c. search needs)
+    (λ c. search needs)
+    (λ c. search needs)
+    (λ c κs. search needs)
     returns
     add-i
     loop-less

@@ -11,49 +11,32 @@ use Rattle.types.specs.atomics.Atomic.{atomics, atomicAt, firstOf, nameO
 use Rattle.types.specs.book.Names.{sameName}
 use Rattle.types.specs.inside.atomics.Atomic.{tableRows}
 use Rattle.types.specs.declared.atomics.atomic.FoundAtomic.the-variants.{Is}
-use Rattle.types.proofs.atomics.AtomicLaws.{at-is, table-row, row-name, row-long}
-use Rattle.types.proofs.atomics.AtomicLaws.{first-hit, first-miss, first-none, named-said}
+use Rattle.types.proofs.atomics.AtomicLaws.{at-is, table-row, row-name, row-long, first-hit, first-miss}
+use Rattle.types.proofs.atomics.AtomicLaws.{first-none, named-said}
 use Rattle.types.proofs.atomics.atomic.Atomic.from_name.Statement.{statement}
 use Rattle.types.proofs.atomics.atomic.Atomic.from_name.Tie as tie
 
 abbrev Inv-loop : tie.InvT-loop
 Inv-loop name rows i₀ i =
-    (i ≤ 15) × ((rows ≡ tableRows atomics) × (atomicNamed name ≡ firstOf (λ a. sameName (nameOf a) name) (drop i atomics)))
+    (i ≤ 15) × ((rows ≡ tableRows atomics)
+    × (atomicNamed name ≡ firstOf (λ a. sameName (nameOf a) name) (drop i atomics)))
 
 abbrev μ-loop : tie.MeasureT-loop
 μ-loop name rows i₀ i = 15 - i
-
-table-requires : tie.Need-table-requires Inv-loop μ-loop
-table-requires c κs = search needs
 
 loop-holds : tie.Need-loop-holds Inv-loop μ-loop
 unfolding atomicNamed
 loop-holds c = (omega arith, (c .table .ensures, refl))
 
-mul-row : tie.Need-mul-row Inv-loop μ-loop
-mul-row c = search needs
-
-array-copy-out-row : tie.Need-array-copy-out-row Inv-loop μ-loop
-array-copy-out-row c = search needs
-
-cast-long : tie.Need-cast-long Inv-loop μ-loop
-cast-long c = search needs
-
 array-share-prefix-bytes : tie.Need-array-share-prefix-bytes Inv-loop μ-loop
 array-share-prefix-bytes c =
     let l = c .before .before .before .before .loop in
-    row-long (atomicAt (l .i)) _ (table-row _ (l .i) _ (l .inv .1 .0) (omega arith))
+    row-long (atomicAt (l .i)) (table-row _ (l .i) _ (l .inv .1 .0) (omega arith))
 
 slice-aggregate-same-name : tie.Need-slice-aggregate-same-name Inv-loop μ-loop
 slice-aggregate-same-name c =
     let l = c .before .before .before .before .before .loop in
-    sym (length-take-le _ _ (row-long (atomicAt (l .i)) _ (table-row _ (l .i) _ (l .inv .1 .0) (omega arith))))
-
-same-name-requires : tie.Need-same-name-requires Inv-loop μ-loop
-same-name-requires c κs = search needs
-
-at-requires : tie.Need-at-requires Inv-loop μ-loop
-at-requires c κs = search needs
+    sym (length-take-le _ _ (row-long (atomicAt (l .i)) (table-row _ (l .i) _ (l .inv .1 .0) (omega arith))))
 
 returns : tie.Need-returns Inv-loop μ-loop
 returns c =
@@ -64,7 +47,7 @@ returns c =
     let row = table-row _ (l .i) _ (l .inv .1 .0) (omega arith) in
     ap saidBy (ap Is (at-is _ _ (c .at .ensures))
     ∙ first-hit (λ a. sameName (nameOf a) name) (l .i) (omega arith) _
-    (same .same-name .ensures ∙ ap (λ (s : List ℕ). sameName s name) (row-name (atomicAt (l .i)) _ row))
+    (same .same-name .ensures ∙ ap (λ (s : List ℕ). sameName s name) (row-name (atomicAt (l .i)) row))
     (c .before .if1 .taken)
     ∙ sym (l .inv .1 .1)) ∙ named-said name
 
@@ -86,7 +69,7 @@ loop-again c =
       (
         l .inv .1 .0,
         l .inv .1 .1 ∙ first-miss (λ a. sameName (nameOf a) name) (l .i) (omega arith) _
-            (same .same-name .ensures ∙ ap (λ (s : List ℕ). sameName s name) (row-name (atomicAt (l .i)) _ row))
+            (same .same-name .ensures ∙ ap (λ (s : List ℕ). sameName s name) (row-name (atomicAt (l .i)) row))
             (c .if1 .left),
       ),
     )
@@ -102,15 +85,15 @@ from-name-spec =
     (tie.spec
     Inv-loop
     μ-loop
-    table-requires
+    (λ c κs. search needs)
     loop-holds
-    mul-row
-    array-copy-out-row
-    cast-long
+    (λ c. search needs)
+    (λ c. search needs)
+    (λ c. search needs)
     array-share-prefix-bytes
     slice-aggregate-same-name
-    same-name-requires
-    at-requires
+    (λ c κs. search needs)
+    (λ c κs. search needs)
     returns
     add-i
     loop-less

@@ -5,9 +5,6 @@ use Rattle.types.specs.atomics.Atomic.{hasBits}
 use Rattle.types.proofs.atomics.atomic.Atomic.has_bits.Statement.{statement}
 use Rattle.types.proofs.atomics.atomic.Atomic.has_bits.Tie as tie
 
-num-requires : tie.Need-num-requires
-num-requires c κs = search needs
-
 returns : tie.Need-returns
 unfolding hasBits
 returns c = rw (← c .before .num .ensures .is) (simp (eq-eqb _ _ (c .if1 .taken)))
@@ -23,4 +20,4 @@ returns-3 c =
     rw (← c .before .before .num .ensures .is) (simp (ne-eqb _ _ (c .before .if1 .left), ne-eqb _ _ (c .if2 .left)))
 
 pub has-bits-spec : {M : Type 1} → statement M
-has-bits-spec = tie.close (tie.spec num-requires returns returns-2 returns-3)
+has-bits-spec = tie.close (tie.spec (λ c κs. search needs) returns returns-2 returns-3)

@@ -7,18 +7,6 @@ use Rattle.types.proofs.atomics.AtomicLaws.{table-row, at-num}
 use Rattle.types.proofs.atomics.atomic.Atomic.row.Statement.{statement}
 use Rattle.types.proofs.atomics.atomic.Atomic.row.Tie as tie
 
-table-requires : tie.Need-table-requires
-table-requires c κs = search needs
-
-num-requires : tie.Need-num-requires
-num-requires c κs = search needs
-
-mul-result : tie.Need-mul-result
-mul-result c = search needs
-
-array-copy-out-result : tie.Need-array-copy-out-result
-array-copy-out-result c = search needs
-
 returns : tie.Need-returns
 returns c =
     let num = c .before .num in
@@ -27,4 +15,4 @@ returns c =
 
 pub row-spec : {M : Type 1} → statement M
 row-spec =
-    tie.close (tie.spec table-requires num-requires mul-result array-copy-out-result returns)
+    tie.close (tie.spec (λ c κs. search needs) (λ c κs. search needs) (λ c. search needs) (λ c. search needs) returns)

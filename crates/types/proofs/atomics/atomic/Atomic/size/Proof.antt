@@ -6,12 +6,9 @@ use Rattle.types.specs.declared.atomics.atomic.AtomicRow.{AtomicRow}
 use Rattle.types.proofs.atomics.atomic.Atomic.size.Statement.{statement}
 use Rattle.types.proofs.atomics.atomic.Atomic.size.Tie as tie
 
-row-requires : tie.Need-row-requires
-row-requires c κs = search needs
-
 returns : tie.Need-returns
 unfolding rowOf
 returns c = ap (λ (r : AtomicRow). r .1) (c .row .ensures)
 
 pub size-spec : {M : Type 1} → statement M
-size-spec = tie.close (tie.spec row-requires returns)
+size-spec = tie.close (tie.spec (λ c κs. search needs) returns)

@@ -5,15 +5,18 @@ use mathlib.Core.Path.{_∙_}
 use Prim.Native.Nat.{ℕ, _-_}
 use denote.Ref.{now}
 use Rattle.values.proofs.reading.walk.ReadLaws.{Elements, elements-room, elements-start, elements-end}
-use Rattle.values.proofs.reading.walk.ReadLaws.{element-inside}
-use Rattle.values.proofs.reading.walk.ReadLaws.{element-asks, element-on}
+use Rattle.values.proofs.reading.walk.ReadLaws.{element-inside, element-asks, element-on}
 use Rattle.values.proofs.stream.LayingLaws.{room-one, run-last, run-long}
 use Rattle.values.proofs.reading.walk.read_elements.Reads as elements
-use Rattle.values.proofs.reading.walk.+read_elements+read_members+read_nested+read_struct.Lts-read_elements as lts
+use
+    Rattle.values.proofs.reading.walk.+read_elements+read_members+read_nested+read_struct.Lts-read_elements
+    as lts
 use Rattle.values.proofs.reading.walk.read_struct.Reads as struct
 use Rattle.values.proofs.stream.entry.put_entry.Reads as put-entry-reads
 use Rattle.values.proofs.reading.rows.struct_size.Reads as struct-size-reads
-use Rattle.values.proofs.reading.walk.+read_elements+read_members+read_nested+read_struct.Proof.Measures as measures
+use
+    Rattle.values.proofs.reading.walk.+read_elements+read_members+read_nested+read_struct.Proof.Measures
+    as measures
 
 abbrev elements-claims : ℕ → lts.Claims
 elements-claims t = (

@@ -5,18 +5,22 @@ use native.Mathlib.Omega.{arith}
 use mathlib.Core.Path.{_∙_}
 use Prim.Native.Nat.{ℕ, _-_}
 use denote.Ref.{now}
-use Rattle.values.proofs.reading.walk.ReadLaws.{members-room, Rows}
-use Rattle.values.proofs.reading.walk.ReadLaws.{rows-start, rows-end, nested-asks, nested-on, leaf-asks, leaf-on}
+use Rattle.values.proofs.reading.walk.ReadLaws.{members-room, Rows, rows-start, rows-end, nested-asks, nested-on}
+use Rattle.values.proofs.reading.walk.ReadLaws.{leaf-asks, leaf-on}
 use Rattle.values.proofs.stream.LayingLaws.{room-one, run-last, run-long}
 use Rattle.values.proofs.reading.walk.read_members.Reads as members
-use Rattle.values.proofs.reading.walk.+read_elements+read_members+read_nested+read_struct.Lts-read_members as members-lts
+use
+    Rattle.values.proofs.reading.walk.+read_elements+read_members+read_nested+read_struct.Lts-read_members
+    as members-lts
 use Rattle.values.proofs.reading.walk.read_nested.Reads as nested
 use Rattle.types.proofs.type_row.Reads as type-row-reads
 use Rattle.values.proofs.stream.entry.put_entry.Reads as put-entry-reads
 use Rattle.values.proofs.reading.rows.is_nested.Reads as is-nested-reads
 use Rattle.values.proofs.reading.walk.read_leaf.Reads as read-leaf-reads
 use Rattle.words.proofs.wide.Reads as wide-reads
-use Rattle.values.proofs.reading.walk.+read_elements+read_members+read_nested+read_struct.Proof.Measures as measures
+use
+    Rattle.values.proofs.reading.walk.+read_elements+read_members+read_nested+read_struct.Proof.Measures
+    as measures
 
 abbrev members-claims : ℕ → members-lts.Claims
 members-claims t = (

@@ -5,17 +5,21 @@ use native.Mathlib.Omega.{arith}
 use Prim.Native.Nat.{ℕ}
 use denote.Ref.{now}
 use Rattle.values.proofs.reading.PartLaws.{held-earlier, one-fits, some-fits}
-use Rattle.values.proofs.reading.walk.ReadLaws.{nested-not, nested-low, held-row, nested-room, Nesting}
-use Rattle.values.proofs.reading.walk.ReadLaws.{one-asks, one-wrote, some-asks, some-wrote}
+use Rattle.values.proofs.reading.walk.ReadLaws.{nested-not, nested-low, held-row, nested-room, Nesting, one-asks}
+use Rattle.values.proofs.reading.walk.ReadLaws.{one-wrote, some-asks, some-wrote}
 use Rattle.values.proofs.reading.walk.read_elements.Reads as elements
 use Rattle.values.proofs.reading.walk.read_nested.Reads as nested
-use Rattle.values.proofs.reading.walk.+read_elements+read_members+read_nested+read_struct.Lts-read_nested as nested-lts
+use
+    Rattle.values.proofs.reading.walk.+read_elements+read_members+read_nested+read_struct.Lts-read_nested
+    as nested-lts
 use Rattle.values.proofs.reading.walk.read_struct.Reads as struct
 use Rattle.types.proofs.member_row.Reads as member-row-reads
 use Rattle.values.proofs.stream.entry.put_entry.Reads as put-entry-reads
 use Rattle.values.proofs.reading.rows.struct_size.Reads as struct-size-reads
 use Rattle.words.proofs.wide.Reads as wide-reads
-use Rattle.values.proofs.reading.walk.+read_elements+read_members+read_nested+read_struct.Proof.Measures as measures
+use
+    Rattle.values.proofs.reading.walk.+read_elements+read_members+read_nested+read_struct.Proof.Measures
+    as measures
 
 abbrev nested-claims : ℕ → nested-lts.Claims
 nested-claims t = (

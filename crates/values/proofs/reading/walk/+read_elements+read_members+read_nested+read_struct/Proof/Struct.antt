@@ -7,13 +7,17 @@ use Rattle.values.proofs.reading.walk.ReadLaws.{members-are, string-row
 use Rattle.values.proofs.stream.LayingLaws.{room-as, wrote-as}
 use Rattle.values.proofs.reading.walk.read_members.Reads as members
 use Rattle.values.proofs.reading.walk.read_struct.Reads as struct
-use Rattle.values.proofs.reading.walk.+read_elements+read_members+read_nested+read_struct.Lts-read_struct as struct-lts
+use
+    Rattle.values.proofs.reading.walk.+read_elements+read_members+read_nested+read_struct.Lts-read_struct
+    as struct-lts
 use Rattle.types.proofs.type_row.Reads as type-row-reads
 use Rattle.values.proofs.reading.rows.capacity_at.Reads as capacity-at-reads
 use Rattle.values.proofs.reading.rows.is_string.Reads as is-string-reads
 use Rattle.values.proofs.reading.texts.put_text.Reads as put-text-reads
 use Rattle.words.proofs.wide.Reads as wide-reads
-use Rattle.values.proofs.reading.walk.+read_elements+read_members+read_nested+read_struct.Proof.Measures as measures
+use
+    Rattle.values.proofs.reading.walk.+read_elements+read_members+read_nested+read_struct.Proof.Measures
+    as measures
 
 abbrev struct-claims : ℕ → struct-lts.Claims
 struct-claims t = (

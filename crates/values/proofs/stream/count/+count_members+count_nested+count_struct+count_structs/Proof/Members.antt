@@ -16,10 +16,14 @@ use Rattle.words.proofs.wide.Reads as wide-reads
 use Rattle.values.proofs.stream.count.leaf_entries.Reads as leaf-entries-reads
 use Rattle.values.proofs.reading.rows.is_nested.Reads as is-nested-reads
 use Rattle.values.proofs.stream.count.count_members.Reads as reads
-use Rattle.values.proofs.stream.count.+count_members+count_nested+count_struct+count_structs.Lts-count_members as lts
+use
+    Rattle.values.proofs.stream.count.+count_members+count_nested+count_struct+count_structs.Lts-count_members
+    as lts
 use Rattle.values.proofs.stream.count.count_members.Kinds as kinds
 use Rattle.values.proofs.stream.count.count_nested.Reads as nested-reads
-use Rattle.values.proofs.stream.count.+count_members+count_nested+count_struct+count_structs.Proof.Measures as measures
+use
+    Rattle.values.proofs.stream.count.+count_members+count_nested+count_struct+count_structs.Proof.Measures
+    as measures
 
 abbrev claims : ℕ → lts.Claims
 claims t = (

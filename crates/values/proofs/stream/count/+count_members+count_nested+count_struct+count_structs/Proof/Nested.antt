@@ -14,10 +14,14 @@ use Rattle.values.proofs.stream.count.CountRows.{nested-counted}
 use Rattle.types.proofs.member_row.Reads as member-row-reads
 use Rattle.words.proofs.wide.Reads as wide-reads
 use Rattle.values.proofs.stream.count.count_nested.Reads as reads
-use Rattle.values.proofs.stream.count.+count_members+count_nested+count_struct+count_structs.Lts-count_nested as lts
+use
+    Rattle.values.proofs.stream.count.+count_members+count_nested+count_struct+count_structs.Lts-count_nested
+    as lts
 use Rattle.values.proofs.stream.count.count_nested.Kinds as kinds
 use Rattle.values.proofs.stream.count.count_structs.Reads as structs-reads
-use Rattle.values.proofs.stream.count.+count_members+count_nested+count_struct+count_structs.Proof.Measures as measures
+use
+    Rattle.values.proofs.stream.count.+count_members+count_nested+count_struct+count_structs.Proof.Measures
+    as measures
 
 abbrev claims : ℕ → lts.Claims
 claims t = (

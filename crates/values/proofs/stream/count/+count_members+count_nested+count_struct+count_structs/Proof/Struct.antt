@@ -13,10 +13,14 @@ use Rattle.values.proofs.stream.CountLaws.{text-counted, members-counte
 use Rattle.types.proofs.type_row.Reads as type-row-reads
 use Rattle.values.proofs.reading.rows.is_string.Reads as is-string-reads
 use Rattle.values.proofs.stream.count.count_struct.Reads as reads
-use Rattle.values.proofs.stream.count.+count_members+count_nested+count_struct+count_structs.Lts-count_struct as lts
+use
+    Rattle.values.proofs.stream.count.+count_members+count_nested+count_struct+count_structs.Lts-count_struct
+    as lts
 use Rattle.values.proofs.stream.count.count_struct.Kinds as kinds
 use Rattle.values.proofs.stream.count.count_members.Reads as members-reads
-use Rattle.values.proofs.stream.count.+count_members+count_nested+count_struct+count_structs.Proof.Measures as measures
+use
+    Rattle.values.proofs.stream.count.+count_members+count_nested+count_struct+count_structs.Proof.Measures
+    as measures
 
 abbrev claims : ℕ → lts.Claims
 claims t = (

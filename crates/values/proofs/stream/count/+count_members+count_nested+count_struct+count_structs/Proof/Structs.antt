@@ -6,10 +6,14 @@ use borrow.Fn.Kinds.{In, Out}
 use denote.Ref.{now}
 use Rattle.values.proofs.stream.CountLaws.{product-fits, structs-one, structs-many, structs-large, structs-all}
 use Rattle.values.proofs.stream.count.count_structs.Reads as reads
-use Rattle.values.proofs.stream.count.+count_members+count_nested+count_struct+count_structs.Lts-count_structs as lts
+use
+    Rattle.values.proofs.stream.count.+count_members+count_nested+count_struct+count_structs.Lts-count_structs
+    as lts
 use Rattle.values.proofs.stream.count.count_structs.Kinds as kinds
 use Rattle.values.proofs.stream.count.count_struct.Reads as struct-reads
-use Rattle.values.proofs.stream.count.+count_members+count_nested+count_struct+count_structs.Proof.Measures as measures
+use
+    Rattle.values.proofs.stream.count.+count_members+count_nested+count_struct+count_structs.Proof.Measures
+    as measures
 
 abbrev claims : ℕ → lts.Claims
 claims t = (

@@ -9,11 +9,15 @@ use Rattle.values.specs.inside.reading.Walk.{elementBy, elementsBy, stru
 use Rattle.values.proofs.reading.PartLaws.{element-fits, element-image, element-is}
 use Rattle.values.proofs.stream.TextCountLaws.{texts-as, Summed, sum-start, sum-on, sum-past, sum-done}
 use Rattle.values.proofs.stream.lengths.text_elements.Reads as reads
-use Rattle.values.proofs.stream.lengths.+text_elements+text_members+text_nested+text_struct.Lts-text_elements as lts
+use
+    Rattle.values.proofs.stream.lengths.+text_elements+text_members+text_nested+text_struct.Lts-text_elements
+    as lts
 use Rattle.values.proofs.stream.lengths.text_elements.Kinds as kinds
 use Rattle.values.proofs.reading.rows.struct_size.Reads as struct-size-reads
 use Rattle.values.proofs.stream.lengths.text_struct.Reads as struct-reads
-use Rattle.values.proofs.stream.lengths.+text_elements+text_members+text_nested+text_struct.Proof.Measures as measures
+use
+    Rattle.values.proofs.stream.lengths.+text_elements+text_members+text_nested+text_struct.Proof.Measures
+    as measures
 
 abbrev claims : ℕ → lts.Claims
 claims t = (struct-size-reads.Asked, struct-size-reads.Learnt, measures.struct-below t, struct-reads.Post)

@@ -11,13 +11,17 @@ use Rattle.values.specs.inside.reading.Walkable.{RowOf}
 use Rattle.values.proofs.reading.MemberLaws.{row-of, nested-row}
 use Rattle.values.proofs.stream.TextCountLaws.{Rows, rows-start, rows-past, rows-done, rows-on, rows-plain}
 use Rattle.values.proofs.stream.lengths.text_members.Reads as reads
-use Rattle.values.proofs.stream.lengths.+text_elements+text_members+text_nested+text_struct.Lts-text_members as lts
+use
+    Rattle.values.proofs.stream.lengths.+text_elements+text_members+text_nested+text_struct.Lts-text_members
+    as lts
 use Rattle.values.proofs.stream.lengths.text_members.Kinds as kinds
 use Rattle.values.proofs.reading.rows.is_nested.Reads as is-nested-reads
 use Rattle.types.proofs.type_row.Reads as type-row-reads
 use Rattle.words.proofs.wide.Reads as wide-reads
 use Rattle.values.proofs.stream.lengths.text_nested.Reads as nested-reads
-use Rattle.values.proofs.stream.lengths.+text_elements+text_members+text_nested+text_struct.Proof.Measures as measures
+use
+    Rattle.values.proofs.stream.lengths.+text_elements+text_members+text_nested+text_struct.Proof.Measures
+    as measures
 
 abbrev claims : ℕ → lts.Claims
 claims t = (

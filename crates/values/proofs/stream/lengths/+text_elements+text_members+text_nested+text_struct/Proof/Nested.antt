@@ -11,18 +11,22 @@ use Rattle.types.specs.tables.Sizes.{sizesIn}
 use Rattle.types.specs.declared.tables.member.Member.{Member}
 use Rattle.values.specs.inside.reading.Walk.{structOut}
 use Rattle.values.proofs.reading.MemberLaws.{never-atomic}
-use Rattle.values.proofs.reading.PartLaws.{Held, held-earlier, one-fits, one-image, one-is}
-use Rattle.values.proofs.reading.PartLaws.{some-fits, some-images, some-is}
+use Rattle.values.proofs.reading.PartLaws.{Held, held-earlier, one-fits, one-image, one-is, some-fits}
+use Rattle.values.proofs.reading.PartLaws.{some-images, some-is}
 use Rattle.values.proofs.stream.TextCountLaws.{texts-as, texts-member}
 use Rattle.values.proofs.stream.lengths.text_nested.Reads as reads
-use Rattle.values.proofs.stream.lengths.+text_elements+text_members+text_nested+text_struct.Lts-text_nested as lts
+use
+    Rattle.values.proofs.stream.lengths.+text_elements+text_members+text_nested+text_struct.Lts-text_nested
+    as lts
 use Rattle.values.proofs.stream.lengths.text_nested.Kinds as kinds
 use Rattle.types.proofs.member_row.Reads as member-row-reads
 use Rattle.values.proofs.reading.rows.struct_size.Reads as struct-size-reads
 use Rattle.words.proofs.wide.Reads as wide-reads
 use Rattle.values.proofs.stream.lengths.text_elements.Reads as elements-reads
 use Rattle.values.proofs.stream.lengths.text_struct.Reads as struct-reads
-use Rattle.values.proofs.stream.lengths.+text_elements+text_members+text_nested+text_struct.Proof.Measures as measures
+use
+    Rattle.values.proofs.stream.lengths.+text_elements+text_members+text_nested+text_struct.Proof.Measures
+    as measures
 
 abbrev claims : ℕ → lts.Claims
 claims t = (

@@ -10,7 +10,9 @@ use Rattle.types.specs.declared.tables.member.StructDef.{StructDef}
 use Rattle.values.specs.reading.Trees.{isString}
 use Rattle.values.proofs.stream.TextCountLaws.{members-texts, StringAt, string-row, string-fits, string-texts}
 use Rattle.values.proofs.stream.lengths.text_struct.Reads as reads
-use Rattle.values.proofs.stream.lengths.+text_elements+text_members+text_nested+text_struct.Lts-text_struct as lts
+use
+    Rattle.values.proofs.stream.lengths.+text_elements+text_members+text_nested+text_struct.Lts-text_struct
+    as lts
 use Rattle.values.proofs.stream.lengths.text_struct.Kinds as kinds
 use Rattle.values.proofs.reading.rows.capacity_at.Reads as capacity-at-reads
 use Rattle.values.proofs.reading.rows.is_string.Reads as is-string-reads
@@ -18,7 +20,9 @@ use Rattle.values.proofs.reading.texts.text_length.Reads as text-length
 use Rattle.types.proofs.type_row.Reads as type-row-reads
 use Rattle.words.proofs.wide.Reads as wide-reads
 use Rattle.values.proofs.stream.lengths.text_members.Reads as members-reads
-use Rattle.values.proofs.stream.lengths.+text_elements+text_members+text_nested+text_struct.Proof.Measures as measures
+use
+    Rattle.values.proofs.stream.lengths.+text_elements+text_members+text_nested+text_struct.Proof.Measures
+    as measures
 
 abbrev claims : ℕ → lts.Claims
 claims t = (

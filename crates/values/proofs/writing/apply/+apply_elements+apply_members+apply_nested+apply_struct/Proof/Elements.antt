@@ -6,18 +6,20 @@ use borrow.Fn.Kinds.{In, Out}
 use denote.Ref.{now}
 use mathlib.Core.Path.{sym, _∙_}
 use Rattle.values.proofs.writing.apply.SettingElements.{ElementsAsked, Elements, Element, array-there}
-use Rattle.values.proofs.writing.apply.SettingElements.{array-null}
-use Rattle.values.proofs.writing.apply.SettingElements.{elements-start, element-there, elements-close}
-use Rattle.values.proofs.writing.apply.SettingElements.{elements-done}
-use Rattle.values.proofs.writing.apply.SettingElements.{element-inside, element}
+use Rattle.values.proofs.writing.apply.SettingElements.{array-null, elements-start, element-there}
+use Rattle.values.proofs.writing.apply.SettingElements.{elements-close, elements-done, element-inside, element}
 use Rattle.values.proofs.writing.apply.SettingMembers.{next-small}
 use Rattle.values.proofs.reading.rows.struct_size.Reads as struct-size-reads
 use Rattle.values.proofs.stream.tokens.kind_of.Reads as kind-of-reads
 use Rattle.values.proofs.writing.apply.apply_elements.Reads as reads
-use Rattle.values.proofs.writing.apply.+apply_elements+apply_members+apply_nested+apply_struct.Lts-apply_elements as lts
+use
+    Rattle.values.proofs.writing.apply.+apply_elements+apply_members+apply_nested+apply_struct.Lts-apply_elements
+    as lts
 use Rattle.values.proofs.writing.apply.apply_elements.Kinds as kinds
 use Rattle.values.proofs.writing.apply.apply_struct.Reads as struct-reads
-use Rattle.values.proofs.writing.apply.+apply_elements+apply_members+apply_nested+apply_struct.Proof.Measures as measures
+use
+    Rattle.values.proofs.writing.apply.+apply_elements+apply_members+apply_nested+apply_struct.Proof.Measures
+    as measures
 
 abbrev claims : ℕ → lts.Claims
 claims t = (

@@ -10,10 +10,9 @@ use Rattle.types.specs.tables.Sizes.{sizesIn}
 use Rattle.values.specs.inside.writing.Rows.{treeIn}
 use Rattle.values.specs.stream.Form.{countIn}
 use Rattle.values.proofs.writing.apply.SettingMembers.{MembersAsked, Members, Named, members-start, named}
-use Rattle.values.proofs.writing.apply.SettingMembers.{next-small}
-use Rattle.values.proofs.writing.apply.SettingMembers.{struct-there, struct-null, member-there, members-here}
-use Rattle.values.proofs.writing.apply.SettingMembers.{members-end}
-use Rattle.values.proofs.writing.apply.SettingMembers.{named-nested, named-leaf, named-here}
+use Rattle.values.proofs.writing.apply.SettingMembers.{next-small, struct-there, struct-null, member-there}
+use Rattle.values.proofs.writing.apply.SettingMembers.{members-here, members-end, named-nested, named-leaf}
+use Rattle.values.proofs.writing.apply.SettingMembers.{named-here}
 use Rattle.types.proofs.type_row.Reads as type-row-reads
 use Rattle.words.proofs.wide.Reads as wide-reads
 use Rattle.values.proofs.reading.rows.is_nested.Reads as is-nested-reads
@@ -22,10 +21,14 @@ use Rattle.values.proofs.stream.tokens.as_size.Reads as as-size-reads
 use Rattle.values.proofs.stream.tokens.kind_of.Reads as kind-of-reads
 use Rattle.values.proofs.stream.tokens.payload_of.Reads as payload-of-reads
 use Rattle.values.proofs.writing.apply.apply_members.Reads as reads
-use Rattle.values.proofs.writing.apply.+apply_elements+apply_members+apply_nested+apply_struct.Lts-apply_members as lts
+use
+    Rattle.values.proofs.writing.apply.+apply_elements+apply_members+apply_nested+apply_struct.Lts-apply_members
+    as lts
 use Rattle.values.proofs.writing.apply.apply_members.Kinds as kinds
 use Rattle.values.proofs.writing.apply.apply_nested.Reads as nested-reads
-use Rattle.values.proofs.writing.apply.+apply_elements+apply_members+apply_nested+apply_struct.Proof.Measures as measures
+use
+    Rattle.values.proofs.writing.apply.+apply_elements+apply_members+apply_nested+apply_struct.Proof.Measures
+    as measures
 
 abbrev claims : ℕ → lts.Claims
 claims t = (

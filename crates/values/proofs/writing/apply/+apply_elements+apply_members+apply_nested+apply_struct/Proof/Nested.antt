@@ -8,16 +8,20 @@ use denote.Ref.{now}
 use Rattle.words.specs.Bits.{flat}
 use Rattle.values.specs.inside.writing.Passes.{leftAt}
 use Rattle.values.proofs.writing.ApplyLaws.{accepted-as, applied-as}
-use Rattle.values.proofs.writing.SettingLaws.{Holds, holds, not-atomic, start-fits, held-below}
-use Rattle.values.proofs.writing.SettingLaws.{one-here, one-write, all-here, all-write}
+use Rattle.values.proofs.writing.SettingLaws.{Holds, holds, not-atomic, start-fits, held-below, one-here}
+use Rattle.values.proofs.writing.SettingLaws.{one-write, all-here, all-write}
 use Rattle.types.proofs.member_row.Reads as member-row-reads
 use Rattle.words.proofs.wide.Reads as wide-reads
 use Rattle.values.proofs.writing.apply.apply_nested.Reads as reads
-use Rattle.values.proofs.writing.apply.+apply_elements+apply_members+apply_nested+apply_struct.Lts-apply_nested as lts
+use
+    Rattle.values.proofs.writing.apply.+apply_elements+apply_members+apply_nested+apply_struct.Lts-apply_nested
+    as lts
 use Rattle.values.proofs.writing.apply.apply_nested.Kinds as kinds
 use Rattle.values.proofs.writing.apply.apply_elements.Reads as elements-reads
 use Rattle.values.proofs.writing.apply.apply_struct.Reads as struct-reads
-use Rattle.values.proofs.writing.apply.+apply_elements+apply_members+apply_nested+apply_struct.Proof.Measures as measures
+use
+    Rattle.values.proofs.writing.apply.+apply_elements+apply_members+apply_nested+apply_struct.Proof.Measures
+    as measures
 
 abbrev claims : ℕ → lts.Claims
 claims t = (

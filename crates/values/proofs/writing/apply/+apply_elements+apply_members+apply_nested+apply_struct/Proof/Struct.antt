@@ -21,10 +21,14 @@ use Rattle.values.proofs.reading.rows.capacity_at.Reads as capacity-at-
 use Rattle.values.proofs.reading.rows.is_string.Reads as is-string-reads
 use Rattle.values.proofs.writing.sets.set_text.Reads as set-text-reads
 use Rattle.values.proofs.writing.apply.apply_struct.Reads as reads
-use Rattle.values.proofs.writing.apply.+apply_elements+apply_members+apply_nested+apply_struct.Lts-apply_struct as lts
+use
+    Rattle.values.proofs.writing.apply.+apply_elements+apply_members+apply_nested+apply_struct.Lts-apply_struct
+    as lts
 use Rattle.values.proofs.writing.apply.apply_struct.Kinds as kinds
 use Rattle.values.proofs.writing.apply.apply_members.Reads as members-reads
-use Rattle.values.proofs.writing.apply.+apply_elements+apply_members+apply_nested+apply_struct.Proof.Measures as measures
+use
+    Rattle.values.proofs.writing.apply.+apply_elements+apply_members+apply_nested+apply_struct.Proof.Measures
+    as measures
 
 abbrev claims : ℕ → lts.Claims
 claims t = (
