@@ -62,8 +62,8 @@ pub use templates::template::template_len;
 pub use templates::waste::Wasted;
 pub use templates::waste::waste;
 
-// For the crates above, which have a row's bound at hand and ask at every leaf: the row readers without their test, and
-// an atomic's size without its table.
+// For the crates above, which have a row's bound at hand and ask at every leaf: the row readers without their test,
+// an atomic's size without its table, and how many members the tables hold.
 pub use atomics::atomic::is_bits;
 pub use atomics::atomic::size_of;
 pub use tables::lent::MEMBERS;

@@ -12,7 +12,7 @@ use lib.Seq.{sets, length-sets}
 use Rattle.words.proofs.Lists.{sets-append, getD-beside}
 use Rattle.types.specs.adding.Add.{yes}
 use Rattle.types.specs.inside.adding.Add.{added, Took}
-use Rattle.types.specs.inside.tables.Registry.{usedMore, Stands}
+use Rattle.types.specs.inside.tables.Registry.{usedBy, usedMore, Stands}
 use Rattle.types.specs.layout.Structs.{rowsOf}
 use Rattle.types.specs.tables.Defs.{Def}
 use Rattle.types.specs.tables.Lent.{typeRow}

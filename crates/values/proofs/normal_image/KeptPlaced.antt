@@ -5,7 +5,7 @@ use native.Mathlib.Omega.{arith}
 use mathlib.Core.Path.{_≡_, refl}
 use mathlib.Core.Bool.{Bool, true, false, cond}
 use mathlib.Core.List.{List, [], _∷_}
-use mathlib.Core.Logic.{inl, inr, ⊎-elim}
+use mathlib.Core.Logic.{_⊎_, inl, inr, ⊎-elim}
 use Rattle.types.specs.layout.Laid.{Earlier, firstBit, Laid, Clear as ClearOf}
 use Rattle.types.specs.tables.Defs.{partAt, partsAt}
 use Rattle.types.specs.tables.Kept.{Kept}

@@ -1,6 +1,6 @@
 -- The check step by step (document 01, "Writing"): how an answer at one entry is an answer at an earlier one, and what
 -- the steps of writing answer where an entry is missing, refused, or taken.
-use Prim.Native.Nat.{ℕ, suc, _+_, _*_, _/_, _%_, _^_, _<_, _≤_}
+use Prim.Native.Nat.{ℕ, suc, _+_, _-_, _*_, _/_, _%_, _^_, _<_, _≤_}
 use native.Mathlib.Decide.{decLt}
 use native.Mathlib.Omega.{arith}
 use mathlib.Core.Path.{_≡_, refl, sym, ap, _∙_}

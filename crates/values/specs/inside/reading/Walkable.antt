@@ -1,7 +1,7 @@
 -- What the walk counts on in the tables (document 01, "Layout"): a structure's rows are in the table, each of its
 -- members names an earlier type and lies inside it, and a string is LEN and DATA. Tables as our own calls left them are
 -- so.
-use Prim.Native.Nat.{ℕ, _+_, _*_, _/_, _<_, _≤_}
+use Prim.Native.Nat.{ℕ, _+_, _*_, _/_, _^_, _<_, _≤_}
 use mathlib.Core.Bool.{true}
 use mathlib.Core.List.{List}
 use mathlib.Core.Path.{_≡_}
