@@ -142,7 +142,7 @@ module _ (ids : List ℕ) (id : ℕ) where
     unfolding idFor
     pick-given q = simp (le-leb _ _ l, le-leb _ _ h, sym e ∙ q)
 
-module _ (t : List ℕ) (n id r : ℕ) (w : Lowest t n r) where
+module _ (t : List ℕ) (n id : ℕ) {r : ℕ} (w : Lowest t n r) where
   -- where no id is given, the lowest id that no row holds is picked
   pub pick-lowest : r < 0xF00 → Free r ≡ idFor (listFrom (idWord t) 0 n) false id
   unfolding idFor lowestFree

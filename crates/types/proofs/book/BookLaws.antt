@@ -54,7 +54,7 @@ module _ {A : Type 0} (f : ℕ → A) (n i : ℕ) where
 
 -- ---- places
 
-module _ (start end : ℕ) (s : Span) (at long : ℕ) (p : at ≡ s .at) (q : long ≡ s .long) where
+module _ (start end : ℕ) (s : Span) {at long : ℕ} (p : at ≡ s .at) (q : long ≡ s .long) where
   -- a place that begins before the bodies is not in them
   pub before-bodies : at < start → false ≡ inBodies start end s
   unfolding inBodies

@@ -153,7 +153,7 @@ unfolding nameByte
 byte-within x h k = simp (le-leb 0x21 x h, le-leb x 0x7E k)
 
 -- one byte of what is left of a name
-module _ (s : List ℕ) (i : ℕ) (l : i < length s) (b : Bool) (e : b ≡ nameByte (getD s i 0)) where
+module _ (s : List ℕ) (i : ℕ) (l : i < length s) {b : Bool} (e : b ≡ nameByte (getD s i 0)) where
   -- where the i-th byte is allowed, what is left is allowed where the bytes after it are
   pub bytes-on : b ≡ true → nameBytes (drop i s) ≡ nameBytes (drop (i + 1) s)
   unfolding nameBytes

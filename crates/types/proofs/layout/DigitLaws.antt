@@ -103,7 +103,7 @@ module _ (x : ℕ) where
 
 -- ---- host names
 
-module _ (name : List ℕ) (k n : ℕ) (d : Digits) (s : Spelled k d) (e : n ≡ min 10 (length name)) where
+module _ (name : List ℕ) (k n : ℕ) {d : Digits} (s : Spelled k d) (e : n ≡ min 10 (length name)) where
   spelled-long : length (digits k) ≡ d .long
   spelled-long = ap length (sym (s .is)) ∙ length-take-le (d .long) (d .bytes) (s .room)
 
@@ -156,7 +156,7 @@ module _ (x : ℕ) where
   unfolding bitHostName
   host-digits h = simp (le-ltb x 10 h)
 
-module _ (i : ℕ) (d : Digits) (s : TwoDigits i d) where
+module _ (i : ℕ) {d : Digits} (s : TwoDigits i d) where
   tail-long : length (take (d .long) (d .bytes)) ≡ d .long
   tail-long = length-take-le (d .long) (d .bytes) (s .room)
 

@@ -31,7 +31,7 @@ pub product-most : {a b : ℕ} → a < 2 ^ 32 → b < 2 ^ 32 → a * b ≤ 0xFFF
 product-most {a} {b} h k =
     mul-le-mul {n₁ = a} {m₁ = b} {n₂ = 0xFFFF_FFFF} {m₂ = 0xFFFF_FFFF} (omega arith) (omega arith)
 
-module _ (offset size count end : ℕ) (e : end ≡ offset + size * times count) where
+module _ (offset size count : ℕ) {end : ℕ} (e : end ≡ offset + size * times count) where
   -- a member that ends at or below 2^26 has that end
   pub end-at : end ≤ mostSize → done end ≡ memberEnd offset size count
   unfolding memberEnd
@@ -63,7 +63,7 @@ access-third a n m = simp (ne-eqb a 0 n, ne-eqb a 2 m)
 pub align-most : (x a : ℕ) → (x + (a - 1)) / a * a ≤ x + (a - 1)
 align-most x a = div-mul-le-self (x + (a - 1)) a
 
-module _ (c : Cursor) (d : Decl) (at : ℕ) (end : End) (s : at ≡ startOf c d)
+module _ (c : Cursor) (d : Decl) {at : ℕ} (end : End) (s : at ≡ startOf c d)
     (e : saidBy end ≡ memberEnd at (d .size) (d .count)) where
   ends : memberEnd (startOf c d) (d .size) (d .count) ≡ saidBy end
   ends = rw (← s) (sym e)

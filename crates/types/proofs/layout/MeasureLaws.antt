@@ -21,7 +21,7 @@ use Rattle.types.specs.declared.layout.placing.Placed.the-variants.{Host
 use Rattle.types.specs.declared.tables.member.Member.{Member}
 use Rattle.types.proofs.layout.PlaceLaws.{place-cases}
 
-module _ (host : ℕ → List ℕ) (c : Cursor) (n : ℕ) (d : Decl) (p : Placed) (e : p ≡ placed c d) where
+module _ (host : ℕ → List ℕ) (c : Cursor) (n : ℕ) (d : Decl) {p : Placed} (e : p ≡ placed c d) where
   -- where a host opens, the lengths of its name and of the member's are added
   pub one-hosted : {h m : Member} {c′ : Cursor} (long : ℕ) → p ≡ Hosted h m c′ → long ≡ length (host (c .members))
       → Came c′ (n + long + d .name .long) ≡ measureOne host c n d

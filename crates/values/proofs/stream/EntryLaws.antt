@@ -336,7 +336,7 @@ inside-test at long l = go (leb at (long - 12)) refl
     go true e = sym (le-leb (at + 12) long (let a = leb-true at (long - 12) e in omega arith))
     go false e = sym (lt-leb (at + 12) long (let a = leb-false at (long - 12) e in omega arith))
 
-module _ (out : List ℕ) (at : ℕ) (e : Entry) where
+module _ {out : List ℕ} {at : ℕ} (e : Entry) where
   -- an entry that has room is stored, and the answer is true
   pub stored-there : {new : List ℕ} → leb (at + 12) (length out) ≡ true → new ≡ sets out at (bytesOfEntry e)
       → EntryStored out at e true new

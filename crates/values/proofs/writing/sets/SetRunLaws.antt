@@ -218,7 +218,7 @@ run-there {s} {k} form a n p z bits h = go (decLt k (countIn s))
 
 -- ---- one, or many
 
-module _ (a : Atomic) (n base long : ℕ) (h : base + sizeOf a * times n ≤ long) where
+module _ (a : Atomic) (n base : ℕ) {long : ℕ} (h : base + sizeOf a * times n ≤ long) where
   -- count 0: there is room for one atomic
   pub room-one : n ≡ 0 → base + sizeOf a ≤ long
   room-one e = rw (← times-one n e, mul-one) at h

@@ -30,14 +30,14 @@ returns-5 c =
     let found = c .before in
     let a = found .before .before .args in
     rw (found .before .if1 .left)
-    (pick-lowest (a .types .now) (a .n) (a .id) _ (found .free-id .ensures) (c .if5 .taken))
+    (pick-lowest (a .types .now) (a .n) (a .id) (found .free-id .ensures) (c .if5 .taken))
 
 returns-6 : tie.Need-returns-6
 returns-6 c =
     let found = c .before in
     let a = found .before .before .args in
     rw (found .before .if1 .left)
-    (pick-none (a .types .now) (a .n) (a .id) _ (found .free-id .ensures) (c .if5 .left))
+    (pick-none (a .types .now) (a .n) (a .id) (found .free-id .ensures) (c .if5 .left))
 
 pub pick-id-spec : {M : Type 1} → statement M
 pick-id-spec =

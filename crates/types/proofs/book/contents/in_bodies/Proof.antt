@@ -7,13 +7,13 @@ use Rattle.types.proofs.book.contents.in_bodies.Tie as tie
 returns : tie.Need-returns
 returns c =
     let a = c .before .before .before .args in
-    before-bodies (a .start) (a .end) (a .s) _ _ (c .before .before .wide .ensures) (c .before .wide2 .ensures)
+    before-bodies (a .start) (a .end) (a .s) (c .before .before .wide .ensures) (c .before .wide2 .ensures)
     (c .if1 .taken)
 
 returns-2 : tie.Need-returns-2
 returns-2 c =
     let a = c .before .before .before .args in
-    from-bodies (a .start) (a .end) (a .s) _ _ (c .before .before .wide .ensures) (c .before .wide2 .ensures)
+    from-bodies (a .start) (a .end) (a .s) (c .before .before .wide .ensures) (c .before .wide2 .ensures)
     (c .if1 .left)
 
 pub in-bodies-spec : {M : Type 1} → statement M

@@ -32,7 +32,7 @@ returns-3 : tie.Need-returns-3 Inv-loop μ-loop
 returns-3 c =
     let l = c .before .before .before .before .loop in
     let s = c .before .before .before .before .before .before .before .before .args .s .now in
-    sym (bytes-off s (l .i) (omega arith) _ (c .before .name-byte .ensures) (not-true _ (c .if3 .taken)))
+    sym (bytes-off s (l .i) (omega arith) (c .before .name-byte .ensures) (not-true _ (c .if3 .taken)))
     ∙ sym (l .inv .1 .1 .1) ∙ good-within s (l .inv .1 .0) (l .inv .1 .1 .0)
 
 add-i : tie.Need-add-i Inv-loop μ-loop
@@ -50,7 +50,7 @@ loop-again c =
         l .inv .1 .0,
         (
           l .inv .1 .1 .0,
-          l .inv .1 .1 .1 ∙ bytes-on s (l .i) (omega arith) _ (c .before .name-byte .ensures)
+          l .inv .1 .1 .1 ∙ bytes-on s (l .i) (omega arith) (c .before .name-byte .ensures)
               (not-false _ (c .if3 .left)),
         ),
       ),

@@ -9,7 +9,7 @@ returns : tie.Need-returns
 returns c =
     let two = c .before in
     record {
-      is = bit-host-long (two .before .args .i) _ (two .two-digits .ensures);
+      is = bit-host-long (two .before .args .i) (two .two-digits .ensures);
       most = omega (arith, two .two-digits .ensures .most);
     }
 

@@ -14,7 +14,7 @@ use Rattle.types.proofs.layout.aoi.put_bit_host.Statement.{statement}
 use Rattle.types.proofs.layout.aoi.put_bit_host.Tie as tie
 
 room : (c : tie.After-two-digits) → c .before .args .at + (9 + c .two-digits .result .long) ≤ mostNames
-room c = rw (bit-host-long (c .before .args .i) _ (c .two-digits .ensures)) (c .before .pre .1 .1)
+room c = rw (bit-host-long (c .before .args .i) (c .two-digits .ensures)) (c .before .pre .1 .1)
 
 tail : (c : tie.After-two-digits)
     → length (take (c .two-digits .result .long) (c .two-digits .result .bytes)) ≡ c .two-digits .result .long
@@ -37,14 +37,14 @@ returns c =
     let first = second .before .before .before in
     let two = first .before .before .before .before in
     let a = two .before .args in
-    let long = bit-host-long (a .i) _ (two .two-digits .ensures) in
+    let long = bit-host-long (a .i) (two .two-digits .ensures) in
     record {
       long = long;
       rows = c .put-member .ensures
           ∙ ap (sets (a .members .now) (8 * a .row))
           (one-row-of (a .at) (bitHostName (a .i)) (bitHostAt (a .i)) _ long);
       names = rw (second .put-bytes2 .ensures, first .put-bytes .ensures)
-          (bit-host-put (a .i) _ (two .two-digits .ensures) (a .names .now) (a .at)
+          (bit-host-put (a .i) (two .two-digits .ensures) (a .names .now) (a .at)
           ∙ ap (sets (a .names .now) (a .at)) (one-name (bitHostName (a .i)) (bitHostAt (a .i))));
     }
 

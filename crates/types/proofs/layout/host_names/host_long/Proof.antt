@@ -12,7 +12,7 @@ returns c =
     let a = ten .before .before .args in
     record {
       is =
-          host-long (a .name .now) (a .k) (ten .at-most-ten .result) _ (spelled .spell .ensures)
+          host-long (a .name .now) (a .k) (ten .at-most-ten .result) (spelled .spell .ensures)
           (ten .at-most-ten .ensures);
       most = omega (arith, spelled .spell .ensures .most, ten .at-most-ten .ensures);
     }

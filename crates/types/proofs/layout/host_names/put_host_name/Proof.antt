@@ -14,7 +14,7 @@ room : (c : tie.After-spell)
     → c .before .before .before .args .at + (10 + c .before .at-most-ten .result + c .spell .result .long) ≤ mostNames
 room c =
     let start = c .before .before .before in
-    rw (host-long (start .args .name .now) (start .args .k) _ _ (c .spell .ensures)
+    rw (host-long (start .args .name .now) (start .args .k) _ (c .spell .ensures)
     (c .before .at-most-ten .ensures)) (start .pre .1)
 
 front : (c : tie.After-spell)
@@ -51,7 +51,7 @@ returns c =
     let spelled = one .before .before .before .before in
     let a = spelled .before .before .before .args in
     rw (c .put-bytes3 .ensures, two .put-bytes2 .ensures, one .put-bytes .ensures)
-    (host-put (a .name .now) (a .k) _ _ (spelled .spell .ensures) (spelled .before .at-most-ten .ensures)
+    (host-put (a .name .now) (a .k) _ (spelled .spell .ensures) (spelled .before .at-most-ten .ensures)
     (a .names .now) (a .at))
 
 pub put-host-name-spec : {M : Type 1} → statement M

@@ -10,7 +10,7 @@ returns c =
     let way = c .before .before in
     let placed = way .before .before in
     let a = placed .before .before .args in
-    one-hosted (hostName (a .name .now)) (a .c) (a .names) (a .d) _ (placed .place .ensures) _ (way .p .given .1)
+    one-hosted (hostName (a .name .now)) (a .c) (a .names) (a .d) (placed .place .ensures) _ (way .p .given .1)
     (c .host-long .ensures .is)
 
 returns-2 : tie.Need-returns-2
@@ -18,19 +18,19 @@ returns-2 c =
     let way = c .before in
     let placed = way .before .before in
     let a = placed .before .before .args in
-    one-alone (hostName (a .name .now)) (a .c) (a .names) (a .d) _ (placed .place .ensures) (way .p2 .given .1)
+    one-alone (hostName (a .name .now)) (a .c) (a .names) (a .d) (placed .place .ensures) (way .p2 .given .1)
 
 returns-3 : tie.Need-returns-3
 returns-3 c =
     let placed = c .before .before in
     let a = placed .before .before .args in
-    one-access (hostName (a .name .now)) (a .c) (a .names) (a .d) _ (placed .place .ensures) (c .enum-told .given .1)
+    one-access (hostName (a .name .now)) (a .c) (a .names) (a .d) (placed .place .ensures) (c .enum-told .given .1)
 
 returns-4 : tie.Need-returns-4
 returns-4 c =
     let placed = c .before .before in
     let a = placed .before .before .args in
-    one-far (hostName (a .name .now)) (a .c) (a .names) (a .d) _ (placed .place .ensures) (c .enum-told2 .given .1)
+    one-far (hostName (a .name .now)) (a .c) (a .names) (a .d) (placed .place .ensures) (c .enum-told2 .given .1)
 
 pub measure-one-spec : {M : Type 1} → statement M
 measure-one-spec =

@@ -25,12 +25,12 @@ add-end c = omega (arith, product c)
 returns : tie.Need-returns
 returns c =
     let a = c .before .before .before .before .args in
-    end-at (a .offset) (a .size) (a .count) _ (sum (c .before)) (c .if1 .taken)
+    end-at (a .offset) (a .size) (a .count) (sum (c .before)) (c .if1 .taken)
 
 returns-2 : tie.Need-returns-2
 returns-2 c =
     let a = c .before .before .before .before .args in
-    end-over (a .offset) (a .size) (a .count) _ (sum (c .before)) (c .if1 .left)
+    end-over (a .offset) (a .size) (a .count) (sum (c .before)) (c .if1 .left)
 
 pub member-end-spec : {M : Type 1} → statement M
 member-end-spec =

@@ -10,7 +10,7 @@ unfolding startOf
 returns c =
     let end = c .before .before .before in
     let a = end .before .before .args in
-    other-over (a .c) (a .d) _ (end .member-end .result) (end .before .align-up .ensures) (end .member-end .ensures)
+    other-over (a .c) (a .d) (end .member-end .result) (end .before .align-up .ensures) (end .member-end .ensures)
     (c .enum-told .given .1)
 
 returns-2 : tie.Need-returns-2
@@ -19,7 +19,7 @@ returns-2 c =
     let way = c .before .before in
     let end = way .before .before .before in
     let a = end .before .before .args in
-    other-at (a .c) (a .d) _ (end .member-end .result) (end .before .align-up .ensures) (end .member-end .ensures)
+    other-at (a .c) (a .d) (end .member-end .result) (end .before .align-up .ensures) (end .member-end .ensures)
     _ _ (way .end .given .1)
     (way .before .before .close .ensures)
 

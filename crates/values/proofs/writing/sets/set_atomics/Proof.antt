@@ -37,7 +37,7 @@ set-bits-requires c κs =
     let single = bits .before in
     let start = single .before .before .before in
     let a = start .args in (
-      (start .pre .0 .0, room-one (a .a) (a .count) (a .base) _ (start .pre .0 .1) (single .if1 .taken)),
+      (start .pre .0 .0, room-one (a .a) (a .count) (a .base) (start .pre .0 .1) (single .if1 .taken)),
       (sym (bits .is-bits .ensures) ∙ c .before .if2 .taken, accepted-as (one single) (start .pre .1)),
     )
 
@@ -52,7 +52,7 @@ set-atomic-requires c κs =
     let single = plain .before .before in
     let start = single .before .before .before in
     let a = start .args in (
-      (start .pre .0 .0, room-one (a .a) (a .count) (a .base) _ (start .pre .0 .1) (single .if1 .taken)),
+      (start .pre .0 .0, room-one (a .a) (a .count) (a .base) (start .pre .0 .1) (single .if1 .taken)),
       accepted-as (leaf plain) (start .pre .1),
     )
 
@@ -64,7 +64,7 @@ set-array-requires c κs =
     let many = c .before in
     let start = many .before .before .before in
     let a = start .args in (
-      (start .pre .0 .0, room-some (a .a) (a .count) (a .base) _ (start .pre .0 .1) (many .if1 .left)),
+      (start .pre .0 .0, room-some (a .a) (a .count) (a .base) (start .pre .0 .1) (many .if1 .left)),
       (omega (arith, many .if1 .left), start .pre .1),
     )
 
