@@ -1,5 +1,5 @@
-// Numbers one after the other (document 01, "Reading"): an entry for each of n atomics of one type, with a loop for
-// each size.
+// Numbers one after the other (document 01, "Reading"): an entry for each of n atomics of one type. There is a loop for
+// each size, for pace: a test of the size at each element would cost more than the element.
 ghost use Prim.Native.Nat.{_+_, _*_, _≤_};
 ghost use lib.ListN.{length};
 ghost use Rattle.types.specs.atomics.Atomic.{sizeOf};

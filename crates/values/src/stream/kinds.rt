@@ -3,6 +3,7 @@ pub const NULL: u8 = 0;
 
 pub const BOOL: u8 = 1;
 
+// Numbers: whole ones, and the bits of a REAL or an LREAL.
 pub const SIGNED: u8 = 2;
 
 pub const UNSIGNED: u8 = 3;
@@ -15,6 +16,7 @@ pub const TEXT: u8 = 6;
 
 pub const MEMBER: u8 = 7;
 
+// The brackets of a structure, and those of an array.
 pub const OPEN: u8 = 8;
 
 pub const CLOSE: u8 = 9;
