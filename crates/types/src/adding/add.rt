@@ -23,10 +23,14 @@ use crate::book::contents::has_id;
 use crate::book::contents::is_aoi;
 use crate::book::contents::is_string;
 use crate::book::names::good_name;
+use crate::layout::placing::MOST_SIZE;
 use crate::refusals::refusal::Refusal;
 use crate::tables::lent::MemberTable;
 use crate::tables::lent::NameTable;
 use crate::tables::lent::TypeTable;
+
+// The longest string: LEN takes four bytes.
+const MOST_STRING: u32 = MOST_SIZE as u32 - 4;
 
 // A string has a length from 1 to 2^26 - 4, no members, and is no AOI.
 fn string_ok(e: TypeEntry) -> bool
@@ -35,7 +39,7 @@ fn string_ok(e: TypeEntry) -> bool
     if e.string < 1 {
         return false;
     }
-    if 67108860 < e.string {
+    if MOST_STRING < e.string {
         return false;
     }
     if e.count != 0 {

@@ -20,6 +20,7 @@ use crate::reading::read::is_product;
 use crate::reading::read::size_of_ty;
 use crate::reading::rows::times_of;
 use crate::stream::form::stream_ok;
+use crate::stream::tokens;
 use crate::stream::tokens::REFUSED;
 use crate::stream::tokens::as_size;
 use crate::writing::apply::apply_elements;
@@ -103,9 +104,9 @@ fn entry_refusal(number: usize, k: u32) -> Refusal
     ensures { λ r. ⌜ (numberOf r ≡ number) × (placeOf r ≡ k) ⌝ }
 {
     match number {
-        19 => Refusal::NumberOutOfRange(k),
-        20 => Refusal::PastLastPlace(k),
-        21 => Refusal::TextTooLong(k),
+        tokens::OUT_OF_RANGE => Refusal::NumberOutOfRange(k),
+        tokens::PAST_LAST => Refusal::PastLastPlace(k),
+        tokens::TOO_LONG => Refusal::TextTooLong(k),
         _ => Refusal::EntryMisfit(k),
     }
 }
