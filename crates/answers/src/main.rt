@@ -1,10 +1,10 @@
 // The program `answers`: the public calls behind questions and answers in frames on standard input and output. The
 // library `replies` says what each question is answered with. The tables live for the run.
 ghost use Rattle.types.specs.tables.Kept.{Kept};
-use frames::Frame;
+use frames::Next;
 use frames::START;
 use frames::answer_room;
-use frames::read_frame;
+use frames::next_frame;
 use frames::room;
 use frames::send_frame;
 use replies::answer;
@@ -44,15 +44,12 @@ fn serve_one(
     requires { ⌜ Kept (now types) (now members) (now names) ⌝ }
     ensures { λ _. ⌜ Kept (now (types .exit)) (now (members .exit)) (now (names .exit)) ⌝ }
 {
-    let asked = read_frame(question);
+    let asked = next_frame(question);
     match asked {
-        Frame::End => {
+        Next::Nothing => {
             return false;
         }
-        Frame::Broken => {
-            return false;
-        }
-        Frame::Bytes(n) => {
+        Next::Bytes(n) => {
             if question.len() < n {
                 return false;
             }

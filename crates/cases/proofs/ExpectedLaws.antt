@@ -1,14 +1,13 @@
 -- What a comparison of bytes tells, and what each way out of the comparison with an expectation answers (document 01,
 -- last paragraph of "Refusal numbers").
 use Prim.Native.Nat.{ℕ, _-_, _<_, _≤_}
-use native.Mathlib.Omega.{arith}
 use mathlib.Core.Path.{_≡_, refl, sym, _∙_}
 use mathlib.Core.Bool.{Bool, true, false, _&&_}
 use mathlib.Core.List.{List, [], _∷_}
 use borrow.Author.Tests.{eq-eqb, ne-eqb, eqb-true, le-leb, lt-leb}
 use lib.Dec.{eqb}
-use lib.ListN.{length, take, drop, getD, length-drop}
-use lib.Seq.{take-all}
+use lib.ListN.{length, take, drop, getD}
+use Rattle.words.proofs.Lists.{rest-lent}
 use Rattle.cases.specs.Expected.{sameBytes, zeros, accepts, refuses, agreesOf}
 
 -- ---- the same bytes
@@ -45,10 +44,6 @@ told xs ys false h = sym (off (sameBytes xs ys) (λ e. h .1 (same-only xs ys e))
     off : (b : Bool) → (b ≡ true → _≡_ {A = Bool} false true) → b ≡ false
     off true n = sym (n refl)
     off false n = refl
-
--- the rest of a list, as it is lent
-pub rest-lent : (s : List ℕ) (k : ℕ) → take (length s - k) (drop k s) ≡ drop k s
-rest-lent s k = take-all (length s - k) (drop k s) (omega (arith, length-drop k s))
 
 -- a comparison with the rest of a list
 pub told-rest : (s : List ℕ) (k : ℕ) {ys : List ℕ} {r : Bool}

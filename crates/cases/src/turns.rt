@@ -4,6 +4,8 @@ ghost use Rattle.types.specs.tables.Kept.{Kept};
 use crate::expected::agrees;
 use crate::lines::say_differs;
 use frames::Frame;
+use frames::Next;
+use frames::next_frame;
 use frames::read_frame;
 use replies::answer;
 use types::MemberTable;
@@ -101,15 +103,12 @@ fn check_answer(
     requires { ⌜ Kept (now types) (now members) (now names) ⌝ }
     ensures { λ _. ⌜ Kept (now (types .exit)) (now (members .exit)) (now (names .exit)) ⌝ }
 {
-    let said = read_frame(expected);
+    let said = next_frame(expected);
     match said {
-        Frame::End => {
+        Next::Nothing => {
             return Turn::Cut;
         }
-        Frame::Broken => {
-            return Turn::Cut;
-        }
-        Frame::Bytes(n) => {
+        Next::Bytes(n) => {
             if expected.len() < n {
                 return Turn::Cut;
             }

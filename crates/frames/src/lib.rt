@@ -5,6 +5,8 @@ mod rooms;
 mod sending;
 
 pub use reading::Frame;
+pub use reading::Next;
+pub use reading::next_frame;
 pub use reading::read_frame;
 pub use rooms::answer_room;
 pub use rooms::room;

@@ -33,3 +33,24 @@ pub fn read_frame(room: &mut [u8]) -> Frame {
     }
     Frame::Broken
 }
+
+// How many bytes the next frame has, where it does not matter why there is none.
+pub enum Next {
+    Bytes(usize),
+    Nothing,
+}
+
+pub fn next_frame(room: &mut [u8]) -> Next {
+    let frame = read_frame(room);
+    match frame {
+        Frame::Bytes(n) => {
+            return Next::Bytes(n);
+        }
+        Frame::End => {
+            return Next::Nothing;
+        }
+        Frame::Broken => {
+            return Next::Nothing;
+        }
+    }
+}

@@ -1,8 +1,8 @@
 // The program `handles`: the structure handle of template bytes (document 01, "Template and handle"). A frame of bytes
 // on standard input is answered by a frame of two: their handle.
-use frames::Frame;
+use frames::Next;
 use frames::START;
-use frames::read_frame;
+use frames::next_frame;
 use frames::room;
 use frames::send_frame;
 use types::structure_handle;
@@ -10,15 +10,12 @@ use words::store16;
 
 // Answers one frame; says whether to go on.
 fn serve_one(template: &mut [u8]) -> bool {
-    let asked = read_frame(template);
+    let asked = next_frame(template);
     match asked {
-        Frame::End => {
+        Next::Nothing => {
             return false;
         }
-        Frame::Broken => {
-            return false;
-        }
-        Frame::Bytes(n) => {
+        Next::Bytes(n) => {
             if template.len() < n {
                 return false;
             }

@@ -1,4 +1,5 @@
 // Kind 2: a type of the tables, whole, with its members.
+ghost use Prim.Native.Nat.{_≤_};
 ghost use Rattle.types.specs.tables.Kept.{Kept};
 use crate::puts::accept;
 use crate::puts::malformed;
@@ -29,6 +30,11 @@ use words::load16;
 use words::wide;
 use words::wide16;
 
+// The flags of a member, added up.
+const HIDDEN: u8 = 1;
+
+const LOCAL: u8 = 2;
+
 fn kind_byte(kind: StructKind) -> u8 {
     match kind {
         StructKind::Udt => 0,
@@ -46,16 +52,12 @@ fn bit_byte(bit: Bit) -> u8 {
     }
 }
 
-// 1 for hidden, and 2 for local.
-fn flags_byte(hidden: bool, local: bool) -> u8 {
-    if hidden {
-        if local {
-            return 3;
-        }
-        return 1;
-    }
-    if local {
-        return 2;
+// A flag's byte is the number where it is set.
+fn number_if(set: bool, number: u8) -> u8
+    ensures { λ r. ⌜ r ≤ number ⌝ }
+{
+    if set {
+        return number;
     }
     0
 }
@@ -68,7 +70,11 @@ fn put_member_fields(m: Member, out: &mut [u8], at: usize) -> usize {
     let k2 = put32(out, k1, m.count);
     let k3 = put32(out, k2, m.offset);
     let k4 = put8(out, k3, bit_byte(bit));
-    let k5 = put8(out, k4, flags_byte(m.hidden, m.local));
+    let k5 = put8(
+        out,
+        k4,
+        number_if(m.hidden, HIDDEN) + number_if(m.local, LOCAL),
+    );
     put8(out, k5, m.access)
 }
 

@@ -1,13 +1,12 @@
 // What each kind of question is answered with: the place where the answer ends in the output buffer.
 ghost use Prim.Native.Nat.{_≤_};
 ghost use lib.ListN.{length};
-ghost use Rattle.types.specs.tables.Kept.{Kept};
+ghost use Rattle.types.specs.tables.Kept.{Kept, KeptNames};
 use crate::describe::describe;
 use crate::normals::tell_normal;
 use crate::puts::BODY;
 use crate::puts::MOST_ROOM;
 use crate::puts::accept;
-use crate::puts::has_room;
 use crate::puts::malformed;
 use crate::puts::put_count;
 use crate::puts::put8;
@@ -27,7 +26,6 @@ use types::MemberTable;
 use types::NameTable;
 use types::PredefinedIds;
 use types::Refusal;
-use types::Ty;
 use types::TypeTable;
 use types::Wrote;
 use types::build;
@@ -86,34 +84,7 @@ fn tell_build(
     }
 }
 
-// The template of a type, written to its place in the answer.
-fn put_template(
-    types: &TypeTable,
-    members: &MemberTable,
-    names: &NameTable,
-    ty: Ty,
-    room: usize,
-    out: &mut [u8],
-) -> usize
-    requires { ⌜ Kept (now types) (now members) (now names) ⌝ }
-{
-    if !has_room(out.len(), room) {
-        return malformed(out);
-    }
-    let end = BODY + room;
-    let wrote = template(types, members, names, ty, &mut out[BODY..end]);
-    match wrote {
-        Wrote::Length(n) => {
-            accept(out);
-            return BODY + wide(n);
-        }
-        Wrote::Refused(r) => {
-            return refuse(out, r);
-        }
-    }
-}
-
-// Kind 3.
+// Kind 3: the template of a type, written to its place in the answer.
 fn tell_template(
     rest: &[u8],
     types: &TypeTable,
@@ -126,14 +97,19 @@ fn tell_template(
     if rest.len() < 6 {
         return malformed(out);
     }
-    let room = least(wide(load32(rest, 2)), MOST_ROOM);
-    let found = ty_of_word(types, load16(rest, 0));
-    match found {
-        FoundTy::Is(ty) => {
-            return put_template(types, members, names, ty, room, out);
+    let end = BODY + least(wide(load32(rest, 2)), MOST_ROOM);
+    if out.len() < end {
+        return malformed(out);
+    }
+    let ty = ty_of_word(load16(rest, 0));
+    let wrote = template(types, members, names, ty, &mut out[BODY..end]);
+    match wrote {
+        Wrote::Length(n) => {
+            accept(out);
+            return BODY + wide(n);
         }
-        FoundTy::Nothing => {
-            return refuse(out, Refusal::NoSuchType);
+        Wrote::Refused(r) => {
+            return refuse(out, r);
         }
     }
 }
@@ -152,8 +128,12 @@ fn put_header(header: Header, out: &mut [u8]) -> usize {
     put8(out, k3, bytes[3])
 }
 
-fn header_of(types: &TypeTable, ty: Ty, out: &mut [u8]) -> usize {
-    let r = type_header(types, ty);
+// Kind 8.
+fn tell_header(rest: &[u8], types: &TypeTable, out: &mut [u8]) -> usize {
+    if rest.len() < 2 {
+        return malformed(out);
+    }
+    let r = type_header(types, ty_of_word(load16(rest, 0)));
     let fit = r.fit;
     let header = r.header;
     match fit {
@@ -166,31 +146,9 @@ fn header_of(types: &TypeTable, ty: Ty, out: &mut [u8]) -> usize {
     }
 }
 
-// Kind 8.
-fn tell_header(rest: &[u8], types: &TypeTable, out: &mut [u8]) -> usize {
-    if rest.len() < 2 {
-        return malformed(out);
-    }
-    let found = ty_of_word(types, load16(rest, 0));
-    match found {
-        FoundTy::Is(ty) => {
-            return header_of(types, ty, out);
-        }
-        FoundTy::Nothing => {
-            return refuse(out, Refusal::NoSuchType);
-        }
-    }
-}
-
 // Kind 10.
-fn tell_lookup(
-    name: &[u8],
-    types: &TypeTable,
-    members: &MemberTable,
-    names: &NameTable,
-    out: &mut [u8],
-) -> usize
-    requires { ⌜ Kept (now types) (now members) (now names) ⌝ }
+fn tell_lookup(name: &[u8], types: &TypeTable, names: &NameTable, out: &mut [u8]) -> usize
+    requires { ⌜ KeptNames (now types) (now names) ⌝ }
 {
     let found = find(types, names, name);
     match found {
@@ -222,25 +180,25 @@ fn tell(
         return tell_template(rest, types, members, names, out);
     }
     if kind == 4 {
-        return tell_shape(rest, types, members, names, out);
+        return tell_shape(rest, types, out);
     }
     if kind == 5 {
-        return tell_read(rest, types, members, names, out);
+        return tell_read(rest, types, members, out);
     }
     if kind == 6 {
-        return tell_write(rest, types, members, names, out);
+        return tell_write(rest, types, members, out);
     }
     if kind == 7 {
-        return tell_text(rest, types, members, names, out);
+        return tell_text(rest, types, members, out);
     }
     if kind == 8 {
         return tell_header(rest, types, out);
     }
     if kind == 9 {
-        return tell_normal(rest, types, members, names, out);
+        return tell_normal(rest, types, members, out);
     }
     if kind == 10 {
-        return tell_lookup(rest, types, members, names, out);
+        return tell_lookup(rest, types, names, out);
     }
     malformed(out)
 }

@@ -1,8 +1,5 @@
 // An answer's parts, put into the output buffer one after the other. Each answers the place after what it put; what has
 // no room is left out, and none of a question's answers comes near the buffer's end.
-ghost use mathlib.Core.Path.{_≡_};
-ghost use Prim.Native.Nat.{_+_, _≤_};
-ghost use mathlib.Core.Bool.{true};
 use types::Refusal;
 use types::Span;
 use words::copy;
@@ -22,16 +19,6 @@ pub const BODY: usize = 5;
 
 // A larger room counts as this.
 pub const MOST_ROOM: usize = 1048000;
-
-// Whether n bytes have room in an answer's body, where the buffer has so many bytes.
-pub fn has_room(long: usize, n: usize) -> bool
-    ensures { λ r. ⌜ (r ≡ true → 5 + n ≤ long) ⌝ }
-{
-    if long < BODY {
-        return false;
-    }
-    n <= long - BODY
-}
 
 pub fn put8(out: &mut [u8], at: usize, x: u8) -> usize {
     if out.len() <= at {

@@ -1,5 +1,5 @@
 // Kind 4: the shape of a tag.
-ghost use Rattle.types.specs.tables.Kept.{Kept};
+ghost use Rattle.types.specs.tables.Kept.{KeptTypes};
 use crate::puts::accept;
 use crate::puts::malformed;
 use crate::puts::put8;
@@ -10,13 +10,8 @@ use crate::puts::refuse;
 use crate::type_words::ty_of_word;
 use crate::type_words::word_of_ty;
 use types::Fit;
-use types::FoundTy;
-use types::MemberTable;
-use types::NameTable;
-use types::Refusal;
 use types::Shape;
 use types::Symbol;
-use types::Ty;
 use types::TypeTable;
 use types::symbol_type;
 use types::tag_shape;
@@ -77,14 +72,8 @@ fn put_shape(s: Shape, symbol: u16, out: &mut [u8]) -> usize {
 }
 
 // A shape with its symbol type.
-fn put_symbol(
-    types: &TypeTable,
-    members: &MemberTable,
-    names: &NameTable,
-    shape: Shape,
-    out: &mut [u8],
-) -> usize
-    requires { ⌜ Kept (now types) (now members) (now names) ⌝ }
+fn put_symbol(types: &TypeTable, shape: Shape, out: &mut [u8]) -> usize
+    requires { ⌜ KeptTypes (now types) ⌝ }
 {
     let symbol = symbol_type(types, shape);
     match symbol {
@@ -98,22 +87,15 @@ fn put_symbol(
 }
 
 // The shape of a type with lengths.
-fn shape_of(
-    types: &TypeTable,
-    members: &MemberTable,
-    names: &NameTable,
-    ty: Ty,
-    lengths: &[u32],
-    out: &mut [u8],
-) -> usize
-    requires { ⌜ Kept (now types) (now members) (now names) ⌝ }
+fn shape_of(types: &TypeTable, word: u16, lengths: &[u32], out: &mut [u8]) -> usize
+    requires { ⌜ KeptTypes (now types) ⌝ }
 {
-    let r = tag_shape(types, ty, lengths);
+    let r = tag_shape(types, ty_of_word(word), lengths);
     let fit = r.fit;
     let shape = r.shape;
     match fit {
         Fit::Fits => {
-            return put_symbol(types, members, names, shape, out);
+            return put_symbol(types, shape, out);
         }
         Fit::Refused(why) => {
             return refuse(out, why);
@@ -121,14 +103,8 @@ fn shape_of(
     }
 }
 
-pub fn tell_shape(
-    rest: &[u8],
-    types: &TypeTable,
-    members: &MemberTable,
-    names: &NameTable,
-    out: &mut [u8],
-) -> usize
-    requires { ⌜ Kept (now types) (now members) (now names) ⌝ }
+pub fn tell_shape(rest: &[u8], types: &TypeTable, out: &mut [u8]) -> usize
+    requires { ⌜ KeptTypes (now types) ⌝ }
 {
     if rest.len() < FIRST {
         return malformed(out);
@@ -142,13 +118,5 @@ pub fn tell_shape(
     }
     let mut lengths = [0u32; LENGTHS];
     load_lengths(rest, n, &mut lengths);
-    let found = ty_of_word(types, load16(rest, 0));
-    match found {
-        FoundTy::Is(ty) => {
-            return shape_of(types, members, names, ty, &lengths[0..n], out);
-        }
-        FoundTy::Nothing => {
-            return refuse(out, Refusal::NoSuchType);
-        }
-    }
+    shape_of(types, load16(rest, 0), &lengths[0..n], out)
 }

@@ -2,40 +2,35 @@
 // tables.
 use types::Atomic;
 use types::FoundAtomic;
-use types::FoundTy;
 use types::Ty;
-use types::TypeTable;
-use types::type_count;
 use words::wide;
 use words::wide16;
 
 // Where the words of structures begin.
 const STRUCTS: u16 = 0x8000;
 
+// A number that no table has: every call refuses it as no such type.
+const NO_TYPE: usize = 0x8000;
+
 // The atomic of a code.
-fn coded(word: u16) -> FoundTy {
+fn coded(word: u16) -> Ty {
     let found = Atomic::from_code(word);
     match found {
         FoundAtomic::Is(a) => {
-            return FoundTy::Is(Ty::Atomic(a));
+            return Ty::Atomic(a);
         }
         FoundAtomic::Nothing => {
-            return FoundTy::Nothing;
+            return Ty::Struct(NO_TYPE);
         }
     }
 }
 
-// The type of a word, where there is one.
-pub fn ty_of_word(types: &TypeTable, word: u16) -> FoundTy {
+// The type of a word; whether it is there, the calls see for themselves.
+pub fn ty_of_word(word: u16) -> Ty {
     if word < STRUCTS {
         return coded(word);
     }
-    let n = wide(wide16(word - STRUCTS));
-    let count = type_count(types);
-    if n < count {
-        return FoundTy::Is(Ty::Struct(n));
-    }
-    FoundTy::Nothing
+    Ty::Struct(wide(wide16(word - STRUCTS)))
 }
 
 // The word of a type. No table has a number that 15 bits do not hold.

@@ -1,5 +1,6 @@
 // Document 01, "Layout": where members go; UDTs, AOIs, strings, the predefined types.
 pub(crate) mod aoi;
+pub(crate) mod decimals;
 pub(crate) mod fixed;
 pub(crate) mod host_names;
 pub(crate) mod measure;

@@ -1,27 +1,29 @@
 -- Laws of bits: of a number, of a list of bytes, of bits put over others; one bit set or cleared; a word as the
 -- number of its bits.
 use Prim.Native.Nat.{ℕ, zero, suc, _+_, _-_, _*_, _/_, _%_, _^_, _≤_, _<_, min, max}
-use native.Mathlib.Nat.{zero-add, suc-add, pow-suc, pow-succ', mul-assoc, div-div-eq-div-mul, div-one}
+use native.Mathlib.Nat.{add-assoc, zero-add, suc-add, pow-suc, pow-succ', mul-assoc, div-div-eq-div-mul, div-one}
 use native.Mathlib.Nat.{one-mul, mod-eq-of-lt}
 use native.Mathlib.Decide.{ℕ-discrete}
 use native.Mathlib.Omega.{arith}
 use mathlib.Core.Path.{_≡_, refl, sym, ap, _∙_, fun-ext}
 use mathlib.Core.Bool.{Bool, true, false, cond, not, _&&_, _||_, or-true, or-false, and-true, and-false}
-use mathlib.Core.List.{List}
+use mathlib.Core.List.{List, [], _∷_, _++_}
 use mathlib.Core.Logic.{_≢_}
 use borrow.Author.Tests.{lt-ltb, le-ltb, eq-eqb, ne-eqb}
 use native.Mathlib.Decide.{decLt}
 use lib.Bits.{bitOr, bitAnd, or-step, and-step}
 use lib.Dec.{eqb, eqb·suc-zero, eqb·zero-suc, eqb·suc-suc}
-use lib.ListN.{length, getD, set}
+use lib.ListN.{length, getD, set, replicate, List·getD-append}
 use lib.Pow.{pow-lt}
-use lib.Seq.{getD-set-same, getD-set-other}
+use lib.Seq.{getD-append-add, getD-drop, getD-set-same, getD-set-other, getD-take}
 use Rattle.words.specs.Bits.{Bits, from, bitOf, flat, digit, val, inside, stamp, withBit}
-use Rattle.words.specs.Words.{wordAt, Bytes}
+use Rattle.words.specs.Words.{part, wordAt, Bytes}
+use Rattle.words.proofs.Lists.{getD-zeros}
 
 -- ---- bits of a number
 
-bit-first : (x : ℕ) → bitOf x 0 ≡ eqb (x % 2) 1
+-- the first bit of a number says whether it is odd
+pub bit-first : (x : ℕ) → bitOf x 0 ≡ eqb (x % 2) 1
 unfolding bitOf
 bit-first x = rw div-one
 
@@ -36,7 +38,8 @@ bit-none (suc k) = bit-next 0 k ∙ bit-none k
 
 -- ---- the number of some bits
 
-digit-lt : (b : Bool) → digit b < 2
+-- a digit is 0 or 1
+pub digit-lt : (b : Bool) → digit b < 2
 digit-lt true = omega arith
 digit-lt false = omega arith
 
@@ -68,13 +71,36 @@ bit-val (suc n) b (suc k) h =
     let e : (digit (b 0) + 2 * val n (λ j. b (suc j))) / 2 ≡ val n (λ j. b (suc j)) = omega (arith, digit-lt (b 0)) in
     bit-next _ k ∙ rw e (bit-val n (λ j. b (suc j)) k (omega arith))
 
+-- a number that is 0 or 1 is a digit
+pub digit-is : (x : ℕ) → x < 2 → digit (eqb x 1) ≡ x
+digit-is zero h = refl
+digit-is (suc zero) h = refl
+digit-is (suc (suc x)) h = absurd (omega arith)
+
 digit-odd : (v : ℕ) → digit (eqb (v % 2) 1) ≡ v % 2
-digit-odd v = go (v % 2) (omega arith)
-  where
-    go : (r : ℕ) → r < 2 → digit (eqb r 1) ≡ r
-    go zero h = refl
-    go (suc zero) h = refl
-    go (suc (suc r)) h = absurd (omega arith)
+digit-odd v = digit-is (v % 2) (omega arith)
+
+-- a number divided by 2^k, modulo 2, is the digit of its bit k
+pub bit-digit : (x k : ℕ) → x / 2 ^ k % 2 ≡ digit (bitOf x k)
+unfolding bitOf
+bit-digit x k = sym (digit-odd (x / 2 ^ k))
+
+-- the only bit of a digit
+pub digit-bit : (t : Bool) → bitOf (digit t) 0 ≡ t
+unfolding bitOf
+digit-bit true = refl
+digit-bit false = refl
+
+-- the only bit of a number that is 0 or 1
+pub truth-bit : (x j : ℕ) → x < 2 → j < 1 → eqb x 1 ≡ bitOf x j
+truth-bit x j l m =
+    let e : 0 ≡ j = omega arith in
+    let f : x ≡ x % 2 = omega arith in
+    ap (λ (v : ℕ). eqb v 1) f ∙ sym (bit-first x) ∙ ap (bitOf x) e
+
+-- n bits that make the same number are the same
+pub val-tells : (n : ℕ) (b c : Bits) → val n b ≡ val n c → (k : ℕ) → k < n → b k ≡ c k
+val-tells n b c e k l = sym (bit-val n b k l) ∙ ap (λ (x : ℕ). bitOf x k) e ∙ bit-val n c k l
 
 -- the number of a number's bits is that number
 pub val-bit : (n v : ℕ) → v < 2 ^ n → val n (bitOf v) ≡ v
@@ -128,6 +154,51 @@ word-val (suc n) s at b =
     val-ext (8 * n) (from 8 (from (8 * at) (flat s))) (from (8 * (at + 1)) (flat s))
     (λ k l. ap (flat s) (omega arith)) in
     rw e (omega (arith, val-split 8 (8 * n) (from (8 * at) (flat s)), byte-val s at (b at), f, word-val n s (at + 1) b))
+
+-- a word that a list begins with is the number of the list's first bits
+pub first-word : (s : List ℕ) → Bytes s → {n : ℕ} → n ≡ wordAt 4 s 0 → n ≡ val 32 (flat s)
+first-word s b e = e ∙ word-val 4 s 0 b ∙ ap (val 32) (fun-ext (λ k. ap (flat s) (zero-add k)))
+
+-- bit k of a part is that bit of the whole
+pub flat-part : (s : List ℕ) (at n k : ℕ) → k < 8 * n → flat (part s at n) k ≡ flat s (8 * at + k)
+unfolding flat part
+flat-part s at n k h =
+    let e : (8 * at + k) / 8 ≡ at + k / 8 = omega arith in
+    let f : (8 * at + k) % 8 ≡ k % 8 = omega arith in
+    let l : k / 8 < n = omega arith in
+    rw (e, f, getD-take, getD-drop)
+
+-- a word is the number of the bits of its part
+pub part-val : (n : ℕ) (s : List ℕ) (at : ℕ) → Bytes s → wordAt n s at ≡ val (8 * n) (flat (part s at n))
+part-val n s at b =
+    word-val n s at b
+    ∙ val-ext (8 * n) (from (8 * at) (flat s)) (flat (part s at n)) (λ k l. sym (flat-part s at n k l))
+
+-- bit k of a list of one byte
+pub one-byte : (x k : ℕ) → k < 8 → flat (x ∷ []) k ≡ bitOf x k
+one-byte x k h = ap (flat (x ∷ [])) (sym (zero-add k)) ∙ flat-at (x ∷ []) 0 k h
+
+-- the bits of two lists, one after the other: those of the first
+pub append-first : (a b : List ℕ) (k : ℕ) → k < 8 * length a → flat (a ++ b) k ≡ flat a k
+unfolding flat
+append-first a b k l = ap (λ (x : ℕ). bitOf x (k % 8)) (List·getD-append a b 0 (k / 8) (omega arith))
+
+-- and those of the second
+pub append-second : (a b : List ℕ) (k : ℕ) → flat (a ++ b) (8 * length a + k) ≡ flat b k
+unfolding flat
+append-second a b k =
+    let e : (8 * length a + k) / 8 ≡ length a + k / 8 = omega arith in
+    let f : (8 * length a + k) % 8 ≡ k % 8 = omega arith in
+    rw (e, f) (ap (λ (x : ℕ). bitOf x (k % 8)) (getD-append-add a b (k / 8) 0))
+
+-- zeros put after a list change none of its bits
+pub flat-zeros : (bs : List ℕ) (n : ℕ) → flat (bs ++ replicate n 0) ≡ flat bs
+unfolding flat
+flat-zeros bs n = fun-ext (λ k. ap (λ (x : ℕ). bitOf x (k % 8)) (getD-zeros bs n (k / 8)))
+
+-- from p on and then from q on is from p + q on
+pub from-from : (p q : ℕ) (x : Bits) → from (p + q) x ≡ from q (from p x)
+from-from p q x = fun-ext (λ k. ap x (add-assoc p q k))
 
 -- ---- bits of an or, an and, a complement, a power of two
 
@@ -225,16 +296,16 @@ mask-clear x k v h e = rw (e, mask k h)
 -- ---- bits put over others
 
 -- where bit k lies: among the n bits from p on, or beside them
-pub data Lies (p n k : ℕ) : Type 0 where
-  among : p ≤ k → k < p + n → inside p n k ≡ true → Lies p n k
-  beside : (p ≤ k → k < p + n → ⊥) → inside p n k ≡ false → Lies p n k
+pub data BitLies (p n k : ℕ) : Type 0 where
+  among : p ≤ k → k < p + n → inside p n k ≡ true → BitLies p n k
+  beside : (p ≤ k → k < p + n → ⊥) → inside p n k ≡ false → BitLies p n k
 
 -- every bit lies among the n bits from p on, or beside them
-pub lies : (p n k : ℕ) → Lies p n k
+pub lies : (p n k : ℕ) → BitLies p n k
 unfolding inside
 lies p n k = go (decLt k p) (decLt k (p + n))
   where
-    go : Dec (k < p) → Dec (k < p + n) → Lies p n k
+    go : Dec (k < p) → Dec (k < p + n) → BitLies p n k
     go (yes l) d = beside (λ a b. omega arith) (simp (lt-ltb k p l))
     go (no l) (yes m) =
         let o : p ≤ k = omega (arith, l) in
@@ -249,7 +320,7 @@ pub flat-set : (s : List ℕ) (at x : ℕ) → at < length s → flat (set s at 
 unfolding flat stamp
 flat-set s at x h = fun-ext (λ k. go k (lies (8 * at) 8 k))
   where
-    go : (k : ℕ) → Lies (8 * at) 8 k
+    go : (k : ℕ) → BitLies (8 * at) 8 k
         → bitOf (getD (set s at x) (k / 8) 0) (k % 8)
         ≡ cond (inside (8 * at) 8 k) (bitOf x (k - 8 * at)) (bitOf (getD s (k / 8) 0) (k % 8))
     go k (among a b e) =
@@ -264,7 +335,7 @@ pub flat-with : (s : List ℕ) (at b : ℕ) (v : Bool) → at < length s → b <
 unfolding flat stamp
 flat-with s at b v h l = fun-ext (λ k. go k (ℕ-discrete (k / 8) at) (lies (8 * at + b) 1 k))
   where
-    go : (k : ℕ) → Dec (k / 8 ≡ at) → Lies (8 * at + b) 1 k
+    go : (k : ℕ) → Dec (k / 8 ≡ at) → BitLies (8 * at + b) 1 k
         → bitOf (getD (set s at (withBit (getD s at 0) b v)) (k / 8) 0) (k % 8)
         ≡ cond (inside (8 * at + b) 1 k) v (bitOf (getD s (k / 8) 0) (k % 8))
     go k (yes c) (among p q e) =

@@ -1,16 +1,20 @@
 -- Laws of a run of stores (`sets`) and of a part of a list (`part`), over any element. A run of stores changes just
 -- its own places; runs that meet are one run; a part is read from the front, one element after the other.
-use Prim.Native.Nat.{ℕ, suc, _+_, _-_, _≤_, _<_, min}
+use Prim.Native.Nat.{ℕ, zero, suc, _+_, _-_, _≤_, _<_, min}
 use native.Mathlib.Decide.{decLe}
-use native.Mathlib.Nat.{add-zero}
+use native.Mathlib.Nat.{add-sub-cancel-left, add-zero}
 use native.Mathlib.Omega.{arith}
-use mathlib.Core.Path.{_≡_, refl, ap, _∙_}
+use mathlib.Core.Bool.{Bool, true, false, cond}
+use mathlib.Core.Path.{_≡_, refl, sym, ap, _∙_}
 use mathlib.Core.List.{List, [], _∷_, _++_, append-assoc}
 use mathlib.Core.Logic.{_⊎_, inl, inr, ⊎-elim}
-use lib.ListN.{length, getD, set, take, drop, length-take, length-drop}
-use lib.ListN.{List·getD-append}
-use lib.Seq.{sets, sets-eq, set-comm, drop-cons, drop-drop, getD-append-add, getD-set-other}
+use borrow.Author.Tests.{eqb-false, eqb-true}
+use lib.Dec.{eqb}
+use lib.ListN.{length, getD, set, take, drop, replicate, length-append, length-take, length-drop}
+use lib.ListN.{List·getD-append, List·getD-eq-default, take-append-drop}
+use lib.Seq.{sets, sets-eq, set-comm, set-split, drop-cons, drop-drop, getD-append-add, getD-set-other, getD-set-same}
 use lib.Seq.{length-take-le, take-all, take-length, take-set-le, take-append-seam, drop-set-add, drop-set-lt, drop-at}
+use lib.Seq.{drop-append-add, drop-append-seam}
 use Rattle.words.specs.Words.{part}
 
 module _ {A : Type 0} where
@@ -123,3 +127,108 @@ module _ {A : Type 0} where
       go (no h) =
           let e : min n (length l) ≡ n = omega (arith, h) in
           rw e
+
+  -- ---- equal lists, a test over lists
+
+  -- lists that are equal begin with the same
+  pub head-same : {x y : A} {xs ys : List A} → x ∷ xs ≡ y ∷ ys → x ≡ y
+  head-same e = cc
+
+  -- lists that are equal go on with the same
+  pub tail-same : {x y : A} {xs ys : List A} → x ∷ xs ≡ y ∷ ys → xs ≡ ys
+  tail-same e = cc
+
+  -- what is put before a list where a test says so is put before what follows too
+  pub cond-append : (b : Bool) (x : A) (xs ys : List A) → cond b (x ∷ (xs ++ ys)) (xs ++ ys) ≡ cond b (x ∷ xs) xs ++ ys
+  cond-append true x xs ys = refl
+  cond-append false x xs ys = refl
+
+  -- two runs, the second where the first ends, that are stored where a test says so, are one such run
+  pub cond-sets : (b c : Bool) (at next : ℕ) (s t out left last : List A) → c ≡ b → next ≡ at + length s
+      → left ≡ cond b (sets out at s) out → last ≡ cond c (sets left next t) left
+      → last ≡ cond b (sets out at (s ++ t)) out
+  cond-sets true c at next s t out left last p q f g = g ∙ rw (p, q, f) (sym (sets-append out at s t))
+  cond-sets false c at next s t out left last p q f g = g ∙ rw (p, f)
+
+  -- ---- parts
+
+  -- a part has as many elements as it asks for at most
+  pub part-most : (s : List A) (at n : ℕ) → length (part s at n) ≤ n
+  unfolding part
+  part-most s at n = simp length-take (omega arith)
+
+  -- a part that is lent by the places where it begins and ends
+  pub lent-part : (s : List A) (at n : ℕ) → take (at + n - at) (drop at s) ≡ part s at n
+  unfolding part
+  lent-part s at n = rw (add-sub-cancel-left at n)
+
+  -- such a part inside a list has as many elements as it asks for
+  pub lent-long : (s : List A) (at n : ℕ) → at + n ≤ length s → length (take (at + n - at) (drop at s)) ≡ n
+  lent-long s at n h = ap length (lent-part s at n) ∙ length-part s at n h
+
+  -- n elements after the first ones, where there are so many
+  pub length-between : (s : List A) (at n : ℕ) → at + n ≤ length s → length (take n (drop at s)) ≡ n
+  length-between s at n h = simp (length-take, length-drop) (omega arith)
+
+  -- the rest of a list, as it is lent
+  pub rest-lent : (s : List A) (k : ℕ) → take (length s - k) (drop k s) ≡ drop k s
+  rest-lent s k = take-all (length s - k) (drop k s) (omega (arith, length-drop k s))
+
+  -- a part and what comes after it
+  pub part-rest : (s : List A) (at n : ℕ) → part s at n ++ drop (at + n) s ≡ drop at s
+  unfolding part
+  part-rest s at n =
+      ap (λ (r : List A). take n (drop at s) ++ r) (sym (drop-drop n at s)) ∙ take-append-drop n (drop at s)
+
+  -- what stands between two lists is that part of the whole
+  pub part-seam : (xs b ys : List A) → part (xs ++ (b ++ ys)) (length xs) (length b) ≡ b
+  unfolding part
+  part-seam xs b ys = rw drop-append-seam (take-append-seam b ys)
+
+  -- storing what stands there changes nothing
+  pub store-same : (xs b ys : List A) → sets (xs ++ (b ++ ys)) (length xs) b ≡ xs ++ (b ++ ys)
+  store-same xs b ys =
+      let l = length-append xs (b ++ ys) in
+      let m = length-append b ys in
+      sets-eq b (xs ++ (b ++ ys)) (length xs) (omega arith)
+      ∙ rw (take-append-seam, drop-append-add, drop-append-seam) (append-assoc xs b ys)
+
+  -- from a place on, after a store there
+  pub drop-set : (l : List A) (i : ℕ) (v : A) → i < length l → drop i (set l i v) ≡ v ∷ drop (suc i) l
+  drop-set l i v h = rw (set-split l i v h) (drop-at (take i l) _ i (length-take-le i l (omega arith)))
+
+  -- fewer copies of one element
+  pub take-replicate : (n m : ℕ) (a : A) → n ≤ m → take n (replicate m a) ≡ replicate n a
+  take-replicate zero m a h = refl
+  take-replicate (suc n) zero a h = absurd (omega arith)
+  take-replicate (suc n) (suc m) a h = ap (λ (l : List A). a ∷ l) (take-replicate n m a (omega arith))
+
+-- ---- lists of numbers, with zeros past their ends
+
+-- in a list of zeros every number is 0
+pub zero-at : (n k : ℕ) → _≡_ {A = ℕ} (getD (replicate n 0) k 0) 0
+zero-at zero k = refl
+zero-at (suc n) zero = refl
+zero-at (suc n) (suc k) = zero-at n k
+
+-- zeros put after a list change none of its numbers
+pub getD-zeros : (bs : List ℕ) (n i : ℕ) → getD (bs ++ replicate n 0) i 0 ≡ getD bs i 0
+getD-zeros [] n i = zero-at n i
+getD-zeros (b ∷ bs) n zero = refl
+getD-zeros (b ∷ bs) n (suc i) = getD-zeros bs n i
+
+-- past the end of a list every number is 0
+pub getD-past : (t : List ℕ) (at : ℕ) → length t ≤ at → (k : ℕ) → getD t (at + k) 0 ≡ 0
+getD-past t at h k = List·getD-eq-default t 0 (omega arith)
+
+-- a mark that was set is not 0
+pub mark-set : (seen : List ℕ) (m : ℕ) → m < length seen → getD (set seen m 1) m 0 ≡ 0 → ⊥
+mark-set seen m l e =
+    let z : _≡_ {A = ℕ} 1 0 = sym (getD-set-same seen m 1 0 l) ∙ e in
+    omega arith
+
+-- a mark that was not 0 is not 0 after any mark was set
+pub mark-kept : (seen : List ℕ) (m i : ℕ) → m < length seen → (getD seen i 0 ≡ 0 → ⊥) → (b : Bool) → eqb i m ≡ b
+    → getD (set seen m 1) i 0 ≡ 0 → ⊥
+mark-kept seen m i l n true q e = mark-set seen m l (rw (eqb-true i m q) at e)
+mark-kept seen m i l n false q e = n (sym (getD-set-other seen m i 1 0 (eqb-false i m q)) ∙ e)

@@ -2,6 +2,7 @@
 use Prim.Native.Nat.{ℕ}
 use native.Mathlib.Omega.{arith}
 use mathlib.Core.Bool.{Bool, true, false, _&&_, _||_, cond, true≢false}
+use mathlib.Core.Logic.{_⊎_, inl, inr}
 use mathlib.Core.Path.{_≡_, refl}
 
 -- where both of two tests are passed, the first is
@@ -13,6 +14,20 @@ and-left false b e = e
 pub and-right : (a b : Bool) → (a && b) ≡ true → b ≡ true
 and-right true b e = e
 and-right false b e = cc
+
+-- where the second of two tests is failed, not both are passed
+pub and-off : (a b : Bool) → b ≡ false → (a && b) ≡ false
+and-off true b e = e
+and-off false b e = refl
+
+-- where the first of two tests is passed, one of them is
+pub or-left : (a b : Bool) → a ≡ true → (a || b) ≡ true
+or-left a b e = rw e
+
+-- where one of two tests is passed, it is the first or the second
+pub or-cases : (a b : Bool) → (a || b) ≡ true → (a ≡ true) ⊎ (b ≡ true)
+or-cases true b e = inl refl
+or-cases false b e = inr e
 
 -- where the second of two tests is passed, one of them is
 pub or-right : (a b : Bool) → b ≡ true → (a || b) ≡ true
@@ -27,6 +42,15 @@ clash p q = let z : _≡_ {A = ℕ} 0 1 = cc in absurd (let y : ⊥ = omega arit
 pub either : {A : Type 0} (P : A → Type 0) (t : Bool) {x y : A} → (t ≡ true → P x) → (t ≡ false → P y) → P (cond t x y)
 either P true {x} {y} f g = f refl
 either P false {x} {y} f g = g refl
+
+-- the same, whatever the test says
+pub picked : {A : Type 0} (P : A → Type 0) (t : Bool) (x y : A) → P x → P y → P (cond t x y)
+picked P t x y p q = either P t (λ e. p) (λ e. q)
+
+-- a test between a thing and itself
+pub cond-same : {A : Type 0} (b : Bool) (u : A) → cond b u u ≡ u
+cond-same true u = refl
+cond-same false u = refl
 
 -- where neither of two tests is true, the first is false
 pub or-first : (a b : Bool) → (a || b) ≡ false → a ≡ false

@@ -7,10 +7,10 @@ use native.Mathlib.Omega.{arith}
 use mathlib.Core.Path.{_≡_, refl, sym, ap, _∙_}
 use mathlib.Core.List.{List, [], _∷_, _++_}
 use lib.Arith.{mod-mul}
-use lib.ListN.{length, getD}
-use lib.Seq.{sets, drop-cons}
+use lib.ListN.{length, getD, take, drop, replicate}
+use lib.Seq.{sets, drop-cons, getD-drop}
 use Rattle.words.specs.Words.{wordAt, bytesOf, part, Bytes}
-use Rattle.words.proofs.Lists.{sets-append, getD-sets}
+use Rattle.words.proofs.Lists.{sets-append, getD-sets, part-cons}
 
 power-pos : (n : ℕ) → 0 < 256 ^ n
 power-pos n = one-le-pow n 256 (omega arith)
@@ -121,3 +121,65 @@ unfolding bytesOf
 two-bytes {x} h =
     let e : x / 256 % 256 ≡ x / 256 = omega arith in
     rw e
+
+-- the low two bytes of a number, stored over two zeros
+pub two-stored : (x : ℕ) → sets (replicate 2 0) 0 (bytesOf 2 (x % 65536)) ≡ bytesOf 2 x
+two-stored x = whole (x % 65536) ∙ bytes-low 2 x
+  where
+    whole : (a : ℕ) → sets (replicate 2 0) 0 (bytesOf 2 a) ≡ bytesOf 2 a
+    whole a = unfold bytesOf in refl
+
+-- a number cut to w bytes is stored in w bytes as the number itself
+pub low-stored : (image : List ℕ) (at size x w : ℕ) {y : ℕ} {new : List ℕ} → size ≡ w → y ≡ x % 256 ^ w
+    → new ≡ sets image at (bytesOf w y) → new ≡ sets image at (bytesOf size x)
+low-stored image at size x w e d b = b ∙ rw (d, bytes-low w x, e) refl
+
+-- a number stored in w bytes is stored in its size, where that is w
+pub all-stored : (image : List ℕ) (at size x w : ℕ) {new : List ℕ} → size ≡ w
+    → new ≡ sets image at (bytesOf w x) → new ≡ sets image at (bytesOf size x)
+all-stored image at size x w e b = b ∙ rw e refl
+
+-- a word of one byte is that byte
+pub word-one : (s : List ℕ) (at : ℕ) → wordAt 1 s at ≡ getD s at 0
+unfolding wordAt
+word-one s at = add-zero (getD s at 0)
+
+-- a word of four bytes, byte by byte
+pub word-four : (s : List ℕ) (at : ℕ) → wordAt 4 s at
+    ≡ getD s at 0 + 256 * getD s (at + 1) 0 + 65536 * getD s (at + 2) 0 + 16777216 * getD s (at + 3) 0
+unfolding wordAt
+word-four s at =
+    let two : at + 1 + 1 ≡ at + 2 = omega arith in
+    let three : at + 2 + 1 ≡ at + 3 = omega arith in
+    rw (two, three) (omega arith)
+
+-- the low byte of a word that is 0 or 1 is the word
+pub low-byte : (n : ℕ) (s : List ℕ) (at : ℕ) → wordAt (suc n) s at < 2 → getD s at 0 ≡ wordAt (suc n) s at
+unfolding wordAt
+low-byte n s at h = omega arith
+
+-- twelve bytes are four, one after the other, and a word of eight
+pub twelve : (s : List ℕ) (at : ℕ) → Bytes s → at + 12 ≤ length s
+    → part s at 12
+    ≡ getD s at 0 ∷ getD s (at + 1) 0 ∷ getD s (at + 2) 0 ∷ getD s (at + 3) 0 ∷ bytesOf 8 (wordAt 8 s (at + 4))
+twelve s at b h =
+    let a : at + 0 ≡ at = add-zero at in
+    let p : part s at 12 ≡ getD s at 0 ∷ part s (at + 1) 11 = rw a at (part-cons s at 12 0 0 (omega arith) h) in
+    p
+    ∙ rw (
+      part-cons s at 12 1 0 (omega arith) h,
+      part-cons s at 12 2 0 (omega arith) h,
+      part-cons s at 12 3 0 (omega arith) h,
+      bytes-back 8 s (at + 4) b (omega arith),
+    )
+
+take-bytes : (n : ℕ) (s : List ℕ) → Bytes s → Bytes (take n s)
+take-bytes zero s b k = omega arith
+take-bytes (suc n) [] b k = omega arith
+take-bytes (suc n) (x ∷ s) b zero = b 0
+take-bytes (suc n) (x ∷ s) b (suc k) = take-bytes n s (λ j. b (suc j)) k
+
+-- a part of a list of bytes is one
+pub part-bytes : (s : List ℕ) (a n : ℕ) → Bytes s → Bytes (part s a n)
+unfolding part
+part-bytes s a n b = take-bytes n (drop a s) (λ k. rw getD-drop (b (a + k)))

@@ -6,7 +6,7 @@ ghost use lib.ListN.{length};
 ghost use lib.Seq.{sets};
 ghost use Rattle.words.specs.Words.{bytesOf};
 
-// The low and the high byte of a word.
+// The low and the high half of a word.
 pub fn low8(x: u16) -> u8
     ensures { λ r. ⌜ r ≡ x % 256 ^ 1 ⌝ }
 {
@@ -31,13 +31,13 @@ fn high16(x: u32) -> u16
     (x / 0x1_0000) as u16
 }
 
-fn low32(x: u64) -> u32
+pub fn low32(x: u64) -> u32
     ensures { λ r. ⌜ r ≡ x % 256 ^ 4 ⌝ }
 {
     (x % 0x1_0000_0000) as u32
 }
 
-fn high32(x: u64) -> u32
+pub fn high32(x: u64) -> u32
     ensures { λ r. ⌜ r ≡ x / 256 ^ 4 ⌝ }
 {
     (x / 0x1_0000_0000) as u32

@@ -22,14 +22,14 @@ use Rattle.types.specs.declared.layout.placing.Cursor.{Cursor}
 use Rattle.types.specs.declared.layout.placing.Decl.{Decl}
 use Rattle.types.proofs.adding.AddLaws.{type-fits, string-fits}
 use Rattle.types.proofs.adding.AddStoreLaws.{declared-found, decls-able, decl-inside, decls-named, Roomy}
-use Rattle.types.proofs.adding.AddStoreLaws.{Counted}
+use Rattle.types.proofs.adding.AddStoreLaws.{PartsCounted}
 use Rattle.types.proofs.layout.BoundLaws.{type-count, type-names, type-most}
 use Rattle.types.proofs.layout.LaidOutLaws.{laid-passes}
 
 -- ---- strings
 
 -- two parts, with seven bytes of names
-pub string-counted : (name : List ℕ) (capacity n : ℕ) → Counted name (stringParts capacity) n 2 (length name + 7)
+pub string-counted : (name : List ℕ) (capacity n : ℕ) → PartsCounted name (stringParts capacity) n 2 (length name + 7)
 unfolding stringParts namesOf
 string-counted name capacity n =
     record { count = refl; long = length-append name _; fit = string-fits n capacity }
@@ -72,7 +72,7 @@ module _ {types names book tys : List ℕ} (new : NewType) (ready : Usable types
   names-long = type-names (new .aoi) (namedIn book) name ds c long (sym q) (decls-named d types)
 
   -- a measured type has as many parts and bytes of names as were measured, and rows can hold its parts
-  pub laid-counted : Bytes book → Counted name parts (new .used .types) (c .members) (length name + long)
+  pub laid-counted : Bytes book → PartsCounted name parts (new .used .types) (c .members) (length name + long)
   laid-counted b =
       record {
         count = type-count (new .aoi) (namedIn book) name ds c long (sym q);

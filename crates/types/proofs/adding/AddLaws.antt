@@ -35,7 +35,7 @@ use Rattle.types.proofs.tables.DefLaws.{PartFits, def-back}
 -- ---- the parts of every layout can be stored and read back
 
 -- a declared member whose access is a byte and whose type is one of the first n
-pub record Able (n : ℕ) (d : Decl) : Type 0 where
+pub record DeclAble (n : ℕ) (d : Decl) : Type 0 where
   pub access : d .access < 256
   pub earlier : Earlier n (d .ty)
 
@@ -59,7 +59,7 @@ hosts-fit n i zero = tt
 hosts-fit n i (suc h) = (record { bit = tt; access = omega arith; earlier = tt }, hosts-fit n (i + 1) h)
 
 module _ (n : ℕ) (name : Decl → List ℕ) (host : ℕ → List ℕ) where
-  parts-fit : (c : Cursor) (ds : List Decl) → Every (Able n) ds → Every (PartFits n) (partsFrom name host c ds)
+  parts-fit : (c : Cursor) (ds : List Decl) → Every (DeclAble n) ds → Every (PartFits n) (partsFrom name host c ds)
   unfolding partsFrom Every opened nextBit
   parts-fit c [] a = tt
   parts-fit c (d ∷ ds) (a, rest) =
@@ -77,7 +77,7 @@ module _ (n : ℕ) (name : Decl → List ℕ) (host : ℕ → List ℕ) where
         far = λ b l. tt;
       })
 
-module _ (n : ℕ) (name : Decl → List ℕ) (type : List ℕ) (ds : List Decl) (a : Every (Able n) ds) where
+module _ (n : ℕ) (name : Decl → List ℕ) (type : List ℕ) (ds : List Decl) (a : Every (DeclAble n) ds) where
   udt-fits : Every (PartFits n) (udtParts name type ds)
   unfolding udtParts
   udt-fits = parts-fit n name (hostName type) udtStart ds a
@@ -94,7 +94,7 @@ module _ (n : ℕ) (name : Decl → List ℕ) (type : List ℕ) (ds : List Decl)
       )
 
 -- rows can hold the parts of a UDT or AOI whose members have an access of one byte and earlier types
-pub type-fits : (aoi : Bool) (n : ℕ) (name : Decl → List ℕ) (type : List ℕ) (ds : List Decl) → Every (Able n) ds
+pub type-fits : (aoi : Bool) (n : ℕ) (name : Decl → List ℕ) (type : List ℕ) (ds : List Decl) → Every (DeclAble n) ds
     → Every (PartFits n) (partsOf aoi name type ds)
 type-fits true n name type ds a = aoi-fits n name type ds a
 type-fits false n name type ds a = udt-fits n name type ds a

@@ -35,7 +35,7 @@ use Rattle.types.specs.declared.refusals.refusal.Refusal.{Refusal}
 use Rattle.types.specs.declared.refusals.refusal.Refusal.the-variants.{TablesFull}
 use Rattle.types.specs.declared.tables.member.StructDef.{StructDef}
 use Rattle.types.specs.declared.tables.member.StructKind.{StructKind}
-use Rattle.types.proofs.adding.AddLaws.{Able, row-same, fitted-no, fitted-yes}
+use Rattle.types.proofs.adding.AddLaws.{DeclAble, row-same, fitted-no, fitted-yes}
 use Rattle.types.proofs.adding.RoomLaws.{room-bytes}
 use Rattle.types.proofs.layout.FoundLaws.{decl-resolved, all-named}
 use Rattle.types.proofs.tables.DefLaws.{PartFits, earlier-fits, head-readable}
@@ -53,7 +53,7 @@ module _ {book tys : List ℕ} {known at n : ℕ} (d : Declared book tys known a
       }
 
   module _ (types : List ℕ) where
-    decl-able : Bytes book → (k : ℕ) → k < n → Able known (declAt types book tys at k)
+    decl-able : Bytes book → (k : ℕ) → k < n → DeclAble known (declAt types book tys at k)
     unfolding declAt resolved
     decl-able b k l =
         record {
@@ -61,13 +61,13 @@ module _ {book tys : List ℕ} {known at n : ℕ} (d : Declared book tys known a
           earlier = decl-resolved types book tys at known k (d .earlier k l) .earlier;
         }
 
-    all-able : Bytes book → (k m : ℕ) → k + m ≤ n → Every (Able known) (declsFrom types book tys at k m)
+    all-able : Bytes book → (k m : ℕ) → k + m ≤ n → Every (DeclAble known) (declsFrom types book tys at k m)
     unfolding declsFrom Every
     all-able b k zero l = tt
     all-able b k (suc m) l = (decl-able b k (omega arith), all-able b (k + 1) m (omega arith))
 
     -- each declared member's access is a byte, and its type is an earlier one
-    pub decls-able : Bytes book → Every (Able known) (declsFrom types book tys at 0 n)
+    pub decls-able : Bytes book → Every (DeclAble known) (declsFrom types book tys at 0 n)
     decls-able b = all-able b 0 n (omega arith)
 
     -- their names lie in the book
@@ -105,13 +105,13 @@ roomy u members bytes e =
 -- ---- a new type is stored
 
 -- a type's name and parts, counted: so many parts, so many bytes of names, and rows can hold them after n types
-pub record Counted (name : List ℕ) (parts : List Part) (n k l : ℕ) : Type 0 where
+pub record PartsCounted (name : List ℕ) (parts : List Part) (n k l : ℕ) : Type 0 where
   pub count : length parts ≡ k
   pub long : length (name ++ namesOf parts) ≡ l
   pub fit : Every (PartFits n) parts
 
 module _ (types members names : List ℕ) (u : Used) {name : List ℕ} {parts : List Part} {count long : ℕ}
-    (p : Counted name parts (u .types) count long) (id size : ℕ) (kind : StructKind) {r : Bool}
+    (p : PartsCounted name parts (u .types) count long) (id size : ℕ) (kind : StructKind) {r : Bool}
     (e : r ≡ hasRoom u count long) where
   abbrev new : Def
   new = newDef (viewIn types names u) name id size kind parts
@@ -178,7 +178,7 @@ module _ (types members names : List ℕ) (u : Used) {name : List ℕ} {parts : 
 
 -- a type for which the tables are ready is stored: its name, parts and row
 module _ (types members names : List ℕ) (u : Used) {name : List ℕ} {parts : List Part} {k l : ℕ}
-    (p : Counted name parts (u .types) k l) (id size : ℕ) (kind : StructKind)
+    (p : PartsCounted name parts (u .types) k l) (id size : ℕ) (kind : StructKind)
     (ready : Ready types members names u k l) where
   ready-room : true ≡ hasRoom u k l
   ready-room =

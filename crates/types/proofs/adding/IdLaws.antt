@@ -166,25 +166,25 @@ InRange InUse = Unit {0}
 InRange NoneFree = Unit {0}
 
 -- and so does one of m ids from k on
-abbrev From : ℕ → ℕ → Picked → Type 0
-From k m (Free id) = (k ≤ id) × (id < k + m)
-From k m OutsideRange = Unit {0}
-From k m InUse = Unit {0}
-From k m NoneFree = Unit {0}
+abbrev AmongIds : ℕ → ℕ → Picked → Type 0
+AmongIds k m (Free id) = (k ≤ id) × (id < k + m)
+AmongIds k m OutsideRange = Unit {0}
+AmongIds k m InUse = Unit {0}
+AmongIds k m NoneFree = Unit {0}
 
-from-more : (k m : ℕ) (p : Picked) → From (k + 1) m p → From k (suc m) p
+from-more : (k m : ℕ) (p : Picked) → AmongIds (k + 1) m p → AmongIds k (suc m) p
 from-more k m (Free id) (a, b) = (omega arith, omega arith)
 from-more k m OutsideRange a = tt
 from-more k m InUse a = tt
 from-more k m NoneFree a = tt
 
-from-range : (ids : List ℕ) (k m : ℕ) → From k m (lowestFrom ids k m)
+from-range : (ids : List ℕ) (k m : ℕ) → AmongIds k m (lowestFrom ids k m)
 unfolding lowestFrom
 from-range ids k zero = tt
 from-range ids k (suc m) = go (inUse k ids) (from-more k m (lowestFrom ids (k + 1) m) (from-range ids (k + 1) m))
   where
-    go : (b : Bool) → From k (suc m) (lowestFrom ids (k + 1) m)
-        → From k (suc m) (cond b (lowestFrom ids (k + 1) m) (Free k))
+    go : (b : Bool) → AmongIds k (suc m) (lowestFrom ids (k + 1) m)
+        → AmongIds k (suc m) (cond b (lowestFrom ids (k + 1) m) (Free k))
     go true rest = rest
     go false rest = (omega arith, omega arith)
 
@@ -202,35 +202,35 @@ picked-range ids true id = go (leb 0x100 id && leb id 0xEFF) refl (inUse id ids)
     go false e u = tt
 picked-range ids false id = go (lowestFrom ids 0x100 0xE00) (from-range ids 0x100 0xE00)
   where
-    go : (p : Picked) → From 0x100 0xE00 p → InRange p
+    go : (p : Picked) → AmongIds 0x100 0xE00 p → InRange p
     go (Free k) (a, b) = (a, omega arith)
     go OutsideRange a = tt
     go InUse a = tt
     go NoneFree a = tt
 
 -- and no type holds it
-abbrev pub Unheld : List ℕ → Picked → Type 0
-Unheld ids (Free id) = inUse id ids ≡ false
-Unheld ids OutsideRange = Unit {0}
-Unheld ids InUse = Unit {0}
-Unheld ids NoneFree = Unit {0}
+abbrev pub IdUnheld : List ℕ → Picked → Type 0
+IdUnheld ids (Free id) = inUse id ids ≡ false
+IdUnheld ids OutsideRange = Unit {0}
+IdUnheld ids InUse = Unit {0}
+IdUnheld ids NoneFree = Unit {0}
 
-from-unheld : (ids : List ℕ) (k m : ℕ) → Unheld ids (lowestFrom ids k m)
+from-unheld : (ids : List ℕ) (k m : ℕ) → IdUnheld ids (lowestFrom ids k m)
 unfolding lowestFrom
 from-unheld ids k zero = tt
 from-unheld ids k (suc m) = go (inUse k ids) refl (from-unheld ids (k + 1) m)
   where
-    go : (b : Bool) → inUse k ids ≡ b → Unheld ids (lowestFrom ids (k + 1) m)
-        → Unheld ids (cond b (lowestFrom ids (k + 1) m) (Free k))
+    go : (b : Bool) → inUse k ids ≡ b → IdUnheld ids (lowestFrom ids (k + 1) m)
+        → IdUnheld ids (cond b (lowestFrom ids (k + 1) m) (Free k))
     go true e rest = rest
     go false e rest = e
 
 -- an id that is picked is held by no type
-pub picked-unheld : (ids : List ℕ) (given : Bool) (id : ℕ) → Unheld ids (idFor ids given id)
+pub picked-unheld : (ids : List ℕ) (given : Bool) (id : ℕ) → IdUnheld ids (idFor ids given id)
 unfolding idFor lowestFree
 picked-unheld ids true id = go (leb 0x100 id && leb id 0xEFF) (inUse id ids) refl
   where
-    go : (b u : Bool) → inUse id ids ≡ u → Unheld ids (cond b (cond u InUse (Free id)) OutsideRange)
+    go : (b u : Bool) → inUse id ids ≡ u → IdUnheld ids (cond b (cond u InUse (Free id)) OutsideRange)
     go true true e = tt
     go true false e = e
     go false u e = tt

@@ -1,6 +1,6 @@
 -- Laws of the room in the tables (document 01, refusal 13): one test after the other.
 use Prim.Native.Nat.{ℕ, _+_, _<_, _≤_}
-use mathlib.Core.Path.{_≡_, _∙_}
+use mathlib.Core.Path.{_≡_}
 use mathlib.Core.Bool.{false}
 use borrow.Author.Tests.{lt-ltb, le-ltb, le-leb, lt-leb}
 use lib.Dec.{leb}
@@ -24,8 +24,3 @@ module _ (u : Used) (members bytes : ℕ) where
     pub room-bytes : u .members + members ≤ mostMembers → leb (u .bytes + bytes) mostNames ≡ hasRoom u members bytes
     unfolding hasRoom
     room-bytes h = simp (lt-ltb _ _ l, le-leb _ _ h)
-
--- what was computed of two counts is that of the same two counts
-pub same-counts : {A : Type 0} (f : ℕ → ℕ → A) (k : ℕ) {r : A} {a b c d : ℕ} → r ≡ f a (k + b) → a ≡ c → b ≡ d
-    → r ≡ f c (k + d)
-same-counts f k e p q = e ∙ rw (p, q)

@@ -43,10 +43,10 @@ use Rattle.types.specs.declared.layout.placing.Decl.{Decl}
 use Rattle.types.specs.declared.tables.member.StructKind.{StructKind}
 use Rattle.types.specs.declared.tables.member.StructKind.the-variants.{Predefined, Str}
 use Rattle.types.specs.declared.tables.member.Ty.{Ty}
-use Rattle.types.proofs.adding.AddLaws.{Able, type-fits, string-fits}
+use Rattle.types.proofs.adding.AddLaws.{DeclAble, type-fits, string-fits}
 use Rattle.types.proofs.adding.AddStoreLaws.{Roomy, roomy}
 use Rattle.types.proofs.adding.AddTypeLaws.{string-least, string-most as string-room}
-use Rattle.types.proofs.adding.IdLaws.{InRange, picked-range, Unheld, picked-unheld}
+use Rattle.types.proofs.adding.IdLaws.{InRange, picked-range, IdUnheld, picked-unheld}
 use Rattle.types.proofs.book.DeclLaws.{align-fair}
 use Rattle.types.proofs.layout.BoundLaws.{type-count, type-most, string-most}
 use Rattle.types.proofs.layout.FoundLaws.{stored-earlier}
@@ -54,55 +54,55 @@ use Rattle.types.proofs.layout.LaidLaws.{type-laid, string-laid}
 use Rattle.types.proofs.layout.LaidOutLaws.{both, laid-passes}
 use Rattle.types.proofs.layout.PartLaws.{PartFormed, NamedDecls, NamedEntries, type-formed, string-formed}
 use Rattle.types.proofs.layout.PartLaws.{checked-named}
-use Rattle.types.proofs.layout.StringLaws.{IsString, string-is, other-kind, no-string}
+use Rattle.types.proofs.layout.StringLaws.{StringParts, string-is, other-kind, no-string}
 use Rattle.types.proofs.rounds.ResolveLaws.{found-earlier}
 use Rattle.types.proofs.tables.DefLaws.{PartFits}
 use Rattle.types.proofs.tables.ProperLaws.{Proper, user-inside, not-predefined, declared-kind}
-use Rattle.types.proofs.tables.ShownLaws.{Shown, Fits}
+use Rattle.types.proofs.tables.ShownLaws.{TablesShow, FitsRegistry}
 use Rattle.types.proofs.templates.HandleLaws.{handle-small}
 
 -- ---- the ways out of adding
 
 -- what a type that is added has: the name, an id in the range, both new, room in the tables, and a handle of 16 bits;
 -- its parts can be stored where the declared members can
-pub record Made (v : View) (s : List ℕ) (ds : List Decl) (d : Def) : Type 0 where
+pub record TypeMade (v : View) (s : List ℕ) (ds : List Decl) (d : Def) : Type 0 where
   pub name : d .name ≡ s
   pub id : (0x100 ≤ d .id) × (d .id ≤ 0xEFF)
   pub handle : d .handle < 65536
   pub room : Roomy (usedIn v) (length (d .parts)) (length (ownNames d))
-  pub parts : (n : ℕ) → Every (Able n) ds → Every (PartFits n) (d .parts)
+  pub parts : (n : ℕ) → Every (DeclAble n) ds → Every (PartFits n) (d .parts)
   pub laid : (n : ℕ) → Every (Resolved (sizeAt v) n) ds → Lies (sizeAt v) n (d .size) (d .parts)
   pub most : d .size ≤ mostSize + 224
   pub good : goodName s ≡ true
   pub formed : Every PartFormed (d .parts)
   pub kind : d .kind ≡ Predefined → ⊥
-  pub string : d .kind ≡ Str → IsString (d .size) (d .parts)
+  pub string : d .kind ≡ Str → StringParts (d .size) (d .parts)
   pub unheld : inUse (d .id) (v .ids) ≡ false
   pub unknown : isFound (typeAmong (v .names) s) ≡ false
 
 -- a refusal is not 10, or the type is made so
-abbrev pub Judged : View → List ℕ → List Decl → Verdict → Type 0
-Judged v name ds (no r) = r .0 ≡ 10 → ⊥
-Judged v name ds (yes d) = Made v name ds d
+abbrev pub VerdictMade : View → List ℕ → List Decl → Verdict → Type 0
+VerdictMade v name ds (no r) = r .0 ≡ 10 → ⊥
+VerdictMade v name ds (yes d) = TypeMade v name ds d
 
 module _ (v : View) (book : List ℕ) (i at : ℕ) (e : TypeEntry) (name : List ℕ) (ds : List Decl)
     (named : NamedEntries book (entriesFrom book at 0 (e .count)) → NamedDecls book ds) where
-  abbrev Ends : Verdict → Type 0
-  Ends s = Judged v name ds s
+  abbrev VerdictEnds : Verdict → Type 0
+  VerdictEnds s = VerdictMade v name ds s
 
   module _ (good : goodName name ≡ true) (new : isFound (typeAmong (v .names) name) ≡ false) (id : ℕ)
-      (range : InRange (Free id)) (free : Unheld (v .ids) (Free id)) where
+      (range : InRange (Free id)) (free : IdUnheld (v .ids) (Free id)) where
     fitted-ends : (size : ℕ) (kind : StructKind) (parts : List Part)
-        → ((n : ℕ) → Every (Able n) ds → Every (PartFits n) parts)
+        → ((n : ℕ) → Every (DeclAble n) ds → Every (PartFits n) parts)
         → ((n : ℕ) → Every (Resolved (sizeAt v) n) ds → Lies (sizeAt v) n size parts)
         → (length parts ≤ mostMembers → size ≤ mostSize + 224)
         → Every PartFormed parts
-        → (kind ≡ Str → IsString size parts)
+        → (kind ≡ Str → StringParts size parts)
         → (kind ≡ Predefined → ⊥)
-        → Ends (fitted v i (newDef v name id size kind parts))
+        → VerdictEnds (fitted v i (newDef v name id size kind parts))
     unfolding fitted newDef
     fitted-ends size kind parts f g h k s p =
-        either Ends (hasRoom (usedIn v) (length parts) (length (ownNames (newDef v name id size kind parts))))
+        either VerdictEnds (hasRoom (usedIn v) (length parts) (length (ownNames (newDef v name id size kind parts))))
         (λ q. record {
           name = refl;
           id = range;
@@ -121,7 +121,7 @@ module _ (v : View) (book : List ℕ) (i at : ℕ) (e : TypeEntry) (name : List 
         (λ q z. omega arith)
 
     -- 11, 12
-    laid-ends : (aoi : Bool) → NamedDecls book ds → Ends (addLaid v book i aoi name id ds)
+    laid-ends : (aoi : Bool) → NamedDecls book ds → VerdictEnds (addLaid v book i aoi name id ds)
     unfolding addLaid
     laid-ends aoi a =
         rw (laid-passes aoi (namedIn book) name ds)
@@ -134,21 +134,22 @@ module _ (v : View) (book : List ℕ) (i at : ℕ) (e : TypeEntry) (name : List 
       where
         go : (m : Measured)
             → ((c : Cursor) (n : ℕ) → m ≡ Came c n
-            → Ends (fitted v i (newDef v name id (sizeOf c) (laidKind aoi) (partsOf aoi (namedIn book) name ds))))
-            → Ends (onLaid (both (partsOf aoi (namedIn book) name ds) m) i
+            → VerdictEnds (fitted v i (newDef v name id (sizeOf c) (laidKind aoi)
+            (partsOf aoi (namedIn book) name ds))))
+            → VerdictEnds (onLaid (both (partsOf aoi (namedIn book) name ds) m) i
             (λ parts size. fitted v i (newDef v name id size (laidKind aoi) parts)))
         go (Came c n) f = f c n refl
         go accessWrong f = λ z. omega arith
         go tooFar f = λ z. omega arith
 
     -- per member 2, 8, 9
-    checked-ends : (c : Checked) (k : Verdict) → (c ≡ Good → Ends k) → Ends (onChecked c i k)
+    checked-ends : (c : Checked) (k : Verdict) → (c ≡ Good → VerdictEnds k) → VerdictEnds (onChecked c i k)
     checked-ends Good k f = f refl
     checked-ends NameWrong k f = λ z. omega arith
     checked-ends Twice k f = λ z. omega arith
     checked-ends LocalOutside k f = λ z. omega arith
 
-    members-ends : (aoi : Bool) → Ends (addMembers v book i at (e .count) aoi name id ds)
+    members-ends : (aoi : Bool) → VerdictEnds (addMembers v book i at (e .count) aoi name id ds)
     unfolding addMembers
     members-ends aoi =
         checked-ends (checked book aoi [] (entriesFrom book at 0 (e .count))) _
@@ -156,41 +157,41 @@ module _ (v : View) (book : List ℕ) (i at : ℕ) (e : TypeEntry) (name : List 
         laid-ends aoi a)
 
     -- 7
-    string-ends : Ends (addString v i e name id)
+    string-ends : VerdictEnds (addString v i e name id)
     unfolding addString
     string-ends =
-        either Ends (stringOk e)
+        either VerdictEnds (stringOk e)
         (λ q. fitted-ends _ Str _ (λ n a. string-fits n (e .string)) (λ n r. string-laid (sizeAt v) n (e .string)
         (string-least e q))
         (λ l. omega (arith, string-most (e .string) (string-room e q))) (string-formed (e .string))
         (λ k. string-is (e .string)) (not-predefined Str refl))
         (λ q z. omega arith)
 
-    named-ends : Ends (addNamed v book i at e name id ds)
+    named-ends : VerdictEnds (addNamed v book i at e name id ds)
     unfolding addNamed
-    named-ends = either Ends (isString e) (λ q. string-ends) (λ q. members-ends (isAoi e))
+    named-ends = either VerdictEnds (isString e) (λ q. string-ends) (λ q. members-ends (isAoi e))
 
   -- 4, 5, 6
-  picked-ends : (p : Picked) (k : ℕ → Verdict) → InRange p → Unheld (v .ids) p
-      → ((id : ℕ) → InRange (Free id) → Unheld (v .ids) (Free id) → Ends (k id)) → Ends (onId p i k)
+  picked-ends : (p : Picked) (k : ℕ → Verdict) → InRange p → IdUnheld (v .ids) p
+      → ((id : ℕ) → InRange (Free id) → IdUnheld (v .ids) (Free id) → VerdictEnds (k id)) → VerdictEnds (onId p i k)
   picked-ends (Free id) k range free f = f id range free
   picked-ends OutsideRange k range free f = λ z. omega arith
   picked-ends InUse k range free f = λ z. omega arith
   picked-ends NoneFree k range free f = λ z. omega arith
 
   fresh-ends : goodName name ≡ true → isFound (typeAmong (v .names) name) ≡ false
-      → Ends (addFresh v book i at e name ds)
+      → VerdictEnds (addFresh v book i at e name ds)
   unfolding addFresh
   fresh-ends good new =
       picked-ends (idFor (v .ids) (hasId e) (e .id)) _ (picked-range (v .ids) (hasId e) (e .id))
       (picked-unheld (v .ids) (hasId e) (e .id)) (named-ends good new)
 
   -- 2, 3
-  pub entry-ends : Ends (addEntry v book i at e name ds)
+  pub entry-ends : VerdictEnds (addEntry v book i at e name ds)
   unfolding addEntry
   entry-ends =
-      either Ends (goodName name)
-      (λ q. either Ends (isFound (typeAmong (v .names) name)) (λ r z. omega arith)
+      either VerdictEnds (goodName name)
+      (λ q. either VerdictEnds (isFound (typeAmong (v .names) name)) (λ r z. omega arith)
       (λ r. fresh-ends q r))
       (λ q z. omega arith)
 
@@ -204,21 +205,21 @@ entries-small book at j (suc n) b =
 
 -- each is of a type that was found among the names
 decl-able : (v : View) (e : MemberEntry) (s : List ℕ) (ty : Ty) → e .access < 256 → typeAmong (v .names) s ≡ Is ty
-    → Able (length (v .names)) (declared (sizeAt v) ty e)
+    → DeclAble (length (v .names)) (declared (sizeAt v) ty e)
 unfolding resolved
 decl-able v e s ty a q =
     record { access = a; earlier = stored-earlier _ ty (e .dim) (found-earlier (v .names) s ty q) }
 
 decls-able : (v : View) (book : List ℕ) (es : List MemberEntry) → Every (λ e. e .access < 256) es
-    → Every (Able (length (v .names))) (declsOf v book es)
+    → Every (DeclAble (length (v .names))) (declsOf v book es)
 unfolding declsOf Every
 decls-able v book [] a = tt
 decls-able v book (e ∷ es) (a, rest) =
     go (typeAmong (v .names) (nameIn book (e .ty))) refl (decls-able v book es rest)
   where
     go : (f : FoundTy) → typeAmong (v .names) (nameIn book (e .ty)) ≡ f
-        → Every (Able (length (v .names))) (declsOf v book es)
-        → Every (Able (length (v .names))) (thenDecl f (λ ty. declared (sizeAt v) ty e) (declsOf v book es))
+        → Every (DeclAble (length (v .names))) (declsOf v book es)
+        → Every (DeclAble (length (v .names))) (thenDecl f (λ ty. declared (sizeAt v) ty e) (declsOf v book es))
     go (Is ty) q ih = (decl-able v e (nameIn book (e .ty)) ty a q, ih)
     go Nothing q ih = tt
 
@@ -241,14 +242,14 @@ module _ (book : List ℕ) (ds : List Def) (i : ℕ) where
   abbrev entries : List MemberEntry
   entries = entriesFrom book (entriesAt book i) 0 (countOf book i)
 
-  verdict-ends : Judged (viewOf ds) (nameIn book (typeEntry book i .name)) (declsOf (viewOf ds) book entries)
+  verdict-ends : VerdictMade (viewOf ds) (nameIn book (typeEntry book i .name)) (declsOf (viewOf ds) book entries)
       (verdictOn book (viewOf ds) i)
   unfolding verdictOn
   verdict-ends =
       entry-ends (viewOf ds) book i (entriesAt book i) (typeEntry book i) _ _ (decls-named (viewOf ds) book entries)
 
   verdict-made : (d : Def) → verdictOn book (viewOf ds) i ≡ yes d
-      → Made (viewOf ds) (nameIn book (typeEntry book i .name)) (declsOf (viewOf ds) book entries) d
+      → TypeMade (viewOf ds) (nameIn book (typeEntry book i .name)) (declsOf (viewOf ds) book entries) d
   verdict-made d e = rw e at verdict-ends
 
   -- the name is that of the entry
@@ -262,8 +263,8 @@ module _ (book : List ℕ) (ds : List Def) (i : ℕ) where
       z refl
 
 -- a type that is added fits into the registry
-pub verdict-fits : (book : List ℕ) (ds : List Def) (i : ℕ) (d : Def) → Bytes book → Shown ds
-    → verdictOn book (viewOf ds) i ≡ yes d → Fits ds d
+pub verdict-fits : (book : List ℕ) (ds : List Def) (i : ℕ) (d : Def) → Bytes book → TablesShow ds
+    → verdictOn book (viewOf ds) i ≡ yes d → FitsRegistry ds d
 unfolding viewOf
 verdict-fits book ds i d b s e =
     let m = verdict-made book ds i d e in
@@ -332,7 +333,7 @@ module _ (book : List ℕ) (ds : List Def) (i : ℕ) (d : Def) (e : verdictOn bo
       }
 
   -- and a string where its kind says so
-  pub verdict-string : d .kind ≡ Str → IsString (d .size) (d .parts)
+  pub verdict-string : d .kind ≡ Str → StringParts (d .size) (d .parts)
   verdict-string = verdict-made book ds i d e .string
 
   -- its id and its name are those of no earlier type

@@ -10,7 +10,7 @@ use borrow.Author.Tests.{eq-eqb, ne-eqb, eqb-true, le-leb, lt-leb, leb-true}
 use lib.Dec.{eqb, leb}
 use lib.ListN.{length, getD, drop, drop-of-length-le}
 use lib.Seq.{drop-cons}
-use Rattle.words.proofs.TestLaws.{and-left, and-right}
+use Rattle.words.proofs.TestLaws.{and-left, and-right, and-off}
 use Rattle.types.specs.book.Names.{lowerOf, sameName, nameByte, nameBytes, goodName}
 
 -- ---- small letters
@@ -39,10 +39,6 @@ same-on x y xs ys e = simp (eq-eqb _ _ e)
 same-off : (x y : ℕ) (xs ys : List ℕ) → (lowerOf x ≡ lowerOf y → ⊥) → sameName (x ∷ xs) (y ∷ ys) ≡ false
 unfolding sameName
 same-off x y xs ys e = simp (ne-eqb _ _ e)
-
-and-off : (a b : Bool) → b ≡ false → (a && b) ≡ false
-and-off true b e = e
-and-off false b e = refl
 
 -- names of two lengths differ
 pub same-long : (xs ys : List ℕ) → (length xs ≡ length ys → ⊥) → sameName xs ys ≡ false

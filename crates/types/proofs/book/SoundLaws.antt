@@ -60,7 +60,7 @@ member-names start end e q =
 -- ---- the whole
 
 -- entries and their names lie in the book, and the types' counts sum to the number of its members
-pub record Sound (book : List ℕ) : Type 0 where
+pub record BookSound (book : List ℕ) : Type 0 where
   pub room : bodiesAt book ≤ length book
   pub types : (i : ℕ) → i < typesIn book → typeEntry book i .name .at + typeEntry book i .name .long ≤ length book
   pub names : (k : ℕ) → k < membersIn book
@@ -70,7 +70,7 @@ pub record Sound (book : List ℕ) : Type 0 where
   pub sums : sumCounts (typeEntries book) ≡ membersIn book
 
 -- a book that is well formed is sound
-pub sound : (book : List ℕ) → bookOk book ≡ true → Sound book
+pub sound : (book : List ℕ) → bookOk book ≡ true → BookSound book
 unfolding bookOk
 sound book q =
     let start = bodiesAt book in
@@ -121,7 +121,7 @@ pub entries-next : (book : List ℕ) (i : ℕ) → entriesAt book i + 16 * count
 unfolding entriesAt
 entries-next book i = omega (arith, first-next book i)
 
-module _ {book : List ℕ} (s : Sound book) {i : ℕ} (l : i < typesIn book) where
+module _ {book : List ℕ} (s : BookSound book) {i : ℕ} (l : i < typesIn book) where
   -- the members of the i-th type are among all
   pub among-all : firstMember book i + countOf book i ≤ membersIn book
   unfolding firstMember

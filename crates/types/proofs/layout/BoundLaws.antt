@@ -20,7 +20,7 @@ use Rattle.types.specs.declared.layout.placing.Decl.{Decl}
 use Rattle.types.specs.declared.layout.placing.Host.{Host}
 use Rattle.types.specs.declared.layout.placing.Host.the-variants.{Closed, Open, Shared}
 use Rattle.types.specs.declared.layout.placing.Placed.{Placed}
-use Rattle.types.proofs.layout.PlaceLaws.{Full, place-cases, Ends, no-access, no-far}
+use Rattle.types.proofs.layout.PlaceLaws.{Full, place-cases, LayoutEnds, no-access, no-far}
 use Rattle.types.proofs.layout.StoreLaws.{names-append}
 
 -- ---- the counts
@@ -36,7 +36,7 @@ module _ (name : Decl → List ℕ) (host : ℕ → List ℕ) (e : Cursor) (n′
   unfolding measured partsFrom opened nextBit
   parts-count c n [] q = let z : c ≡ e = cc in rw z (omega arith)
   parts-count c n (d ∷ ds) q =
-      place-cases (λ p. Ends host e n′ c n d ds p → c .members + length (after c d ds p) ≡ e .members) c d
+      place-cases (λ p. LayoutEnds host e n′ c n d ds p → c .members + length (after c d ds p) ≡ e .members) c d
       (record {
         wrong = λ a r. no-access r;
         opens = λ b f r. omega (arith, parts-count _ _ ds r);
@@ -53,7 +53,7 @@ module _ (name : Decl → List ℕ) (host : ℕ → List ℕ) (e : Cursor) (n′
   unfolding measured partsFrom opened nextBit namesOf Every
   names-count c n [] l q = let z : n ≡ n′ = cc in omega arith
   names-count c n (d ∷ ds) (l, ls) q =
-      place-cases (λ p. Ends host e n′ c n d ds p → n + length (namesOf (after c d ds p)) ≡ n′) c d
+      place-cases (λ p. LayoutEnds host e n′ c n d ds p → n + length (namesOf (after c d ds p)) ≡ n′) c d
       (record {
         wrong = λ a r. no-access r;
         opens = λ b f r. simp length-append (omega (arith, names-count _ _ ds ls r));
@@ -129,15 +129,15 @@ spare-most (Open byte bit) = omega arith
 spare-most (Shared i) = omega arith
 
 -- opening a host past 2^26 costs nine members in the end: itself, and the eight bits of which some may be left
-abbrev Near : Cursor → Type 0
-Near c = 9 * c .offset ≤ 9 * mostSize + (c .members + spare (c .host))
+abbrev NearEnd : Cursor → Type 0
+NearEnd c = 9 * c .offset ≤ 9 * mostSize + (c .members + spare (c .host))
 
 module _ (host : ℕ → List ℕ) (e : Cursor) (n′ : ℕ) where
-  near : (c : Cursor) (n : ℕ) (ds : List Decl) → Near c → measured host c n ds ≡ Came e n′ → Near e
+  near : (c : Cursor) (n : ℕ) (ds : List Decl) → NearEnd c → measured host c n ds ≡ Came e n′ → NearEnd e
   unfolding measured opened nextBit
   near c n [] k q = let z : c ≡ e = cc in rw (← z) k
   near c n (d ∷ ds) k q =
-      place-cases (λ p. Ends host e n′ c n d ds p → Near e) c d
+      place-cases (λ p. LayoutEnds host e n′ c n d ds p → NearEnd e) c d
       (record {
         wrong = λ a r. no-access r;
         opens = λ b f r. near _ _ ds (omega (arith, spare-full (c .host) f)) r;
@@ -149,7 +149,7 @@ module _ (host : ℕ → List ℕ) (e : Cursor) (n′ : ℕ) where
       q
 
   -- 2,000 members are at most 222 hosts of nine and one of two past 2^26
-  size-most : (c : Cursor) (n : ℕ) (ds : List Decl) → Near c → measured host c n ds ≡ Came e n′
+  size-most : (c : Cursor) (n : ℕ) (ds : List Decl) → NearEnd c → measured host c n ds ≡ Came e n′
       → e .members ≤ mostMembers
       → roundedSize e ≤ mostSize + 224
   unfolding alignUp

@@ -38,31 +38,31 @@ spareTo limit (Open byte bit) = 8 * byte + 8
 spareTo limit (Shared i) = limit
 
 -- the host lies before the offset, and an AOI's hosts have bits for all BOOLs to come
-pub record Ready (limit : ℕ) (c : Cursor) (ds : List Decl) : Type 0 where
+pub record HostReady (limit : ℕ) (c : Cursor) (ds : List Decl) : Type 0 where
   pub before : spareTo limit (c .host) ≤ 8 * c .offset
   pub enough : sharedBits (c .host) + bools ds ≤ limit
 
 -- none of the bits from `first` to below `past` is free
-pub record Used (limit : ℕ) (c : Cursor) (first past : ℕ) : Type 0 where
+pub record BitsUsed (limit : ℕ) (c : Cursor) (first past : ℕ) : Type 0 where
   pub before : past ≤ 8 * c .offset
   pub beside : (past ≤ spareFrom (c .host)) ⊎ (spareTo limit (c .host) ≤ first)
 
 -- none of a member's bits is free
-abbrev pub Taken : (ℕ → ℕ) → ℕ → Cursor → Member → Type 0
-Taken sizes limit c m = Used limit c (firstBit m) (pastBit sizes m)
+abbrev pub BitsTaken : (ℕ → ℕ) → ℕ → Cursor → Member → Type 0
+BitsTaken sizes limit c m = BitsUsed limit c (firstBit m) (pastBit sizes m)
 
 -- ---- what a step does
 
 module _ (sizes : ℕ → ℕ) (limit i : ℕ) (c : Cursor) (ds : List Decl) where
   -- a visible member is placed, apart from all that were before; the cursor comes to c′ and has ds before it
-  pub record Step (m : Member) (c′ : Cursor) : Type 0 where
+  pub record MemberStep (m : Member) (c′ : Cursor) : Type 0 where
     pub earlier : Earlier i (m .ty)
     pub onward : c .offset ≤ c′ .offset
-    pub ready : Ready limit c′ ds
-    pub apart : (x : Member) → Taken sizes limit c x → Apart sizes x m
-    pub taken : Taken sizes limit c′ m
+    pub ready : HostReady limit c′ ds
+    pub apart : (x : Member) → BitsTaken sizes limit c x → Apart sizes x m
+    pub taken : BitsTaken sizes limit c′ m
     pub onto : Plain m → 8 * c .offset ≤ firstBit m
-    pub keeps : (first past : ℕ) → Used limit c first past → Used limit c′ first past
+    pub keeps : (first past : ℕ) → BitsUsed limit c first past → BitsUsed limit c′ first past
 
   -- a hidden host is placed
   pub record HostStep (h : Member) (c′ : Cursor) : Type 0 where
@@ -71,11 +71,11 @@ module _ (sizes : ℕ → ℕ) (limit i : ℕ) (c : Cursor) (ds : List Decl) whe
     pub inside : pastBit sizes h ≤ 8 * c′ .offset
 
   -- what a step places is placed so, its host too; nothing is asked of a refused step
-  abbrev pub Stepped : Placed → Type 0
-  Stepped (Hosted h m c′) = HostStep h c′ × Step m c′
-  Stepped (One m c′) = Step m c′
-  Stepped AccessWrong = Unit {0}
-  Stepped TooFar = Unit {0}
+  abbrev pub PlacedStep : Placed → Type 0
+  PlacedStep (Hosted h m c′) = HostStep h c′ × MemberStep m c′
+  PlacedStep (One m c′) = MemberStep m c′
+  PlacedStep AccessWrong = Unit {0}
+  PlacedStep TooFar = Unit {0}
 
 -- ---- its parts
 
@@ -128,9 +128,9 @@ record Takes (limit : ℕ) (h : Host) (at : ℕ) (h′ : Host) : Type 0 where
 -- ---- the ways that it can go
 
 module _ {sizes : ℕ → ℕ} {limit i : ℕ} {c : Cursor} {d : Decl} {ds : List Decl}
-    (k : Ready limit c (d ∷ ds)) (r : Resolved sizes i d) where
+    (k : HostReady limit c (d ∷ ds)) (r : Resolved sizes i d) where
   -- a host opens
-  opens : isBool (d .ty) ≡ true → Stepped sizes limit i c ds (opened c d)
+  opens : isBool (d .ty) ≡ true → PlacedStep sizes limit i c ds (opened c d)
   unfolding opened sizeOf times
   opens b = (
     record { hidden = refl; earlier = tt; inside = omega arith },
@@ -147,7 +147,7 @@ module _ {sizes : ℕ → ℕ} {limit i : ℕ} {c : Cursor} {d : Decl} {ds : Lis
 
   -- a BOOL takes a bit of a host that stands already
   takes : (byte bit : ℕ) (h : Host) → Takes limit (c .host) (8 * byte + bit) h → sharedBits h + bools ds ≤ limit
-      → Stepped sizes limit i c ds (nextBit c d byte bit h)
+      → PlacedStep sizes limit i c ds (nextBit c d byte bit h)
   unfolding nextBit
   takes byte bit h t n =
       record {
@@ -162,7 +162,7 @@ module _ {sizes : ℕ → ℕ} {limit i : ℕ} {c : Cursor} {d : Decl} {ds : Lis
       }
 
   -- any other member
-  others : isBool (d .ty) ≡ false → Stepped sizes limit i c ds (One (otherAt d (startOf c d)) (pastOther c d))
+  others : isBool (d .ty) ≡ false → PlacedStep sizes limit i c ds (One (otherAt d (startOf c d)) (pastOther c d))
   unfolding endOf startOf
   others b =
       let a = align-least (c .offset) (d .align) (r .align) in
@@ -179,9 +179,9 @@ module _ {sizes : ℕ → ℕ} {limit i : ℕ} {c : Cursor} {d : Decl} {ds : Lis
       }
 
   -- every step; the j-th BOOL of an AOI is bit j
-  pub steps : Stepped sizes limit i c ds (placed c d)
+  pub steps : PlacedStep sizes limit i c ds (placed c d)
   steps =
-      place-cases (Stepped sizes limit i c ds) c d
+      place-cases (PlacedStep sizes limit i c ds) c d
       (record {
         wrong = λ a. tt;
         opens = λ b f. opens b;

@@ -25,9 +25,10 @@ use Rattle.types.specs.declared.layout.placing.Placed.{Placed}
 use Rattle.types.specs.declared.layout.placing.Placed.the-variants.{Hosted, One, AccessWrong, TooFar}
 use Rattle.types.specs.declared.tables.member.Bit.the-variants.{At}
 use Rattle.types.specs.declared.tables.member.Member.{Member}
-use Rattle.types.proofs.layout.FreeLaws.{Ready, Taken, Step, HostStep, Stepped, not-plain, steps}
+use Rattle.types.proofs.layout.FreeLaws.{HostReady, BitsTaken, MemberStep, HostStep, PlacedStep, not-plain}
+use Rattle.types.proofs.layout.FreeLaws.{steps}
 use Rattle.types.proofs.layout.LayoutLaws.{times-one, times-same}
-use Rattle.types.proofs.layout.PlaceLaws.{Ends, no-access, no-far}
+use Rattle.types.proofs.layout.PlaceLaws.{LayoutEnds, no-access, no-far}
 
 -- ---- declared members, one after the other
 
@@ -53,13 +54,13 @@ bool-rising sizes m k e ps = free-rising sizes m (λ v. not-plain e v) ps
 record Rest (sizes : ℕ → ℕ) (limit i size : ℕ) (c : Cursor) (ps : List Part) : Type 0 where
   room : c .offset ≤ size
   laid : Laid sizes i size ps
-  clear : (m : Member) → Taken sizes limit c m → Clear sizes m ps
+  clear : (m : Member) → BitsTaken sizes limit c m → Clear sizes m ps
   rising : (m : Member) → pastBit sizes m ≤ 8 * c .offset → Rising sizes m ps
 
 module _ {sizes : ℕ → ℕ} {limit i size : ℕ} {c c′ : Cursor} {ds : List Decl}
     {m : Member} {name : List ℕ} {ps : List Part} where
   -- a visible part before the others
-  one-more : Step sizes limit i c ds m c′ → Rest sizes limit i size c′ ps
+  one-more : MemberStep sizes limit i c ds m c′ → Rest sizes limit i size c′ ps
       → Rest sizes limit i size c (named name m ∷ ps)
   unfolding Laid Clear Rising
   one-more s r =
@@ -100,13 +101,14 @@ module _ {sizes : ℕ → ℕ} {limit i size : ℕ} {c c′ : Cursor} {ds : List
 
 module _ (sizes : ℕ → ℕ) (limit i size : ℕ) (name : Decl → List ℕ) (host : ℕ → List ℕ) (e : Cursor) (n : ℕ) where
   -- where the layout of these members ends at e, it is as said
-  abbrev Goes : List Decl → Type 0
-  Goes ds =
-      (c : Cursor) (n₀ : ℕ) → Ready limit c ds → measured host c n₀ ds ≡ Came e n
+  abbrev LaidFrom : List Decl → Type 0
+  LaidFrom ds =
+      (c : Cursor) (n₀ : ℕ) → HostReady limit c ds → measured host c n₀ ds ≡ Came e n
       → Rest sizes limit i size c (partsFrom name host c ds)
 
-  rest-then : (c : Cursor) (d : Decl) (n₀ : ℕ) (ds : List Decl) → Goes ds → (p : Placed) → Stepped sizes limit i c ds p
-      → Ends host e n c n₀ d ds p
+  rest-then : (c : Cursor) (d : Decl) (n₀ : ℕ) (ds : List Decl) → LaidFrom ds → (p : Placed)
+      → PlacedStep sizes limit i c ds p
+      → LayoutEnds host e n c n₀ d ds p
       → Rest sizes limit i size c (thenParts p (host (c .members)) (name d) (λ c′. partsFrom name host c′ ds))
   rest-then c d n₀ ds go (Hosted h m c′) (f, s) q =
       let r = go c′ _ (s .ready) q in
@@ -115,7 +117,7 @@ module _ (sizes : ℕ → ℕ) (limit i size : ℕ) (name : Decl → List ℕ) (
   rest-then c d n₀ ds go AccessWrong s q = no-access q
   rest-then c d n₀ ds go TooFar s q = no-far q
 
-  rest : (ds : List Decl) → Every (Resolved sizes i) ds → e .offset ≤ size → Goes ds
+  rest : (ds : List Decl) → Every (Resolved sizes i) ds → e .offset ≤ size → LaidFrom ds
   unfolding Every measured partsFrom Laid Clear Rising
   rest [] rs l c n₀ k q =
       let z : c ≡ e = cc in

@@ -1,7 +1,5 @@
 -- Laws of one step of a layout: a member's end, the ways out of placing, and what a step leaves.
-use Prim.Native.Nat.{ℕ, _+_, _-_, _*_, _/_, _^_, _≤_, _<_}
-use native.Mathlib.Nat.{mul-le-mul, div-mul-le-self}
-use native.Mathlib.Omega.{arith}
+use Prim.Native.Nat.{ℕ, _+_, _-_, _*_, _≤_, _<_}
 use mathlib.Core.Path.{_≡_, sym}
 use mathlib.Core.Bool.{true, false}
 use borrow.Author.Tests.{eq-eqb, ne-eqb, le-leb, lt-leb}
@@ -25,11 +23,6 @@ times-one n e = simp (eq-eqb n 0 e)
 pub times-same : (n : ℕ) → (n ≡ 0 → ⊥) → n ≡ times n
 unfolding times
 times-same n e = simp (ne-eqb n 0 e)
-
--- a product of two words of 32 bits leaves room in 64 for a third to be added
-pub product-most : {a b : ℕ} → a < 2 ^ 32 → b < 2 ^ 32 → a * b ≤ 0xFFFF_FFFE_0000_0001
-product-most {a} {b} h k =
-    mul-le-mul {n₁ = a} {m₁ = b} {n₂ = 0xFFFF_FFFF} {m₂ = 0xFFFF_FFFF} (omega arith) (omega arith)
 
 module _ (offset size count : ℕ) {end : ℕ} (e : end ≡ offset + size * times count) where
   -- a member that ends at or below 2^26 has that end
@@ -58,10 +51,6 @@ access-second a n e = simp (ne-eqb a 0 n, eq-eqb a 2 e)
 pub access-third : (a : ℕ) → (a ≡ 0 → ⊥) → (a ≡ 2 → ⊥) → eqb a 3 ≡ accessOk a
 unfolding accessOk
 access-third a n m = simp (ne-eqb a 0 n, ne-eqb a 2 m)
-
--- a multiple is at or below what it was rounded from
-pub align-most : (x a : ℕ) → (x + (a - 1)) / a * a ≤ x + (a - 1)
-align-most x a = div-mul-le-self (x + (a - 1)) a
 
 module _ (c : Cursor) (d : Decl) {at : ℕ} (end : End) (s : at ≡ startOf c d)
     (e : saidBy end ≡ memberEnd at (d .size) (d .count)) where

@@ -7,6 +7,7 @@ use mathlib.Core.List.{List, [], _∷_}
 use borrow.Author.Tests.{ltb-true, ltb-false, leb-true, leb-false}
 use lib.Dec.{leb, ltb}
 use lib.ListN.{length}
+use Rattle.words.proofs.TestLaws.{either}
 use Rattle.types.specs.inside.layout.Passes.{thenMeasure, measured}
 use Rattle.types.specs.inside.layout.Placing.{InUdt, Shut}
 use Rattle.types.specs.layout.Placing.{mostSize, accessOk, isBool, otherAt, opened, nextBit, placeBool, closed}
@@ -50,16 +51,12 @@ pub record Ways (P : Placed → Type 0) (c : Cursor) (d : Decl) : Type 0 where
   pub far : isBool (d .ty) ≡ false → mostSize < endOf c d → P TooFar
 
 -- what holds of both answers of a test holds of the picked one
-either : (P : Placed → Type 0) (t : Bool) (x y : Placed) → (t ≡ true → P x) → (t ≡ false → P y) → P (cond t x y)
-either P true x y f g = f refl
-either P false x y f g = g refl
-
 module _ (P : Placed → Type 0) (c : Cursor) (d : Decl) (w : Ways P c d) where
   bool-cases : isBool (d .ty) ≡ true → (h : Host) → c .host ≡ h → P (placeBool h c d)
   unfolding placeBool
   bool-cases b Closed e = w .opens b (rw e tt)
   bool-cases b (Open byte bit) e =
-      either P (ltb bit 8) _ _
+      either P (ltb bit 8)
       (λ l. w .next b byte bit e (ltb-true bit 8 l))
       (λ l. w .opens b (rw e (ltb-false bit 8 l)))
   bool-cases b (Shared i) e = w .shared b i e
@@ -78,16 +75,16 @@ module _ (P : Placed → Type 0) (c : Cursor) (d : Decl) (w : Ways P c d) where
   pub place-cases : P (placed c d)
   unfolding placed
   place-cases =
-      either P (accessOk (d .access)) _ _
-      (λ a. either P (isBool (d .ty)) _ _ (λ b. bool-cases b (c .host) refl) other-cases)
+      either P (accessOk (d .access))
+      (λ a. either P (isBool (d .ty)) (λ b. bool-cases b (c .host) refl) other-cases)
       (w .wrong)
 
 -- ---- a step among others
 
 module _ (host : ℕ → List ℕ) (e : Cursor) (n′ : ℕ) where
   -- a layout that goes on from a step ends at e, with so many bytes of names
-  abbrev pub Ends : Cursor → ℕ → Decl → List Decl → Placed → Type 0
-  Ends c n d ds p =
+  abbrev pub LayoutEnds : Cursor → ℕ → Decl → List Decl → Placed → Type 0
+  LayoutEnds c n d ds p =
       thenMeasure p (length (host (c .members))) (d .name .long) n (λ c′ k. measured host c′ k ds) ≡ Came e n′
 
 -- a refused layout ends nowhere
@@ -132,7 +129,7 @@ module _ (host : ℕ → List ℕ) (e : Cursor) (n′ : ℕ) where
   unfolding measured opened nextBit
   stays-udt c n [] u q = let z : c ≡ e = cc in rw (← z) u
   stays-udt c n (d ∷ ds) u q =
-      place-cases (λ p. Ends host e n′ c n d ds p → InUdt (e .host)) c d
+      place-cases (λ p. LayoutEnds host e n′ c n d ds p → InUdt (e .host)) c d
       (record {
         wrong = λ a r. no-access r;
         opens = λ b f r. stays-udt _ _ ds tt r;

@@ -28,13 +28,13 @@ use Rattle.types.specs.declared.layout.predefined.PredefinedIds.{Predefi
 use Rattle.types.specs.declared.tables.member.StructKind.{StructKind}
 use Rattle.types.specs.declared.tables.member.StructKind.the-variants.{Predefined, Str}
 use Rattle.types.proofs.adding.AddLaidLaws.{string-counted}
-use Rattle.types.proofs.adding.AddStoreLaws.{Counted}
+use Rattle.types.proofs.adding.AddStoreLaws.{PartsCounted}
 use Rattle.types.proofs.layout.PredefinedIds.{Allowed, Id, ids-allowed, id-within}
 use Rattle.types.proofs.tables.DefLaws.{PartFits}
 use Rattle.types.proofs.tables.RegistryLaws.{length-snoc, members-of-snoc, long-snoc, members-long, names-long}
 use Rattle.types.proofs.tables.RegistryLaws.{stands-more}
-use Rattle.types.proofs.tables.ShownLaws.{Shown, Fits, shown-none, shown-more, view-same, names-inside}
-use Rattle.types.proofs.tables.ShownLaws.{ids-small}
+use Rattle.types.proofs.tables.ShownLaws.{TablesShow, FitsRegistry, shown-none, shown-more, view-same}
+use Rattle.types.proofs.tables.ShownLaws.{names-inside, ids-small}
 use Rattle.types.proofs.templates.HandleLaws.{handle-small}
 
 -- ---- their parts can be stored and read back
@@ -69,7 +69,7 @@ control-type-fits n = control-fits n _ _ _
 
 -- their parts and names counted, after any number of types
 abbrev pub Counts : List ℕ → List Part → ℕ → ℕ → Type 0
-Counts name parts k l = (n : ℕ) → Counted name parts n k l
+Counts name parts k l = (n : ℕ) → PartsCounted name parts n k l
 
 timer-counts : Counts timerName timerParts 6 20
 unfolding timerParts controlParts statusParts namesOf
@@ -126,8 +126,8 @@ string-counts n = string-counted stringName 82 n
 -- ---- a type with a predefined id, added to the earlier ones
 
 -- a registry that its tables show, with so many types, members and bytes of names
-pub record Built (ds : List Def) (types members bytes : ℕ) : Type 0 where
-  pub shown : Shown ds
+pub record RegistryBuilt (ds : List Def) (types members bytes : ℕ) : Type 0 where
+  pub shown : TablesShow ds
   pub few : length ds ≡ types
   pub rows : membersOf ds ≡ members
   pub long : length (nameBytesOf ds) ≡ bytes
@@ -138,7 +138,7 @@ module _ (ds : List Def) (name : List ℕ) (id size : ℕ) (kind : StructKind) (
 
   new-fits : length ds < mostTypes → membersOf ds + length parts ≤ mostMembers
       → length (nameBytesOf ds) + length (name ++ namesOf parts) ≤ mostNames → Every (PartFits (length ds)) parts
-      → Id id → Fits ds new
+      → Id id → FitsRegistry ds new
   unfolding newDef
   new-fits f r b p i =
       record {
@@ -151,8 +151,9 @@ module _ (ds : List Def) (name : List ℕ) (id size : ℕ) (kind : StructKind) (
         handle = handle-small _;
       }
 
-  built-more : {t m b k l : ℕ} → Counts name parts k l → Built ds t m b → predefinedId id ≡ true → t < mostTypes
-      → m + k ≤ mostMembers → b + l ≤ mostNames → Built (withOne ds name id size kind parts) (t + 1) (m + k) (b + l)
+  built-more : {t m b k l : ℕ} → Counts name parts k l → RegistryBuilt ds t m b → predefinedId id ≡ true → t < mostTypes
+      → m + k ≤ mostMembers → b + l ≤ mostNames
+      → RegistryBuilt (withOne ds name id size kind parts) (t + 1) (m + k) (b + l)
   unfolding newDef
   built-more p u i f r b =
       let c = p (length ds) in
@@ -167,7 +168,7 @@ module _ (ds : List Def) (name : List ℕ) (id size : ℕ) (kind : StructKind) (
       }
 
   -- and the tables that stand for it
-  added-stands : {t m n t′ m′ n′ : List ℕ} {u r : Used} → Shown ds → Stands ds t m n u
+  added-stands : {t m n t′ m′ n′ : List ℕ} {u r : Used} → TablesShow ds → Stands ds t m n u
       → Took (yes (newDef (viewIn t n u) name id size kind parts)) u t m n t′ m′ n′ (Added r)
       → Stands (withOne ds name id size kind parts) t′ m′ n′ r
   added-stands {t} {n = n} {u = u} s k took =
@@ -177,40 +178,40 @@ module _ (ds : List Def) (name : List ℕ) (id size : ℕ) (kind : StructKind) (
 -- ---- the four
 
 -- no types, no members and no bytes of names, which their tables show
-pub none-built : Built [] 0 0 0
+pub none-built : RegistryBuilt [] 0 0 0
 unfolding membersOf nameBytesOf
 none-built = record { shown = shown-none; few = refl; rows = refl; long = refl }
 
 module _ (ids : PredefinedIds) (good : Allowed ids) where
   -- with TIMER 1 type, 6 members and 20 bytes of names, which its tables show
-  pub timer-built : Built (withTimer ids) 1 6 20
+  pub timer-built : RegistryBuilt (withTimer ids) 1 6 20
   unfolding withTimer
   timer-built =
       built-more [] _ (ids .timer) _ _ _ timer-counts none-built (good .timer) (omega arith) (omega arith) (omega arith)
 
   -- with COUNTER 2 types, 14 members and 46 bytes of names, which their tables show
-  pub counter-built : Built (withCounter ids) 2 14 46
+  pub counter-built : RegistryBuilt (withCounter ids) 2 14 46
   unfolding withCounter
   counter-built =
       built-more (withTimer ids) _ (ids .counter) _ _ _ counter-counts timer-built (good .counter) (omega arith)
       (omega arith) (omega arith)
 
   -- with CONTROL 3 types, 25 members and 78 bytes of names, which their tables show
-  pub control-built : Built (withControl ids) 3 25 78
+  pub control-built : RegistryBuilt (withControl ids) 3 25 78
   unfolding withControl
   control-built =
       built-more (withCounter ids) _ (ids .control) _ _ _ control-counts counter-built (good .control) (omega arith)
       (omega arith) (omega arith)
 
   -- 4 types, 27 members and 91 bytes of names, which their tables show
-  pub predefined-built : Built (predefined ids) 4 27 91
+  pub predefined-built : RegistryBuilt (predefined ids) 4 27 91
   unfolding predefined
   predefined-built =
       built-more (withControl ids) _ (ids .string) _ _ _ string-counts control-built (good .string) (omega arith)
       (omega arith) (omega arith)
 
 -- under good ids their tables show the four predefined types
-pub predefined-shown : (ids : PredefinedIds) → predefinedIds ids ≡ true → Shown (predefined ids)
+pub predefined-shown : (ids : PredefinedIds) → predefinedIds ids ≡ true → TablesShow (predefined ids)
 predefined-shown ids e = predefined-built ids (ids-allowed ids e) .shown
 
 -- ---- in the tables
@@ -256,7 +257,7 @@ module _ (ids : PredefinedIds) {t m n t′ m′ n′ : List ℕ} {u r : Used} wh
     string-stands s k = added-stands (withControl ids) _ _ _ _ _ (control-built ids good .shown) s k
 
 -- the tables of a registry are ready for one type more
-pub ready-for : {ds : List Def} {x y z k l : ℕ} {t m n : List ℕ} {u : Used} → Built ds x y z → Stands ds t m n u
+pub ready-for : {ds : List Def} {x y z k l : ℕ} {t m n : List ℕ} {u : Used} → RegistryBuilt ds x y z → Stands ds t m n u
     → x < mostTypes → y + k ≤ mostMembers → z + l ≤ mostNames → Ready t m n u k l
 ready-for {ds} b s f r g =
     rw (s .types, s .members, s .names, s .used) record {

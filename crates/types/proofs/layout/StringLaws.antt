@@ -15,7 +15,7 @@ use Rattle.types.specs.declared.tables.member.StructKind.{StructKind}
 use Rattle.types.specs.declared.tables.member.StructKind.the-variants.{Str}
 
 -- a size and parts that are those of a string
-pub record IsString (size : ℕ) (parts : List Part) : Type 0 where
+pub record StringParts (size : ℕ) (parts : List Part) : Type 0 where
   pub capacity : ℕ
   pub rows : parts ≡ stringParts capacity
   pub bytes : size ≡ stringSize capacity
@@ -29,12 +29,12 @@ pub record StringRow (members : List ℕ) (d : StructDef) : Type 0 where
   pub size : d .size ≡ 4 + 4 * ((capacity + 3) / 4)
 
 -- what is laid out as a string is one
-pub string-is : (c : ℕ) → IsString (stringSize c) (stringParts c)
+pub string-is : (c : ℕ) → StringParts (stringSize c) (stringParts c)
 string-is c = record { capacity = c; rows = refl; bytes = refl }
 
 -- nothing is asked of another kind
 pub other-kind : {size : ℕ} {parts : List Part} (k : StructKind) → eqb (kindWord k) 2 ≡ false → k ≡ Str
-    → IsString size parts
+    → StringParts size parts
 other-kind k n e = absurd (true≢false (sym (ap (λ (x : StructKind). eqb (kindWord x) 2) e) ∙ n))
 
 -- the kind of a UDT or an AOI is not Str

@@ -28,7 +28,7 @@ use Rattle.types.specs.declared.adding.used.Used.{Used}
 use Rattle.types.specs.declared.refusals.refusal.Refusal.{Refusal}
 use Rattle.types.specs.declared.rounds.round.Round.the-variants.{Refused, Went}
 use Rattle.types.proofs.adding.VerdictLaws.{verdict-fits}
-use Rattle.types.proofs.book.SoundLaws.{Sound, sound, among-all}
+use Rattle.types.proofs.book.SoundLaws.{BookSound, sound, among-all}
 use Rattle.types.proofs.rounds.RoundLaws.{round-keep}
 use Rattle.types.proofs.rounds.RoundsKeep.{Begun, keeps, predefined-begun}
 use Rattle.types.proofs.rounds.RunLaws.{Inner, inner-start, inner-past, inner-wait, inner-no, inner-yes}
@@ -37,7 +37,7 @@ use Rattle.types.proofs.rounds.StandLaws.{turn-in, turn-same, turn-wait
 use Rattle.types.proofs.rounds.StandLaws.{tries-stand}
 use Rattle.types.proofs.rounds.WaitLaws.{waits-on}
 use Rattle.types.proofs.tables.RegistryLaws.{stands-more}
-use Rattle.types.proofs.tables.ShownLaws.{Shown, shown-more}
+use Rattle.types.proofs.tables.ShownLaws.{TablesShow, shown-more}
 
 -- ---- registries that rounds reach
 
@@ -46,7 +46,7 @@ reached-begun book b _ (first ids q) = predefined-begun ids q
 reached-begun book b _ (more ds ds′ i r e) = keeps book b ds ds′ i (reached-begun book b ds r) e
 
 -- each type of a registry that rounds reach is shown by its row, and the rows after them are unused
-pub reached-shown : {book : List ℕ} {ds : List Def} → Bytes book → Reached book ds → Shown ds
+pub reached-shown : {book : List ℕ} {ds : List Def} → Bytes book → Reached book ds → TablesShow ds
 reached-shown {book} {ds} b r = reached-begun book b ds r .good .shown
 
 -- a round goes from one to another
@@ -74,7 +74,7 @@ pub const-kept : {book tys tys′ : List ℕ} {T : ℕ} → Const book tys T →
 const-kept k e = record { bytes = k .bytes; okay = k .okay; is = k .is; room = rw e (k .room) }
 
 -- a round began with one registry that is known, and goes as the definition says from any that its tables stand for
-pub record Within (book : List ℕ) (T : ℕ) (t₀ m₀ n₀ tys₀ f₀ k₀ r₀ : List ℕ) (u₀ : Used)
+pub record InRound (book : List ℕ) (T : ℕ) (t₀ m₀ n₀ tys₀ f₀ k₀ r₀ : List ℕ) (u₀ : Used)
     (t m n tys f k r : List ℕ) (u : Used) (left i at : ℕ) : Type 0 where
   pub const : Const book tys T
   pub began : List Def
@@ -94,7 +94,7 @@ start-small {book} p b = omega (arith, p .is, word-below 2 book 0 b)
 
 -- a round begins at type 0, with the tables, flags and scratches that it is given
 pub within-start : {book t m n tys f k r : List ℕ} {T left : ℕ} {u : Used} → RoundIn book T u left t m n tys f k r
-    → Bytes book → Within book T t m n tys f k r u t m n tys f k r u left 0 (4 + 16 * T)
+    → Bytes book → InRound book T t m n tys f k r u t m n tys f k r u left 0 (4 + 16 * T)
 within-start p b =
     record {
       const = record { bytes = b; okay = p .okay; is = p .is; room = p .room };
@@ -122,7 +122,7 @@ unfolding addIn
 add-yes book ds i d q = rw q
 
 module _ {book t₀ m₀ n₀ tys₀ f₀ k₀ r₀ t m n tys f k r : List ℕ} {T left i at : ℕ} {u₀ u : Used}
-    (w : Within book T t₀ m₀ n₀ tys₀ f₀ k₀ r₀ u₀ t m n tys f k r u left i at) where
+    (w : InRound book T t₀ m₀ n₀ tys₀ f₀ k₀ r₀ u₀ t m n tys f k r u left i at) where
   -- where the round stands from the registry that it began with
   pub within-now : Inner book (w .began) f₀ T t m n f u left i at
   within-now = w .each (w .began) (w .reached) (w .stood)
@@ -145,7 +145,7 @@ module _ {book t₀ m₀ n₀ tys₀ f₀ k₀ r₀ t m n tys f k r : List ℕ} 
     known : i < typesIn book
     known = omega (arith, w .const .is, l)
 
-    good : Sound book
+    good : BookSound book
     good = sound book (w .const .okay)
 
     -- the turn of type i finds what it asks
@@ -176,7 +176,7 @@ module _ {book t₀ m₀ n₀ tys₀ f₀ k₀ r₀ t m n tys f k r : List ℕ} 
 
     -- a type that was added before is passed, and the round goes on with the next one
     pub within-past : (getD f i 0 ≡ 0 → ⊥)
-        → Within book T t₀ m₀ n₀ tys₀ f₀ k₀ r₀ u₀ t m n tys f k r u left (i + 1) (at + 16 * countOf book i)
+        → InRound book T t₀ m₀ n₀ tys₀ f₀ k₀ r₀ u₀ t m n tys f k r u left (i + 1) (at + 16 * countOf book i)
     within-past o =
         record {
           const = w .const;
@@ -216,7 +216,7 @@ module _ {book t₀ m₀ n₀ tys₀ f₀ k₀ r₀ t m n tys f k r : List ℕ} 
         new : AddedBy (readyIn book (v .ds) i) (verdictOn book (viewOf (v .ds)) i) u t m n t′ m′ n′ u′
         new = turn-added (turned v) u′ e
 
-        new-shown : Shown (v .ds ++ new .d ∷ [])
+        new-shown : TablesShow (v .ds ++ new .d ∷ [])
         new-shown =
             shown-more (v .ds) (new .d) (v .shown)
             (verdict-fits book (v .ds) i (new .d) (w .const .bytes) (v .shown) (new .is))
@@ -233,7 +233,7 @@ module _ {book t₀ m₀ n₀ tys₀ f₀ k₀ r₀ t m n tys f k r : List ℕ} 
           (kept-r : length r′ ≡ length r) (tries : Tries book (rowNames t n (u .types)) k′ r′) where
         -- where the type still waits, the round goes on with the next one and the same flags
         pub within-wait : x ≡ Waits
-            → Within book T t₀ m₀ n₀ tys₀ f₀ k₀ r₀ u₀ t′ m′ n′ tys′ f k′ r′ u left (i + 1)
+            → InRound book T t₀ m₀ n₀ tys₀ f₀ k₀ r₀ u₀ t′ m′ n′ tys′ f k′ r′ u left (i + 1)
             (at + 16 * countOf book i)
         within-wait e =
             let d = turn-waits (turned within-now) e in
@@ -255,7 +255,7 @@ module _ {book t₀ m₀ n₀ tys₀ f₀ k₀ r₀ t m n tys f k r : List ℕ} 
 
         -- where the type is added, its flag is set, one fewer is left, and the round goes on with the next one
         pub within-yes : (u′ : Used) → x ≡ Added u′
-            → Within book T t₀ m₀ n₀ tys₀ f₀ k₀ r₀ u₀ t′ m′ n′ tys′ (set f i 1) k′ r′ u′ (left - 1) (i + 1)
+            → InRound book T t₀ m₀ n₀ tys₀ f₀ k₀ r₀ u₀ t′ m′ n′ tys′ (set f i 1) k′ r′ u′ (left - 1) (i + 1)
             (at + 16 * countOf book i)
         within-yes u′ e =
             let v = within-now in

@@ -5,9 +5,9 @@ use native.Mathlib.Omega.{arith}
 use mathlib.Core.Path.{_≡_, refl, sym, ap, _∙_}
 use mathlib.Core.Bool.{Bool, true, false, cond, _||_, true≢false}
 use mathlib.Core.List.{List, [], _∷_, _++_, map, map-append}
-use mathlib.Core.Logic.{_⊎_, inl, inr, ⊎-elim}
+use mathlib.Core.Logic.{_⊎_, ⊎-elim}
 use lib.ListN.{length}
-use Rattle.words.proofs.TestLaws.{or-right}
+use Rattle.words.proofs.TestLaws.{or-right, or-left, or-cases}
 use Rattle.types.specs.adding.Add.{Verdict, no as against, yes as for, newDef}
 use Rattle.types.specs.atomics.Atomic.{atomics, nameOf, firstOf, atomicNamed}
 use Rattle.types.specs.atomics.Lookup.{namedAmong, atomicOr, typeAmong}
@@ -93,13 +93,6 @@ has-more K n x = go (atomicNamed x)
         ≡ (isFound (atomicOr a (namedAmong K x 0)) || sameName n x)
     go (found a) = refl
     go none-found = named-more K n x 0
-
-or-left : (a b : Bool) → a ≡ true → (a || b) ≡ true
-or-left a b e = rw e
-
-or-cases : (a b : Bool) → (a || b) ≡ true → (a ≡ true) ⊎ (b ≡ true)
-or-cases true b e = inl refl
-or-cases false b e = inr e
 
 pub names-known : Known hasName
 names-known =

@@ -83,24 +83,24 @@ module _ {N : Type 0} (has : List N → N → Bool) where
     ordered-append K (i ∷ a) b p q = (p .0, ordered-append (K ++ name i ∷ []) a b (p .1) (rw append-assoc q))
 
     -- from the types that waited, with the names K, to those that wait, with the names L: the others in such an order
-    record Added (K : List N) (waited : List ℕ) (L : List N) (waiting : List ℕ) : Type 0 where
+    record InOrder (K : List N) (waited : List ℕ) (L : List N) (waiting : List ℕ) : Type 0 where
       order : List ℕ
       same : Same (order ++ waiting) waited
       ordered : Ordered has name uses K order
       names : L ≡ K ++ map name order
 
-    added-none : (K : List N) (ws : List ℕ) → Added K ws K ws
+    added-none : (K : List N) (ws : List ℕ) → InOrder K ws K ws
     unfolding Ordered
     added-none K ws = record { order = []; same = same-refl ws; ordered = tt; names = sym (append-nil K) }
 
     added-one : (K : List N) (i : ℕ) (ws : List ℕ) → allKnown has K (uses i) ≡ true
-        → Added K (i ∷ ws) (K ++ name i ∷ []) ws
+        → InOrder K (i ∷ ws) (K ++ name i ∷ []) ws
     unfolding Ordered
     added-one K i ws h = record { order = i ∷ []; same = same-refl (i ∷ ws); ordered = (h, tt); names = refl }
 
-    module _ {K L : List N} {ws vs : List ℕ} (a : Added K ws L vs) where
+    module _ {K L : List N} {ws vs : List ℕ} (a : InOrder K ws L vs) where
       -- one more that waits
-      added-kept : (i : ℕ) → Added K (i ∷ ws) L (i ∷ vs)
+      added-kept : (i : ℕ) → InOrder K (i ∷ ws) L (i ∷ vs)
       added-kept i =
           record {
             order = a .order;
@@ -109,7 +109,7 @@ module _ {N : Type 0} (has : List N → N → Bool) where
             names = a .names;
           }
 
-      added-then : {M : List N} {us : List ℕ} → Added L vs M us → Added K ws M us
+      added-then : {M : List N} {us : List ℕ} → InOrder L vs M us → InOrder K ws M us
       added-then b =
           record {
             order = a .order ++ b .order;
@@ -135,7 +135,7 @@ module _ {N : Type 0} (has : List N → N → Bool) where
           (List·Memᴰ·cases-cons m) in
           rw append-assoc at h
 
-      module _ {K L : List N} {ws vs : List ℕ} (a : Added K ws L vs) where
+      module _ {K L : List N} {ws vs : List ℕ} (a : InOrder K ws L vs) where
         added-within : Within has K L
         added-within x h = rw (a .names) (names-within K (a .order) x h)
 
@@ -161,7 +161,7 @@ module _ {N : Type 0} (has : List N → N → Bool) where
           (List·Memᴰ·cases-cons m)
 
       -- so where types wait and none of them is ready, there was no ordering from the start
-      no-order : {K L : List N} {all : List ℕ} {w : ℕ} {ws : List ℕ} → Added K all L (w ∷ ws)
+      no-order : {K L : List N} {all : List ℕ} {w : ℕ} {ws : List ℕ} → InOrder K all L (w ∷ ws)
           → ((i : ℕ) → List·Memᴰ i (w ∷ ws) → allKnown has L (uses i) ≡ false)
           → (o : List ℕ) → Same o all → Ordered has name uses K o → ⊥
       no-order {K} {L} {all} {w} a f o e os =
@@ -186,12 +186,12 @@ module _ {N S R : Type 0} {has : List N → N → Bool} {name : ℕ → N} {uses
     {stuck : ℕ → R} {ready : S → ℕ → Bool} {add : S → ℕ → Step S R}
     (ties : Ties has name uses names stuck ready add) where
   -- what a round does; where as many wait as before, none of them was ready
-  record Passed (s : S) (ws : List ℕ) (s′ : S) (ws′ : List ℕ) : Type 0 where
-    added : Added has name uses (names s) ws (names s′) ws′
+  record RoundPassed (s : S) (ws : List ℕ) (s′ : S) (ws′ : List ℕ) : Type 0 where
+    added : InOrder has name uses (names s) ws (names s′) ws′
     idle : length ws′ ≡ length ws → (i : ℕ) → List·Memᴰ i ws → allKnown has (names s) (uses i) ≡ false
 
   passed-added : (s t : S) (i : ℕ) (ws : List ℕ) → ready s i ≡ true → add s i ≡ ok t
-      → (s′ : S) (ws′ : List ℕ) → Passed t ws s′ ws′ → Passed s (i ∷ ws) s′ ws′
+      → (s′ : S) (ws′ : List ℕ) → RoundPassed t ws s′ ws′ → RoundPassed s (i ∷ ws) s′ ws′
   passed-added s t i ws h e s′ ws′ p =
       let first = added-one has name uses (names s) i ws (sym (ties .asks s i) ∙ h) in
       record {
@@ -200,7 +200,7 @@ module _ {N S R : Type 0} {has : List N → N → Bool} {name : ℕ → N} {uses
       }
 
   passed-kept : (s : S) (i : ℕ) (ws : List ℕ) → ready s i ≡ false
-      → (s′ : S) (ws′ : List ℕ) → Passed s ws s′ ws′ → Passed s (i ∷ ws) s′ (i ∷ ws′)
+      → (s′ : S) (ws′ : List ℕ) → RoundPassed s ws s′ ws′ → RoundPassed s (i ∷ ws) s′ (i ∷ ws′)
   passed-kept s i ws h s′ ws′ p =
       record {
         added = added-kept has name uses (p .added) i;
@@ -212,7 +212,7 @@ module _ {N S R : Type 0} {has : List N → N → Bool} {name : ℕ → N} {uses
   abbrev Other : R → Type 0
   Other r = (p : ℕ) → r ≡ stuck p → ⊥
 
-  ways : RoundWays stuck ready add Other Passed
+  ways : RoundWays stuck ready add Other RoundPassed
   ways =
       record {
         over = λ s.
@@ -223,17 +223,17 @@ module _ {N S R : Type 0} {has : List N → N → Bool} {name : ℕ → N} {uses
       }
 
   passed : (s : S) (ws : List ℕ) (s′ : S) (ws′ : List ℕ) → round stuck ready add s ws ≡ went s′ ws′
-      → Passed s ws s′ ws′
-  passed s ws s′ ws′ e = rw e at (round-cases stuck ready add Other Passed ways s ws)
+      → RoundPassed s ws s′ ws′
+  passed s ws s′ ws′ e = rw e at (round-cases stuck ready add Other RoundPassed ways s ws)
 
   other : (s : S) (ws : List ℕ) (r : R) → round stuck ready add s ws ≡ stop r → Other r
-  other s ws r e = rw e at (round-cases stuck ready add Other Passed ways s ws)
+  other s ws r e = rw e at (round-cases stuck ready add Other RoundPassed ways s ws)
 
   all-added : (k : ℕ) (s : S) (ws : List ℕ) (s′ : S) → rounds stuck ready add k s ws ≡ accepted s′
-      → Added has name uses (names s) ws (names s′) []
+      → InOrder has name uses (names s) ws (names s′) []
   all-added =
       rounds-cases stuck ready add
-      (λ k s ws a. (s′ : S) → a ≡ accepted s′ → Added has name uses (names s) ws (names s′) [])
+      (λ k s ws a. (s′ : S) → a ≡ accepted s′ → InOrder has name uses (names s) ws (names s′) [])
       (record {
         done = λ k s s′ q. let z : s ≡ s′ = cc in rw (← z) (added-none has name uses (names s) []);
         spent = λ s w ws s′ q. let z : true ≡ false = cc in absurd (true≢false z);
@@ -252,11 +252,11 @@ module _ {N S R : Type 0} {has : List N → N → Bool} {name : ℕ → N} {uses
   module _ (known : Known has) where
     -- from the start, with the names K and all types waiting
     none-from : (K : List N) (all : List ℕ) (k : ℕ) (s : S) (ws : List ℕ) → length ws ≤ k
-        → Added has name uses K all (names s) ws → (p : ℕ) → rounds stuck ready add k s ws ≡ refused (stuck p)
+        → InOrder has name uses K all (names s) ws → (p : ℕ) → rounds stuck ready add k s ws ≡ refused (stuck p)
         → (o : List ℕ) → Same o all → Ordered has name uses K o → ⊥
     none-from K all =
         rounds-cases stuck ready add
-        (λ k s ws a. length ws ≤ k → Added has name uses K all (names s) ws → (p : ℕ) → a ≡ refused (stuck p)
+        (λ k s ws a. length ws ≤ k → InOrder has name uses K all (names s) ws → (p : ℕ) → a ≡ refused (stuck p)
         → (o : List ℕ) → Same o all → Ordered has name uses K o → ⊥)
         (record {
           done = λ k s l g p q. let z : true ≡ false = cc in absurd (true≢false z);

@@ -60,7 +60,7 @@ found-earlier known s ty e = rw e at (found-below known s)
 -- ---- the words that are left
 
 -- the words of the first j member types stand in the scratch, and those that are found from the j-th on are left
-pub record Left (known : List (List ℕ)) (book : List ℕ) (at n : ℕ) (tys₀ tys : List ℕ) (j : ℕ) : Type 0 where
+pub record WordsLeft (known : List (List ℕ)) (book : List ℕ) (at n : ℕ) (tys₀ tys : List ℕ) (j : ℕ) : Type 0 where
   pub count : length (foundWords known (typeNames book at 0 n))
       ≡ j + length (foundWords known (typeNames book at j (n - j)))
   pub words : sets tys₀ 0 (foundWords known (typeNames book at 0 n))
@@ -68,14 +68,14 @@ pub record Left (known : List (List ℕ)) (book : List ℕ) (at n : ℕ) (tys₀
   pub long : length tys ≡ length tys₀
 
 module _ (known : List (List ℕ)) (book : List ℕ) (at n : ℕ) {tys₀ tys : List ℕ} (j : ℕ)
-    (w : Left known book at n tys₀ tys j) where
+    (w : WordsLeft known book at n tys₀ tys j) where
   module _ (l : j < n) where
     names-cons : typeNames book at j (n - j) ≡ typeName book at j ∷ typeNames book at (j + 1) (n - (j + 1))
     names-cons = from-cons (typeName book at) n j l
 
     -- one more was found
     pub left-on : (ty : Ty) → typeAmong known (typeName book at j) ≡ Is ty
-        → Left known book at n tys₀ (set tys j (tyWord ty)) (j + 1)
+        → WordsLeft known book at n tys₀ (set tys j (tyWord ty)) (j + 1)
     unfolding foundWords
     left-on ty e =
         let a : j + 1 ≡ suc j = omega arith in

@@ -24,13 +24,13 @@ use Rattle.types.proofs.layout.PredefinedWell.{predefined-well}
 use Rattle.types.proofs.rounds.RoundLaws.{rounds-keep}
 use Rattle.types.proofs.tables.ProperLaws.{AllProper, proper-more, predefined-proper}
 use Rattle.types.proofs.tables.RegistryLaws.{length-snoc}
-use Rattle.types.proofs.tables.ShownLaws.{noDef, Shown, shown-more}
+use Rattle.types.proofs.tables.ShownLaws.{noDef, TablesShow, shown-more}
 use Rattle.types.proofs.tables.UniqueLaws.{Unlike, new-differs, unlike-more, predefined-unlike}
 use Rattle.types.proofs.tables.WellLaws.{Well, well-more}
 
 -- a registry that our own calls make
 pub record Good (ds : List Def) : Type 0 where
-  pub shown : Shown ds
+  pub shown : TablesShow ds
   pub well : Well ds
   pub unlike : Unlike ds
   pub proper : AllProper ds
@@ -56,13 +56,13 @@ predefined-begun ids e =
     }
 
 -- a step that went on added a type
-record Added (s : Verdict) (ds ds′ : List Def) : Type 0 where
+record StepAdds (s : Verdict) (ds ds′ : List Def) : Type 0 where
   pub def : Def
   pub is : s ≡ for def
   pub next : ds′ ≡ ds ++ def ∷ []
 
 step-added : (s : Verdict) (ds ds′ : List Def) → _≡_ {A = Step (List Def) Why} (stepOf s ds) (ok ds′)
-    → Added s ds ds′
+    → StepAdds s ds ds′
 step-added (for d) ds ds′ e = record { def = d; is = refl; next = cc }
 step-added (against r) ds ds′ e = record { def = noDef; is = cc; next = cc }
 

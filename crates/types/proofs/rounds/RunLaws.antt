@@ -22,7 +22,7 @@ use Rattle.types.proofs.book.SoundLaws.{entries-first, entries-next}
 use Rattle.types.proofs.rounds.RoundLaws.{rounds-none, rounds-some}
 use Rattle.types.proofs.rounds.WaitLaws.{waits-on, waits-off, waits-end, snoc-on, snoc-off, after-set, set-snoc}
 use Rattle.types.proofs.rounds.WaitLaws.{waits-all, up-length, keepAll, keep-one, keep-none}
-use Rattle.types.proofs.tables.ShownLaws.{Shown}
+use Rattle.types.proofs.tables.ShownLaws.{TablesShow}
 
 -- at most so many rounds over a book
 abbrev pub roundsIn : List ℕ → ℕ → List Def → List ℕ → Answer (List Def) Why
@@ -34,7 +34,7 @@ roundsIn book k ds ws = rounds stuckAt (readyIn book) (addIn book) k ds ws
 pub record Inner (book : List ℕ) (ds₀ : List Def) (f₀ : List ℕ) (T : ℕ) (t m n f : List ℕ) (u : Used) (left i at : ℕ)
     : Type 0 where
   pub ds : List Def
-  pub shown : Shown ds
+  pub shown : TablesShow ds
   pub stands : Stands ds t m n u
   pub passed : i ≤ T
   pub place : at ≡ entriesAt book i
@@ -43,7 +43,7 @@ pub record Inner (book : List ℕ) (ds₀ : List Def) (f₀ : List ℕ) (T : ℕ
   pub flags : T ≤ length f
 
 -- a round begins at type 0, with the registry that stands in the tables and the flags of that time
-pub inner-start : {book f t m n : List ℕ} {ds : List Def} {u : Used} {left T : ℕ} → Shown ds → Stands ds t m n u
+pub inner-start : {book f t m n : List ℕ} {ds : List Def} {u : Used} {left T : ℕ} → TablesShow ds → Stands ds t m n u
     → T ≡ typesIn book → left ≡ length (waits f 0 T) → T ≤ length f
     → Inner book ds f T t m n f u left 0 (4 + 16 * T)
 unfolding waits
@@ -107,7 +107,7 @@ module _ {book f₀ t m n f : List ℕ} {ds₀ : List Def} {u : Used} {left i at
 
   -- one that is added
   pub inner-yes : {t′ m′ n′ : List ℕ} {u′ : Used} (ds : List Def) → getD f i 0 ≡ 0 → readyIn book (w .ds) i ≡ true
-      → addIn book (w .ds) i ≡ ok ds → Shown ds → Stands ds t′ m′ n′ u′
+      → addIn book (w .ds) i ≡ ok ds → TablesShow ds → Stands ds t′ m′ n′ u′
       → Inner book ds₀ f₀ T t′ m′ n′ (set f i 1) u′ (left - 1) (i + 1) (at + 16 * countOf book i)
   inner-yes ds o r a s h =
       let z = set-snoc f i (omega (arith, w .flags)) in

@@ -25,14 +25,14 @@ use Rattle.types.specs.declared.adding.progress.Progress.{Progress}
 use Rattle.types.specs.declared.adding.progress.Progress.the-variants.{Waits, Refused, Added}
 use Rattle.types.specs.declared.adding.used.Used.{Used}
 use Rattle.types.specs.declared.refusals.refusal.Refusal.{Refusal}
-use Rattle.types.proofs.book.SoundLaws.{Sound, among-all, type-inside, entries-inside, entries-uses}
+use Rattle.types.proofs.book.SoundLaws.{BookSound, among-all, type-inside, entries-inside, entries-uses}
 use Rattle.types.proofs.rounds.SearchLaws.{tries-more}
 use Rattle.types.proofs.tables.RegistryLaws.{members-long, names-long}
-use Rattle.types.proofs.tables.ShownLaws.{Shown, view-same, names-inside, ids-small}
+use Rattle.types.proofs.tables.ShownLaws.{TablesShow, view-same, names-inside, ids-small}
 
 -- ---- what the tables show
 
-module _ {ds : List Def} {t m n : List ℕ} {u : Used} (shown : Shown ds) (stands : Stands ds t m n u) where
+module _ {ds : List Def} {t m n : List ℕ} {u : Used} (shown : TablesShow ds) (stands : Stands ds t m n u) where
   view-stands : viewIn t n u ≡ viewOf ds
   view-stands = rw (stands .types, stands .names, stands .used) (view-same ds shown)
 
@@ -54,7 +54,7 @@ module _ {ds : List Def} {t m n : List ℕ} {u : Used} (shown : Shown ds) (stand
 
   module _ (book : List ℕ) (i at : ℕ) (e : at ≡ entriesAt book i) where
     -- where the tables are a registry's and the book is good, the turn of type i finds what it asks
-    pub turn-in : {stuck tried : List ℕ} (tys : List ℕ) → Bytes book → Sound book → i < typesIn book
+    pub turn-in : {stuck tried : List ℕ} (tys : List ℕ) → Bytes book → BookSound book → i < typesIn book
         → membersIn book ≤ length tys → Tries book (rowNames t n (u .types)) stuck tried
         → TurnIn t m n book tys stuck tried i at u
     turn-in tys bytes s l room tries =
@@ -144,8 +144,8 @@ module _ {b : Bool} {v : Verdict} {u : Used} {t m n t′ m′ n′ : List ℕ} {
     turn-added u′ e = added-of u′ b v u r h e
 
 -- and one name more
-pub tries-stand : {ds : List Def} {t m n t′ m′ n′ book stuck tried : List ℕ} {u u′ : Used} (d : Def) → Shown ds
-    → Stands ds t m n u → Shown (ds ++ d ∷ []) → Stands (ds ++ d ∷ []) t′ m′ n′ u′
+pub tries-stand : {ds : List Def} {t m n t′ m′ n′ book stuck tried : List ℕ} {u u′ : Used} (d : Def) → TablesShow ds
+    → Stands ds t m n u → TablesShow (ds ++ d ∷ []) → Stands (ds ++ d ∷ []) t′ m′ n′ u′
     → Tries book (rowNames t n (u .types)) stuck tried → Tries book (rowNames t′ n′ (u′ .types)) stuck tried
 unfolding viewOf
 tries-stand {ds} d a s b h t =

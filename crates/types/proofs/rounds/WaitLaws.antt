@@ -4,12 +4,12 @@ use Prim.Native.Nat.{ℕ, zero, suc, _+_, _-_, _<_, _≤_}
 use native.Mathlib.Nat.{add-zero, sub-zero, zero-add, suc-add}
 use native.Mathlib.Omega.{arith}
 use mathlib.Core.Path.{_≡_, refl, sym, ap, _∙_}
-use mathlib.Core.Bool.{Bool, true, false, cond}
 use mathlib.Core.List.{List, [], _∷_, _++_, append-assoc, append-nil}
 use borrow.Author.Tests.{eq-eqb, ne-eqb}
 use lib.Dec.{eqb}
 use lib.ListN.{length, getD, set, replicate}
 use lib.Seq.{getD-set-same, getD-set-other}
+use Rattle.words.proofs.Lists.{cond-append}
 use Rattle.types.specs.inside.rounds.Build.{waits, FirstWaits, Cleared}
 use Rattle.types.specs.rounds.Rounds.{Out, stop, went, keep}
 use Rattle.types.specs.rounds.Turns.{upFrom}
@@ -47,16 +47,12 @@ module _ (f : List ℕ) (n i : ℕ) where
 
 -- ---- the last flag
 
-push : (b : Bool) (j : ℕ) (xs ys : List ℕ) → cond b (j ∷ (xs ++ ys)) (xs ++ ys) ≡ cond b (j ∷ xs) xs ++ ys
-push true j xs ys = refl
-push false j xs ys = refl
-
 waits-snoc : (f : List ℕ) (j n : ℕ) → waits f j (n + 1) ≡ waits f j n ++ waits f (j + n) 1
 unfolding waits
 waits-snoc f j zero = rw add-zero
 waits-snoc f j (suc n) =
     let e : j + suc n ≡ j + 1 + n = omega arith in
-    rw (suc-add, e, waits-snoc f (j + 1) n) (push (eqb (getD f j 0) 0) j _ _)
+    rw (suc-add, e, waits-snoc f (j + 1) n) (cond-append (eqb (getD f j 0) 0) j _ _)
 
 module _ (f : List ℕ) (i : ℕ) where
   -- where flag i is set, those that wait up to type i are those before it
@@ -107,17 +103,17 @@ up-length i (suc n) = ap suc (up-length (i + 1) n)
 -- ---- the first that waits
 
 -- none before the i-th waits
-pub record Passed (f : List ℕ) (t i : ℕ) : Type 0 where
+pub record NoneWaits (f : List ℕ) (t i : ℕ) : Type 0 where
   pub done : i ≤ t
   pub same : waits f 0 t ≡ waits f i (t - i)
 
 -- before the first type there is none that waits
-pub passed-start : {f : List ℕ} {t : ℕ} → Passed f t 0
+pub passed-start : {f : List ℕ} {t : ℕ} → NoneWaits f t 0
 passed-start {f} {t} = record { done = omega arith; same = rw sub-zero }
 
-module _ {f : List ℕ} {t i : ℕ} (p : Passed f t i) where
+module _ {f : List ℕ} {t i : ℕ} (p : NoneWaits f t i) where
   -- a type whose flag is set is passed, and none before the next waits
-  pub passed-on : i < t → (getD f i 0 ≡ 0 → ⊥) → Passed f t (i + 1)
+  pub passed-on : i < t → (getD f i 0 ≡ 0 → ⊥) → NoneWaits f t (i + 1)
   passed-on l o = record { done = omega arith; same = p .same ∙ waits-off f t i l o }
 
   -- where none before type i waits and its flag is not set, it is the first that waits

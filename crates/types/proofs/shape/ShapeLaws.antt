@@ -1,8 +1,7 @@
 -- Laws of tag shapes (document 01, "Tag shape"): the ways out of the tests, the product of the lengths one after the
 -- other, a test of a product that does not multiply, and that a symbol type fits 16 bits.
 use Prim.Native.Nat.{ℕ, _+_, _-_, _*_, _/_, _^_, _≤_, _<_}
-use native.Mathlib.Decide.{decLe}
-use native.Mathlib.Nat.{mul-comm, mul-assoc, le-mul-of-pos-right, le-div-iff-mul-le, div-lt-iff-lt-mul}
+use native.Mathlib.Nat.{mul-assoc, le-mul-of-pos-right}
 use native.Mathlib.Numerals.{add-one}
 use native.Mathlib.Omega.{arith}
 use mathlib.Core.Path.{_≡_, refl, sym, ap, _∙_}
@@ -115,23 +114,6 @@ module _ (t : Ty) (s : List ℕ) where
   tag-other b = rw b
 
 -- ---- products
-
--- 0 times anything is at most any bound
-pub fits-zero : (a b m : ℕ) → a ≡ 0 → true ≡ leb (a * b) m
-fits-zero a b m e = rw e (sym (le-leb (0 * b) m (omega arith)))
-
--- a product is at most a bound just where the second factor is at most the bound over the first
-pub fits-div : (a b m : ℕ) → (a ≡ 0 → ⊥) → leb b (m / a) ≡ leb (a * b) m
-fits-div a b m n = go (decLe b (m / a))
-  where
-    some : 0 < a
-    some = omega (arith, n)
-
-    go : Dec (b ≤ m / a) → leb b (m / a) ≡ leb (a * b) m
-    go (yes h) = le-leb b (m / a) h ∙ sym (le-leb (a * b) m (rw (mul-comm a b) (le-div-iff-mul-le some .0 h)))
-    go (no h) =
-        let l : m / a < b = omega (arith, h) in
-        lt-leb b (m / a) l ∙ sym (lt-leb (a * b) m (rw (mul-comm a b) (div-lt-iff-lt-mul some .0 l)))
 
 -- where none is 0 the product is not
 product-least : (s : List ℕ) → noneZero s ≡ true → 0 < product s
@@ -306,11 +288,11 @@ module _ (types : List ℕ) (t : Ty) (used : ℕ) where
 -- ---- the shapes that are given
 
 -- a shape that is given has a symbol type
-record Asked (types : List ℕ) (r : ShapeSaid) : Type 0 where
+record SymbolAsked (types : List ℕ) (r : ShapeSaid) : Type 0 where
   ask : (x : Shape) → r ≡ given x → (isThere types (x .ty) ≡ true) × (x .used ≤ 3)
 
 module _ (types : List ℕ) where
-  asked-refused : (number : ℕ) → Asked types (refusedShape number 0)
+  asked-refused : (number : ℕ) → SymbolAsked types (refusedShape number 0)
   asked-refused number =
       record {
         ask = λ x e.
@@ -319,12 +301,13 @@ module _ (types : List ℕ) where
             absurd (omega arith);
       }
 
-  asked-if : (b : Bool) {p q : ShapeSaid} → (b ≡ true → Asked types p) → Asked types q → Asked types (cond b p q)
+  asked-if : (b : Bool) {p q : ShapeSaid} → (b ≡ true → SymbolAsked types p) → SymbolAsked types q
+      → SymbolAsked types (cond b p q)
   asked-if true f g = f refl
   asked-if false f g = g
 
   asked-within : (sizes : ℕ → ℕ) (t : Ty) (lengths : List ℕ) (used n : ℕ) → isThere types t ≡ true → used ≤ 3
-      → Asked types (within sizes t lengths used n)
+      → SymbolAsked types (within sizes t lengths used n)
   unfolding within
   asked-within sizes t lengths used n f h =
       asked-if (leb (sizeIn sizes t * n) mostSize)
@@ -345,7 +328,7 @@ module _ (types : List ℕ) where
       go true = omega arith
       go false = omega arith
 
-  asked-shape : (t : Ty) (s : List ℕ) → Asked types (shapeOf types t s)
+  asked-shape : (t : Ty) (s : List ℕ) → SymbolAsked types (shapeOf types t s)
   unfolding shapeOf boolShape plainShape
   asked-shape t s =
       asked-if (isThere types t)

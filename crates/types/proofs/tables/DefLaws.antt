@@ -21,7 +21,7 @@ use Rattle.types.specs.tables.Limits.{mostTypes, mostMembers, mostNames,
 use Rattle.types.specs.tables.Registry.{ownNames, headOf}
 use Rattle.types.specs.declared.tables.member.Ty.{Ty}
 use Rattle.types.specs.declared.tables.member.Ty.the-variants.{Atomic, Struct}
-use Rattle.types.proofs.tables.TableLaws.{BitFits, Storable, Eight, member-back, name-back}
+use Rattle.types.proofs.tables.TableLaws.{BitFits, RowStorable, Eight, member-back, name-back}
 
 -- ---- rows beside a run of stores
 
@@ -72,7 +72,7 @@ pub record PartFits (n : ℕ) (p : Part) : Type 0 where
   pub access : p .member .access < 256
   pub earlier : Earlier n (p .member .ty)
 
-storable : {n : ℕ} {p : Part} → PartFits n p → Storable (p .member)
+storable : {n : ℕ} {p : Part} → PartFits n p → RowStorable (p .member)
 storable f = record { bit = f .bit; access = f .access }
 
 names-long : (p : Part) (ps : List Part) → length (namesOf (p ∷ ps)) ≡ length (p .name) + length (namesOf ps)
@@ -97,7 +97,7 @@ names-first t at p ps = sets-append t at (p .name) (namesOf ps)
 
 -- the first of some stored parts
 module _ (m : List ℕ) (row at : ℕ) (p : Part) (run : List ℕ) (l : 8 * row + 8 ≤ length m) where
-  first-member : Storable (p .member)
+  first-member : RowStorable (p .member)
       → memberAt (sets (sets m (8 * row) (rowOf at p)) (8 * (row + 1)) run) row ≡ p .member
   first-member s =
       member-stays (sets m (8 * row) (rowOf at p)) (8 * (row + 1)) run row (inl (omega arith))
@@ -109,7 +109,7 @@ module _ (m : List ℕ) (row at : ℕ) (p : Part) (run : List ℕ) (l : 8 * row 
       name-stays (sets m (8 * row) (rowOf at p)) (8 * (row + 1)) run row (inl (omega arith))
       ∙ name-back m row (p .member) l
 
-  first-part : (t bytes : List ℕ) → at + length (p .name) ≤ length t → Storable (p .member)
+  first-part : (t bytes : List ℕ) → at + length (p .name) ≤ length t → RowStorable (p .member)
       → partAt (sets (sets m (8 * row) (rowOf at p)) (8 * (row + 1)) run)
       (sets (sets t at (p .name)) (at + length (p .name)) bytes) row
       ≡ p
@@ -179,14 +179,14 @@ def-back m t row at n d h k f =
     )
 
 -- a row whose name ends at or below a place, and whose type is an atomic or one of the first n
-pub record Within (m : List ℕ) (n edge row : ℕ) : Type 0 where
+pub record RowWithin (m : List ℕ) (n edge row : ℕ) : Type 0 where
   pub name : nameAt m row .at + nameAt m row .long ≤ edge
   pub earlier : Earlier n (memberAt m row .ty)
 
 -- in the rows of stored parts each name ends at or before the end of all their names, each type is earlier
 pub rows-within : (m : List ℕ) (row at n : ℕ) (ps : List Part) → 8 * row + 8 * length ps ≤ length m
     → Every (PartFits n) ps → (k : ℕ) → k < length ps
-    → Within (sets m (8 * row) (rowsOf at ps)) n (at + length (namesOf ps)) (row + k)
+    → RowWithin (sets m (8 * row) (rowsOf at ps)) n (at + length (namesOf ps)) (row + k)
 unfolding Every
 rows-within m row at n [] h f k l = absurd (omega arith)
 rows-within m row at n (p ∷ ps) h f zero l =
@@ -211,7 +211,7 @@ earlier-fits n h (Atomic a) e = tt
 earlier-fits n h (Struct k) e = omega arith
 
 -- and so is the type of a member whose row names an earlier one
-pub within-fits : {m : List ℕ} {n edge row : ℕ} → n ≤ mostTypes → Within m n edge row → TyFits (memberAt m row .ty)
+pub within-fits : {m : List ℕ} {n edge row : ℕ} → n ≤ mostTypes → RowWithin m n edge row → TyFits (memberAt m row .ty)
 within-fits {m} {n} {edge} {row} h w = earlier-fits n h (memberAt m row .ty) (w .earlier)
 
 -- its rows can be read

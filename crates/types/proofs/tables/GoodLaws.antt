@@ -38,7 +38,7 @@ use Rattle.types.proofs.rounds.RoundsKeep.{Good}
 use Rattle.types.proofs.tables.CountLaws.{count-of}
 use Rattle.types.proofs.tables.ProperLaws.{FirstFour}
 use Rattle.types.proofs.tables.RegistryLaws.{names-long, word-after}
-use Rattle.types.proofs.tables.ShownLaws.{noDef, Row, name-same, sizes-same, names-inside, row-readable}
+use Rattle.types.proofs.tables.ShownLaws.{noDef, RowShown, name-same, sizes-same, names-inside, row-readable}
 use Rattle.types.proofs.tables.WellLaws.{sizesOf, laid-same}
 use Rattle.types.proofs.templates.TemplateLaws.{parts-long}
 
@@ -117,7 +117,7 @@ module _ (ds : List Def) (g : Good ds) where
     abbrev d : Def
     d = getD ds i noDef
 
-    abbrev r : Row ds i d
+    abbrev r : RowShown ds i d
     r = g .shown .rows i l
 
     parts-are : partsAt members names (r .row) (length (d .parts)) ≡ d .parts

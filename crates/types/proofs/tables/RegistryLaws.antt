@@ -1,15 +1,15 @@
 -- Laws of the registry's tables (document 01, "Declaration book": the tables; "Order of building"): one type more is
 -- its row after the rows, its members' rows after the members' rows, and its names after the names; and how long the
 -- tables are.
-use Prim.Native.Nat.{ℕ, zero, suc, _+_, _*_, _≤_}
+use Prim.Native.Nat.{ℕ, _+_, _*_, _≤_}
 use native.Mathlib.Nat.{add-zero, zero-add}
 use native.Mathlib.Omega.{arith}
 use mathlib.Core.Path.{_≡_, refl, sym, ap, _∙_}
 use mathlib.Core.List.{List, [], _∷_, _++_, append-assoc, append-nil}
 use mathlib.Core.Logic.{inr}
-use lib.ListN.{length, getD, replicate, length-append, length-replicate}
+use lib.ListN.{length, getD, length-append, length-replicate}
 use lib.Seq.{sets, length-sets}
-use Rattle.words.proofs.Lists.{sets-append, getD-beside}
+use Rattle.words.proofs.Lists.{sets-append, getD-beside, zero-at}
 use Rattle.types.specs.adding.Add.{yes}
 use Rattle.types.specs.inside.adding.Add.{added, Took}
 use Rattle.types.specs.inside.tables.Registry.{usedBy, usedMore, Stands}
@@ -151,14 +151,9 @@ names-long ds = length-sets noNames 0 (nameBytesOf ds) ∙ no-names-long
 
 -- ---- the words after the types' rows are zero
 
-zeros : (n k : ℕ) → _≡_ {A = ℕ} (getD (replicate n 0) k 0) 0
-zeros zero k = refl
-zeros (suc n) zero = refl
-zeros (suc n) (suc k) = zeros n k
-
 no-word : (k : ℕ) → getD noTypes k 0 ≡ 0
 unfolding noTypes
-no-word k = zeros typeWords k
+no-word k = zero-at typeWords k
 
 -- a word of the types' table after the rows of all types is zero
 pub word-after : (ds : List Def) (k : ℕ) → 8 * length ds ≤ k → getD (typesTable ds) k 0 ≡ 0

@@ -27,7 +27,7 @@ use Rattle.types.specs.tables.Registry.{namesTable, viewOf}
 use Rattle.types.specs.tables.Sizes.{sizesIn}
 use Rattle.types.specs.declared.tables.member.StructDef.{StructDef}
 use Rattle.types.specs.declared.tables.member.StructKind.the-variants.{Udt}
-use Rattle.types.proofs.tables.DefLaws.{PartFits, Within, type-stays, member-stays, name-stays, parts-beside}
+use Rattle.types.proofs.tables.DefLaws.{PartFits, RowWithin, type-stays, member-stays, name-stays, parts-beside}
 use Rattle.types.proofs.tables.DefLaws.{def-back, rows-within, within-fits}
 use Rattle.types.proofs.tables.RegistryLaws.{length-snoc, members-of-snoc, long-snoc, types-more, members-more}
 use Rattle.types.proofs.tables.RegistryLaws.{names-more, types-long, members-long, names-long, word-after}
@@ -36,7 +36,7 @@ use Rattle.types.proofs.tables.TableLaws.{type-back}
 -- ---- what a type that is added has, and what the tables show
 
 -- what a type that is added to a registry has
-pub record Fits (ds : List Def) (d : Def) : Type 0 where
+pub record FitsRegistry (ds : List Def) (d : Def) : Type 0 where
   pub few : length ds < mostTypes
   pub rows : membersOf ds + length (d .parts) ≤ mostMembers
   pub bytes : length (nameBytesOf ds) + length (ownNames d) ≤ mostNames
@@ -46,7 +46,7 @@ pub record Fits (ds : List Def) (d : Def) : Type 0 where
   pub handle : d .handle < 65536
 
 -- row i shows the type: its names begin at a place, its members at a row
-pub record Row (ds : List Def) (i : ℕ) (d : Def) : Type 0 where
+pub record RowShown (ds : List Def) (i : ℕ) (d : Def) : Type 0 where
   pub at : ℕ
   pub row : ℕ
   pub head : typeAt (typesTable ds) i ≡ headOf at row d
@@ -54,7 +54,7 @@ pub record Row (ds : List Def) (i : ℕ) (d : Def) : Type 0 where
   pub def : defOf (membersTable ds) (namesTable ds) (headOf at row d) ≡ d
   pub bytes : at + length (ownNames d) ≤ length (nameBytesOf ds)
   pub rows : row + length (d .parts) ≤ membersOf ds
-  pub within : (k : ℕ) → k < length (d .parts) → Within (membersTable ds) i (at + length (ownNames d)) (row + k)
+  pub within : (k : ℕ) → k < length (d .parts) → RowWithin (membersTable ds) i (at + length (ownNames d)) (row + k)
   pub parts : Every (PartFits i) (d .parts)
   pub id : d .id < 0x1000
   pub used : d .id ≡ 0 → ⊥
@@ -76,11 +76,11 @@ each-more P ds d w n i l = go (decLt i (length ds))
         rw (q, e) n
 
 -- each type of the registry is shown by its row, and the rows after them are unused
-pub record Shown (ds : List Def) : Type 0 where
+pub record TablesShow (ds : List Def) : Type 0 where
   pub few : length ds ≤ mostTypes
   pub members : membersOf ds ≤ mostMembers
   pub bytes : length (nameBytesOf ds) ≤ mostNames
-  pub rows : (i : ℕ) → i < length ds → Row ds i (getD ds i noDef)
+  pub rows : (i : ℕ) → i < length ds → RowShown ds i (getD ds i noDef)
   pub unused : (i : ℕ) → length ds ≤ i → typeAt (typesTable ds) i .id ≡ 0
   pub blank : (i : ℕ) → length ds ≤ i → idWord (typesTable ds) i ≡ 0
 
@@ -95,7 +95,7 @@ id-after ds i l = rw (word-after ds (8 * i + 2) (omega arith))
 -- ---- no type
 
 -- the tables of a registry of no types show it
-pub shown-none : Shown []
+pub shown-none : TablesShow []
 unfolding membersOf nameBytesOf
 shown-none =
     record {
@@ -117,7 +117,7 @@ abbrev memberRun : List Def → Def → List ℕ
 memberRun ds d = rowsOf (length (nameBytesOf ds) + length (d .name)) (d .parts)
 
 -- the rows before it stay
-module _ (ds : List Def) (d : Def) (i : ℕ) (x : Def) (h : i < length ds) (r : Row ds i x) where
+module _ (ds : List Def) (d : Def) (i : ℕ) (x : Def) (h : i < length ds) (r : RowShown ds i x) where
   stays-head : typeAt (typesTable (ds ++ d ∷ [])) i ≡ headOf (r .at) (r .row) x
   stays-head =
       rw (types-more ds d)
@@ -141,7 +141,7 @@ module _ (ds : List Def) (d : Def) (i : ℕ) (x : Def) (h : i < length ds) (r : 
       rw (members-more ds d, names-more ds d) (rw (own, parts) (r .def))
 
   stays-within : (k : ℕ) → k < length (x .parts)
-      → Within (membersTable (ds ++ d ∷ [])) i (r .at + length (ownNames x)) (r .row + k)
+      → RowWithin (membersTable (ds ++ d ∷ [])) i (r .at + length (ownNames x)) (r .row + k)
   stays-within k l =
       let after = 8 * membersOf ds in
       let name = name-stays (membersTable ds) after (memberRun ds d) (r .row + k) (inl (omega arith)) in
@@ -149,7 +149,7 @@ module _ (ds : List Def) (d : Def) (i : ℕ) (x : Def) (h : i < length ds) (r : 
       rw (members-more ds d)
       record { name = rw name (r .within k l .name); earlier = rw member (r .within k l .earlier) }
 
-  row-stays : Row (ds ++ d ∷ []) i x
+  row-stays : RowShown (ds ++ d ∷ []) i x
   row-stays =
       record {
         at = r .at;
@@ -166,7 +166,7 @@ module _ (ds : List Def) (d : Def) (i : ℕ) (x : Def) (h : i < length ds) (r : 
       }
 
 -- its own row shows it
-module _ (ds : List Def) (d : Def) (f : Fits ds d) where
+module _ (ds : List Def) (d : Def) (f : FitsRegistry ds d) where
   own-head : typeAt (typesTable (ds ++ d ∷ [])) (length ds) ≡ headOf (length (nameBytesOf ds)) (membersOf ds) d
   own-head =
       rw (types-more ds d)
@@ -188,7 +188,7 @@ module _ (ds : List Def) (d : Def) (f : Fits ds d) where
       (omega (arith, members-long ds)) (omega (arith, names-long ds)) (f .parts))
 
   own-within : (k : ℕ) → k < length (d .parts)
-      → Within (membersTable (ds ++ d ∷ [])) (length ds)
+      → RowWithin (membersTable (ds ++ d ∷ [])) (length ds)
       (length (nameBytesOf ds) + length (ownNames d)) (membersOf ds + k)
   own-within k l =
       let e : length (nameBytesOf ds) + length (ownNames d)
@@ -198,7 +198,7 @@ module _ (ds : List Def) (d : Def) (f : Fits ds d) where
       (rows-within (membersTable ds) (membersOf ds) (length (nameBytesOf ds) + length (d .name)) (length ds) (d .parts)
       (omega (arith, members-long ds)) (f .parts) k l)
 
-  own-row : Row (ds ++ d ∷ []) (length ds) d
+  own-row : RowShown (ds ++ d ∷ []) (length ds) d
   own-row =
       record {
         at = length (nameBytesOf ds);
@@ -215,14 +215,14 @@ module _ (ds : List Def) (d : Def) (f : Fits ds d) where
       }
 
 -- one type more is shown beside the others
-pub shown-more : (ds : List Def) (d : Def) → Shown ds → Fits ds d → Shown (ds ++ d ∷ [])
+pub shown-more : (ds : List Def) (d : Def) → TablesShow ds → FitsRegistry ds d → TablesShow (ds ++ d ∷ [])
 shown-more ds d s f =
     let long = length-snoc ds d in
     record {
       few = omega arith;
       members = omega (arith, members-of-snoc ds d);
       bytes = omega (arith, long-snoc ds d);
-      rows = each-more (Row (ds ++ d ∷ [])) ds d (λ i h. row-stays ds d i (getD ds i noDef) h (s .rows i h))
+      rows = each-more (RowShown (ds ++ d ∷ [])) ds d (λ i h. row-stays ds d i (getD ds i noDef) h (s .rows i h))
           (own-row ds d f);
       unused = id-after (ds ++ d ∷ []);
       blank = word-none (ds ++ d ∷ []);
@@ -249,18 +249,18 @@ map-same : {B : Type 0} (f : ℕ → B) (g : Def → B) (ds : List Def)
 map-same f g ds h = list-map f g ds noDef 0 (λ k l. rw zero-add (h k l))
 
 -- the name in a row is the type's
-pub name-same : (ds : List Def) (i : ℕ) (d : Def) → Row ds i d
+pub name-same : (ds : List Def) (i : ℕ) (d : Def) → RowShown ds i d
     → rowName (typesTable ds) (namesTable ds) i ≡ d .name
 unfolding defOf
 name-same ds i d r = rw (r .head) (ap (λ (x : Def). x .name) (r .def))
 
 -- the size in a row is the type's
-pub sizes-same : (ds : List Def) → Shown ds → (k : ℕ) → k < length ds
+pub sizes-same : (ds : List Def) → TablesShow ds → (k : ℕ) → k < length ds
     → sizesIn (typesTable ds) k ≡ getD ds k noDef .size
 sizes-same ds s k l = ap (λ (h : StructDef). h .size) (s .rows k l .head)
 
 -- the tables show what the registry shows
-pub view-same : (ds : List Def) → Shown ds → viewIn (typesTable ds) (namesTable ds) (usedBy ds) ≡ viewOf ds
+pub view-same : (ds : List Def) → TablesShow ds → viewIn (typesTable ds) (namesTable ds) (usedBy ds) ≡ viewOf ds
 unfolding viewIn viewOf
 view-same ds s =
     let names = map-same (rowName (typesTable ds) (namesTable ds)) (λ d. d .name) ds
@@ -270,7 +270,7 @@ view-same ds s =
     rw (names, ids, sizes)
 
 -- the types' names lie among the names
-pub names-inside : (ds : List Def) → Shown ds → NamesInside (typesTable ds) (namesTable ds) (length ds)
+pub names-inside : (ds : List Def) → TablesShow ds → NamesInside (typesTable ds) (namesTable ds) (length ds)
 names-inside ds s = record { few = s .few; inside = inside }
   where
     inside : (i : ℕ) → i < length ds
@@ -281,11 +281,11 @@ names-inside ds s = record { few = s .few; inside = inside }
         rw (r .head, names-long ds) (omega (arith, r .bytes, s .bytes, length-append (d .name) (namesOf (d .parts))))
 
 -- ids are small: of the types, as words, and of all rows
-pub ids-small : (ds : List Def) → Shown ds → (k : ℕ) → k < length ds → idWord (typesTable ds) k < 65536
+pub ids-small : (ds : List Def) → TablesShow ds → (k : ℕ) → k < length ds → idWord (typesTable ds) k < 65536
 ids-small ds s k l = rw (s .rows k l .word) (omega (arith, s .rows k l .id))
 
 -- the id in each of the 200 rows is below 0x1000
-pub ids-fit : (ds : List Def) → Shown ds → (n : ℕ) → n < mostTypes → typeAt (typesTable ds) n .id < 0x1000
+pub ids-fit : (ds : List Def) → TablesShow ds → (n : ℕ) → n < mostTypes → typeAt (typesTable ds) n .id < 0x1000
 ids-fit ds s n l = go (decLt n (length ds))
   where
     go : Dec (n < length ds) → typeAt (typesTable ds) n .id < 0x1000
@@ -293,7 +293,7 @@ ids-fit ds s n l = go (decLt n (length ds))
     go (no h) = omega (arith, s .unused n (omega (arith, h)))
 
 -- the row of a type can be read
-pub row-readable : (ds : List Def) → Shown ds → (i : ℕ) → i < length ds
+pub row-readable : (ds : List Def) → TablesShow ds → (i : ℕ) → i < length ds
     → Readable (membersTable ds) (typeAt (typesTable ds) i)
 row-readable ds s i l =
     let d = getD ds i noDef in

@@ -108,7 +108,7 @@ stored t i a b c d e f g h l =
 -- ---- members
 
 -- what a member's row can hold
-pub record Storable (m : Member) : Type 0 where
+pub record RowStorable (m : Member) : Type 0 where
   pub bit : BitFits (m .bit)
   pub access : m .access < 256
 
@@ -120,7 +120,7 @@ unfolding memberRow
 member-words t i n m h = stored t i _ _ _ _ _ _ _ _ h
 
 -- a stored member is read back
-pub member-back : (t : List ℕ) (i : ℕ) (n : Span) (m : Member) → 8 * i + 8 ≤ length t → Storable m
+pub member-back : (t : List ℕ) (i : ℕ) (n : Span) (m : Member) → 8 * i + 8 ≤ length t → RowStorable m
     → memberAt (sets t (8 * i) (memberRow n m)) i ≡ m
 unfolding memberAt
 member-back t i n m h s =

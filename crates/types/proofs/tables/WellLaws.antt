@@ -14,7 +14,7 @@ use Rattle.types.specs.declared.tables.member.Bit.{Bit}
 use Rattle.types.specs.declared.tables.member.Bit.the-variants.{None, At}
 use Rattle.types.specs.declared.tables.member.Member.{Member}
 use Rattle.types.specs.declared.tables.member.StructKind.the-variants.{Str}
-use Rattle.types.proofs.layout.StringLaws.{IsString}
+use Rattle.types.proofs.layout.StringLaws.{StringParts}
 use Rattle.types.proofs.tables.AgreeLaws.{size-same}
 use Rattle.types.proofs.tables.ShownLaws.{noDef, each-more}
 
@@ -69,7 +69,7 @@ module _ (f g : ℕ → ℕ) (i : ℕ) (same : (k : ℕ) → k < i → f k ≡ g
 pub record WellMade (sizes : ℕ → ℕ) (i : ℕ) (d : Def) : Type 0 where
   pub laid : Laid sizes i (d .size) (d .parts)
   pub most : d .size ≤ mostSize + 224
-  pub string : d .kind ≡ Str → IsString (d .size) (d .parts)
+  pub string : d .kind ≡ Str → StringParts (d .size) (d .parts)
 
 -- the size of the n-th type of a registry, 0 past its end
 abbrev pub sizesOf : List Def → ℕ → ℕ

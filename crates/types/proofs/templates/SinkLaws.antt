@@ -7,8 +7,8 @@ use mathlib.Core.Bool.{Bool, true, false, cond}
 use mathlib.Core.List.{List, [], _++_}
 use lib.ListN.{length, length-append}
 use lib.Seq.{sets, length-sets}
-use Rattle.words.proofs.Lists.{sets-append}
-use Rattle.types.specs.inside.templates.Sink.{Room, Emitted}
+use Rattle.words.proofs.Lists.{cond-sets}
+use Rattle.types.specs.inside.templates.Sink.{SinkRoom, Emitted}
 use Rattle.types.specs.templates.Handle.{foldFrom}
 use Rattle.types.specs.declared.templates.sink.Sink.{Sink}
 use Rattle.types.proofs.templates.HandleLaws.{fold-append}
@@ -26,12 +26,6 @@ none-came k out = record { at = omega arith; fold = refl; writes = refl; bytes =
     same true o = refl
     same false o = refl
 
-bytes-append : (b c : Bool) (at next : ℕ) (s t out left last : List ℕ) → c ≡ b → next ≡ at + length s
-    → left ≡ cond b (sets out at s) out → last ≡ cond c (sets left next t) left
-    → last ≡ cond b (sets out at (s ++ t)) out
-bytes-append true c at next s t out left last p q f g = g ∙ rw (p, q, f) (sym (sets-append out at s t))
-bytes-append false c at next s t out left last p q f g = g ∙ rw (p, f)
-
 -- two pieces are one
 pub came-both : {s t : List ℕ} {k m r : Sink} {out left last : List ℕ}
     → Emitted s k out m left → Emitted t m left r last → Emitted (s ++ t) k out r last
@@ -40,7 +34,7 @@ came-both {s} {t} {k} {m} {r} {out} {left} {last} a b =
       at = omega (arith, a .at, b .at, length-append s t);
       fold = b .fold ∙ rw (a .fold) (sym (fold-append (k .fold) s t));
       writes = b .writes ∙ a .writes;
-      bytes = bytes-append (k .writes) (m .writes) (k .at) (m .at) s t out left last
+      bytes = cond-sets (k .writes) (m .writes) (k .at) (m .at) s t out left last
           (a .writes) (a .at) (a .bytes) (b .bytes);
     }
 
@@ -54,25 +48,25 @@ long-kept {s} {k} {r} {out} {left} e = ap length (e .bytes) ∙ same (k .writes)
 -- ---- a whole, piece by piece
 
 -- of a whole that comes to the sink k at out, the rest is left to come to the sink m at left
-pub record Left (whole : List ℕ) (k : Sink) (out rest : List ℕ) (m : Sink) (left : List ℕ) : Type 0 where
+pub record PiecesLeft (whole : List ℕ) (k : Sink) (out rest : List ℕ) (m : Sink) (left : List ℕ) : Type 0 where
   pub long : length left ≡ length out
-  pub room : Room rest m left
+  pub room : SinkRoom rest m left
   pub then : (r : Sink) (last : List ℕ) → Emitted rest m left r last → Emitted whole k out r last
 
 -- before the first piece comes the whole is left
-pub left-all : {s : List ℕ} {k : Sink} {out : List ℕ} → Room s k out → Left s k out s k out
+pub left-all : {s : List ℕ} {k : Sink} {out : List ℕ} → SinkRoom s k out → PiecesLeft s k out s k out
 left-all h = record { long = refl; room = h; then = λ r last e. e }
 
 -- the next piece fits
 pub left-room : {whole rest : List ℕ} {k m : Sink} {out left : List ℕ} (s t : List ℕ) → rest ≡ s ++ t
-    → Left whole k out rest m left → Room s m left
+    → PiecesLeft whole k out rest m left → SinkRoom s m left
 left-room {whole} {rest} {k} {m} {out} {left} s t e l =
     let n : length rest ≡ length s + length t = ap length e ∙ length-append s t in
     record { small = omega (arith, l .room .small, n); room = λ w. omega (arith, l .room .room w, n) }
 
 -- the next piece came
 pub left-on : {whole rest s : List ℕ} {k m r : Sink} {out left last : List ℕ} (t : List ℕ) → rest ≡ s ++ t
-    → Left whole k out rest m left → Emitted s m left r last → Left whole k out t r last
+    → PiecesLeft whole k out rest m left → Emitted s m left r last → PiecesLeft whole k out t r last
 left-on {whole} {rest} {s} {k} {m} {r} {out} {left} {last} t e l h =
     let n : length rest ≡ length s + length t = ap length e ∙ length-append s t in
     record {
@@ -85,19 +79,19 @@ left-on {whole} {rest} {s} {k} {m} {r} {out} {left} {last} t e l h =
     }
 
 -- nothing is left
-pub left-none : {whole rest : List ℕ} {k m : Sink} {out left : List ℕ} → rest ≡ [] → Left whole k out rest m left
+pub left-none : {whole rest : List ℕ} {k m : Sink} {out left : List ℕ} → rest ≡ [] → PiecesLeft whole k out rest m left
     → Emitted whole k out m left
 left-none {whole} {rest} {k} {m} {out} {left} e l = l .then m left (rw e (none-came m left))
 
 -- ---- a loop over the pieces
 
 -- before turn i of n, the i-th of the rests is left of a whole
-pub record Turn (whole : List ℕ) (rests : ℕ → List ℕ) (n : ℕ) (k : Sink) (out : List ℕ)
+pub record PiecesAt (whole : List ℕ) (rests : ℕ → List ℕ) (n : ℕ) (k : Sink) (out : List ℕ)
     (i : ℕ) (m : Sink) (left : List ℕ) : Type 0 where
   pub inside : i ≤ n
-  pub rest : Left whole k out (rests i) m left
+  pub rest : PiecesLeft whole k out (rests i) m left
 
 -- before the first turn the whole is left
 pub turn-first : {whole : List ℕ} {k : Sink} {out : List ℕ} (rests : ℕ → List ℕ) (n : ℕ) → whole ≡ rests 0
-    → Room whole k out → Turn whole rests n k out 0 k out
+    → SinkRoom whole k out → PiecesAt whole rests n k out 0 k out
 turn-first {whole} {k} {out} rests n e h = record { inside = omega arith; rest = rw (← e) (left-all h) }

@@ -3,15 +3,16 @@
 use Prim.Native.Nat.{ℕ, zero, suc, _+_, _-_, _*_, _/_, _%_, _≤_, _<_}
 use native.Mathlib.Nat.{add-zero}
 use native.Mathlib.Omega.{arith}
-use mathlib.Core.Path.{_≡_, refl, ap, _∙_}
+use mathlib.Core.Path.{_≡_, refl, ap}
 use mathlib.Core.Bool.{Bool, true, false, cond}
 use mathlib.Core.List.{List, [], _∷_, _++_}
 use borrow.Author.Tests.{le-leb, lt-leb}
 use lib.Dec.{leb}
-use lib.ListN.{length, replicate, take, drop, length-append, length-replicate, length-take}
+use lib.ListN.{length, replicate, take, drop, length-append, length-replicate}
 use lib.Seq.{sets}
 use Rattle.words.specs.Words.{bytesOf, part}
-use Rattle.words.proofs.WordLaws.{length-bytes, bytes-low}
+use Rattle.words.proofs.WordLaws.{length-bytes, bytes-low, two-stored}
+use Rattle.words.proofs.Lists.{part-most, take-replicate}
 use Rattle.types.specs.inside.tables.Defs.{Readable}
 use Rattle.types.specs.inside.tables.Lent.{TyFits}
 use Rattle.types.specs.inside.templates.Pieces.{shownIn}
@@ -28,7 +29,7 @@ use Rattle.types.specs.declared.tables.member.StructDef.{StructDef}
 use Rattle.types.specs.declared.tables.member.StructKind.{StructKind}
 use Rattle.types.specs.declared.tables.member.StructKind.the-variants.{Udt, Predefined, Str, Aoi}
 use Rattle.types.specs.declared.templates.sink.Sink.{Sink}
-use Rattle.types.proofs.templates.SinkLaws.{Left, left-on}
+use Rattle.types.proofs.templates.SinkLaws.{PiecesLeft, left-on}
 
 -- ---- one member
 
@@ -42,13 +43,6 @@ info-bytes ids m p q =
     whole : (a b c : ℕ) → sets (sets (sets (replicate 8 0) 0 (bytesOf 2 a)) 2 (bytesOf 2 b)) 4 (bytesOf 4 c)
         ≡ bytesOf 2 a ++ (bytesOf 2 b ++ bytesOf 4 c)
     whole a b c = unfold bytesOf in refl
-
--- a store of two bytes
-pub two-bytes : (x : ℕ) → sets (replicate 2 0) 0 (bytesOf 2 (x % 65536)) ≡ bytesOf 2 x
-two-bytes x = whole (x % 65536) ∙ bytes-low 2 x
-  where
-    whole : (a : ℕ) → sets (replicate 2 0) 0 (bytesOf 2 a) ≡ bytesOf 2 a
-    whole a = unfold bytesOf in refl
 
 -- ---- a row of a structure
 
@@ -96,9 +90,9 @@ module _ (members names : List ℕ) (first n i : ℕ) (h : i < n) where
 
   -- after a name its 0 is left
   pub name-came : {whole out left last : List ℕ} {k m r : Sink} {s : Span} → s ≡ nameAt members (first + i)
-      → Left whole k out (memberNames (partsAt members names (first + i) (n - i))) m left
+      → PiecesLeft whole k out (memberNames (partsAt members names (first + i) (n - i))) m left
       → Emitted (nameIn names s) m left r last
-      → Left whole k out (0 ∷ memberNames (partsAt members names (first + (i + 1)) (n - (i + 1)))) r last
+      → PiecesLeft whole k out (0 ∷ memberNames (partsAt members names (first + (i + 1)) (n - (i + 1)))) r last
   name-came e l c = left-on _ names-on l (rw e at c)
 
 -- the member ids that are left are that of the next member, then those of the members after it
@@ -153,18 +147,10 @@ table-part names s {from} {long} p q =
     let e : from + long - from ≡ long = omega arith in
     rw (e, p, q)
 
--- zeros to a multiple of 4 are at most three
-few-zeros : (n : ℕ) → n < 4 → take {A = ℕ} n (replicate 3 0) ≡ replicate n 0
-few-zeros zero h = refl
-few-zeros (suc zero) h = refl
-few-zeros (suc (suc zero)) h = refl
-few-zeros (suc (suc (suc zero))) h = refl
-few-zeros (suc (suc (suc (suc n)))) h = absurd (omega arith)
-
 -- the padding is as many of three zeros as a length lacks to a multiple of 4
 pub zeros-padding : (n : ℕ) → take {A = ℕ} ((n + 3) / 4 * 4 - n) (replicate 3 0) ≡ padding n
 unfolding padding
-zeros-padding n = few-zeros ((n + 3) / 4 * 4 - n) (omega arith)
+zeros-padding n = take-replicate ((n + 3) / 4 * 4 - n) 3 0 (omega arith)
 
 -- the padding is as long as what a length lacks to a multiple of 4
 pub padding-count : (n : ℕ) → length (padding n) ≡ (n + 3) / 4 * 4 - n
@@ -220,11 +206,6 @@ unfolding partsAt
 parts-long members names row zero = refl
 parts-long members names row (suc n) = ap suc (parts-long members names (row + 1) n)
 
--- the bytes of a name are at most as many as its length says
-pub name-long : (names : List ℕ) (at n : ℕ) → length (part names at n) ≤ n
-unfolding part
-name-long names at n = simp length-take (omega arith)
-
 -- the infos have eight bytes for each part
 pub infos-long : (ids : ℕ → ℕ) (ps : List Part) → length (infos ids ps) ≡ 8 * length ps
 unfolding infos infoBytes
@@ -265,4 +246,4 @@ names-long members names row (suc n) h =
     (λ k l.
     let e : row + 1 + k ≡ row + (k + 1) = omega arith in
     rw e (h (k + 1) (omega arith))) in
-    simp length-append (omega (arith, here, rest, name-long names (nameAt members row .at) (nameAt members row .long)))
+    simp length-append (omega (arith, here, rest, part-most names (nameAt members row .at) (nameAt members row .long)))

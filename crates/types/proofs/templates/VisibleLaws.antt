@@ -8,6 +8,7 @@ use mathlib.Core.Path.{_≡_, refl}
 use mathlib.Core.Bool.{Bool, true, false, cond}
 use mathlib.Core.List.{List, [], _∷_}
 use mathlib.Core.Logic.{_⊎_, inl, inr, ⊎-elim}
+use Rattle.words.proofs.ArithLaws.{below, below-more, below-same, below-all, below-none}
 use Rattle.types.specs.layout.Laid.{firstBit, pastBit, Apart, Clear, Laid}
 use Rattle.types.specs.tables.Defs.{Part, Def}
 use Rattle.types.specs.tables.Sizes.{bitsOf}
@@ -15,30 +16,6 @@ use Rattle.types.specs.templates.Waste.{visibleBits, wasteOf}
 use Rattle.types.specs.declared.tables.member.Member.{Member}
 
 -- ---- one stretch of bits
-
--- how many of the bits from f to g come before bit x
-below : ℕ → ℕ → ℕ → ℕ
-below x f g = x - f - (x - g)
-
--- one bit more
-below-more : (x f g : ℕ) → below (suc x) f g ≤ suc (below x f g)
-unfolding below
-below-more x f g = omega arith
-
--- that is none of them
-below-same : (x f g : ℕ) → (x < f) ⊎ (g ≤ x) → below (suc x) f g ≡ below x f g
-unfolding below
-below-same x f g = ⊎-elim (λ l. omega arith) (λ l. omega arith)
-
-below-all : (x f k : ℕ) → f + k ≤ x → below x f (f + k) ≡ k
-unfolding below
-below-all x f k l = omega arith
-
-below-none : (f g : ℕ) → below 0 f g ≡ 0
-unfolding below
-below-none f g = omega arith
-
--- ---- the visible parts
 
 module _ (sizes : ℕ → ℕ) where
   -- how many bits of a part come before bit x, none of a hidden one

@@ -5,7 +5,7 @@ ghost use Prim.Native.Nat.{_+_, _*_, _/_, _<_, _≤_};
 ghost use lib.ListN.{length};
 ghost use lib.Seq.{sets};
 ghost use Rattle.types.specs.inside.book.Decls.{declsFrom, Found};
-ghost use Rattle.types.specs.inside.layout.Passes.{BoolsCounted, OneIf, HostPut, aoiParts, Put, StorableAoi};
+ghost use Rattle.types.specs.inside.layout.Passes.{BoolsCounted, OneIf, HostPut, aoiParts, PartsPut, StorableAoi};
 ghost use Rattle.types.specs.inside.layout.Passes.{measuredAoi, BitHostLong, HostsLong};
 ghost use Rattle.types.specs.layout.HostNames.{bitHostName};
 ghost use Rattle.types.specs.layout.Structs.{namesOf, rowsOf, bools, hostParts, enableAt, enableParts, aoiStart};
@@ -13,7 +13,8 @@ ghost use Rattle.types.specs.layout.Structs.{namedIn};
 ghost use Rattle.types.specs.tables.Limits.{mostMembers, mostNames};
 use crate::atomics::atomic::Atomic;
 use crate::book::decls::decl_at;
-use crate::layout::host_names::two_digits;
+use crate::layout::decimals::DIGITS;
+use crate::layout::decimals::two_digits;
 use crate::layout::measure::Measured;
 use crate::layout::measure::measure;
 use crate::layout::placing::Cursor;
@@ -31,6 +32,7 @@ use crate::tables::member::Member;
 use crate::tables::member::Span;
 use crate::tables::member::Ty;
 use words::wide;
+use words::wide64;
 
 fn one_if(b: bool) -> u32
     ensures { λ r. ⌜ OneIf b r ⌝ }
@@ -78,17 +80,18 @@ fn put_bit_host(
     ensures { λ r. ⌜ HostPut i row at (now (members .entry)) (now (names .entry))
         (now (members .exit)) (now (names .exit)) r ⌝ }
 {
-    let d = two_digits(i);
+    let d = two_digits(wide64(i));
     let bytes = d.bytes;
-    let long = d.long;
+    let from = d.from;
+    let long = 9 + (DIGITS - from);
     put_bytes(names, at, b"__BitHost");
-    put_bytes(names, at + 9, &bytes[..long]);
+    put_bytes(names, at + 9, &bytes[from..]);
     put_member(
         members,
         row,
         Span {
             at: at as u32,
-            long: (9 + long) as u32,
+            long: long as u32,
         },
         Member {
             ty: Ty::Atomic(Atomic::DInt),
@@ -100,7 +103,7 @@ fn put_bit_host(
             access: 0,
         },
     );
-    9 + long
+    long
 }
 
 // The rows and names of all h hosts; answers the place after their names.
@@ -112,7 +115,7 @@ fn put_hosts(
     h: u32,
 ) -> usize
     requires { ⌜ (row + h ≤ mostMembers) × (place + length (namesOf (hostParts 0 h)) ≤ mostNames) ⌝ }
-    ensures { λ r. ⌜ Put (hostParts 0 h) row place (now (members .entry)) (now (names .entry))
+    ensures { λ r. ⌜ PartsPut (hostParts 0 h) row place (now (members .entry)) (now (names .entry))
         (now (members .exit)) (now (names .exit)) r ⌝ }
 {
     let mut at = place;
@@ -144,7 +147,7 @@ fn enable(bit: u8) -> Member
 // Their rows and names; answers the place after their names.
 fn put_enables(members: &mut MemberTable, row: usize, names: &mut NameTable, place: usize) -> usize
     requires { ⌜ (row + 2 ≤ mostMembers) × (place + 17 ≤ mostNames) ⌝ }
-    ensures { λ r. ⌜ Put enableParts row place (now (members .entry)) (now (names .entry))
+    ensures { λ r. ⌜ PartsPut enableParts row place (now (members .entry)) (now (names .entry))
         (now (members .exit)) (now (names .exit)) r ⌝ }
 {
     let first = enable(0);
@@ -212,8 +215,8 @@ fn bit_host_long(i: u32) -> u32
     requires { ⌜ i < 1000000 ⌝ }
     ensures { λ r. ⌜ BitHostLong i r ⌝ }
 {
-    let d = two_digits(i);
-    (9 + d.long) as u32
+    let d = two_digits(wide64(i));
+    (9 + (DIGITS - d.from)) as u32
 }
 
 // How long the names of h hosts are.

@@ -1,12 +1,12 @@
 // The lines that the program `layout` prints (document 01, end of "Reference cases"): each line is put
 // into a lent buffer, a field after the other.
 ghost use mathlib.Core.Path.{_≡_};
-ghost use Prim.Native.Nat.{_+_, _%_, _<_, _≤_};
+ghost use Prim.Native.Nat.{_+_, _<_, _≤_};
 ghost use mathlib.Core.Bool.{true};
 ghost use mathlib.Core.List.{[], _∷_};
 ghost use lib.ListN.{length};
 ghost use Rattle.types.specs.atomics.Atomic.{nameOf};
-ghost use Rattle.types.specs.inside.listing.Lines.{TypeNamed, Listable, FieldFits, FieldPut, Lined, Spelt};
+ghost use Rattle.types.specs.inside.listing.Lines.{TypeNamed, Listable, FieldFits, FieldPut, Lined};
 ghost use Rattle.types.specs.layout.HostNames.{digits};
 ghost use Rattle.types.specs.listing.Lines.{ended, line, typeNumbers, seen, bitText, memberPlace, refusedLine};
 ghost use Rattle.types.specs.listing.Lines.{printedType, structNames, typeLineIn, memberLineIn, hasMember};
@@ -17,6 +17,7 @@ ghost use Rattle.types.specs.tables.Lent.{typeAt};
 ghost use Rattle.types.specs.tables.Limits.{mostTypes, mostNames};
 ghost use Rattle.types.specs.templates.Template.{hasTemplate};
 use crate::atomics::atomic::Atomic;
+use crate::layout::decimals::decimal_of;
 use crate::refusals::given::Wrote;
 use crate::refusals::given::give;
 use crate::refusals::refusal::Refusal;
@@ -41,35 +42,6 @@ use words::wide64;
 
 // No line is longer.
 const LINE: usize = 512;
-
-// A number's digits: these bytes from `from` on.
-pub struct Decimal {
-    pub bytes: [u8; 20],
-    pub from: usize,
-}
-
-// The byte of a number's last digit.
-fn last_digit(x: u64) -> u8
-    ensures { λ r. ⌜ r ≡ 48 + x % 10 ⌝ }
-{
-    48 + ((x % 10) as u8)
-}
-
-// A number's digits, stored from the last one on.
-fn decimal_of(x: u64) -> Decimal
-    ensures { λ r. ⌜ Spelt x r ⌝ }
-{
-    let mut bytes = [0u8; 20];
-    let mut from: usize = 19;
-    let mut y = x;
-    while 10 <= y {
-        bytes[from] = last_digit(y);
-        from -= 1;
-        y = y / 10;
-    }
-    bytes[from] = last_digit(y);
-    Decimal { bytes, from }
-}
 
 // Some bytes from a place on; answers the place after them, as all these functions do.
 fn put_text(out: &mut [u8], at: usize, s: &[u8]) -> usize

@@ -7,7 +7,7 @@ ghost use lib.ListN.{length};
 ghost use Rattle.types.specs.inside.tables.Defs.{Readable};
 ghost use Rattle.types.specs.inside.tables.Lent.{TyFits};
 ghost use Rattle.types.specs.inside.templates.Pieces.{infosIn, shownIn, namesIn, Emittable};
-ghost use Rattle.types.specs.inside.templates.Sink.{Room, Emitted};
+ghost use Rattle.types.specs.inside.templates.Sink.{SinkRoom, Emitted};
 ghost use Rattle.types.specs.tables.Defs.{nameIn};
 ghost use Rattle.types.specs.tables.Lent.{memberAt};
 ghost use Rattle.types.specs.tables.Limits.{mostMembers};
@@ -60,7 +60,7 @@ pub fn emit_infos(
     sink: Sink,
     out: &mut [u8],
 ) -> Sink
-    requires { ⌜ Readable (now members) d × Room (infosIn (now types) (now members) d) sink (now out) ⌝ }
+    requires { ⌜ Readable (now members) d × SinkRoom (infosIn (now types) (now members) d) sink (now out) ⌝ }
     ensures { λ r. ⌜ Emitted (infosIn (now (types .entry)) (now (members .entry)) d)
         sink (now (out .entry)) r (now (out .exit)) ⌝ }
 {
@@ -78,7 +78,7 @@ pub fn emit_infos(
 
 // A name of the table.
 fn emit_name(names: &[u8], name: Span, sink: Sink, out: &mut [u8]) -> Sink
-    requires { ⌜ (name .at + name .long ≤ length (now names)) × Room (nameIn (now names) name) sink (now out) ⌝ }
+    requires { ⌜ (name .at + name .long ≤ length (now names)) × SinkRoom (nameIn (now names) name) sink (now out) ⌝ }
     ensures { λ r. ⌜ Emitted (nameIn (now (names .entry)) name) sink (now (out .entry)) r (now (out .exit)) ⌝ }
 {
     let from = wide(name.at);
@@ -88,7 +88,7 @@ fn emit_name(names: &[u8], name: Span, sink: Sink, out: &mut [u8]) -> Sink
 
 // A name of the table with `;n`.
 fn emit_name_n(names: &[u8], name: Span, sink: Sink, out: &mut [u8]) -> Sink
-    requires { ⌜ (name .at + name .long ≤ length (now names)) × Room (nameIn (now names) name ++ semicolonN)
+    requires { ⌜ (name .at + name .long ≤ length (now names)) × SinkRoom (nameIn (now names) name ++ semicolonN)
         sink (now out) ⌝ }
     ensures { λ r. ⌜ Emitted (nameIn (now (names .entry)) name ++ semicolonN)
         sink (now (out .entry)) r (now (out .exit)) ⌝ }
@@ -109,7 +109,8 @@ pub fn user_id(id: u16) -> bool
 
 // The type's name as a template has it.
 pub fn emit_shown(names: &[u8], d: StructDef, sink: Sink, out: &mut [u8]) -> Sink
-    requires { ⌜ (d .name .at + d .name .long ≤ length (now names)) × Room (shownIn (now names) d) sink (now out) ⌝ }
+    requires { ⌜ (d .name .at + d .name .long ≤ length (now names))
+        × SinkRoom (shownIn (now names) d) sink (now out) ⌝ }
     ensures { λ r. ⌜ Emitted (shownIn (now (names .entry)) d) sink (now (out .entry)) r (now (out .exit)) ⌝ }
 {
     let kind = d.kind;
@@ -160,7 +161,7 @@ pub fn emit_names(
 
 // Zeros to a multiple of 4.
 pub fn emit_padding(sink: Sink, out: &mut [u8]) -> Sink
-    requires { ⌜ Room (padding (sink .at)) sink (now out) ⌝ }
+    requires { ⌜ SinkRoom (padding (sink .at)) sink (now out) ⌝ }
     ensures { λ r. ⌜ Emitted (padding (sink .at)) sink (now (out .entry)) r (now (out .exit)) ⌝ }
 {
     let at = sink.at;
@@ -171,7 +172,7 @@ pub fn emit_padding(sink: Sink, out: &mut [u8]) -> Sink
 
 // The ids of n members.
 pub fn emit_ids(n: u32, sink: Sink, out: &mut [u8]) -> Sink
-    requires { ⌜ (n ≤ mostMembers) × Room (memberIds 0 n) sink (now out) ⌝ }
+    requires { ⌜ (n ≤ mostMembers) × SinkRoom (memberIds 0 n) sink (now out) ⌝ }
     ensures { λ r. ⌜ Emitted (memberIds 0 n) sink (now (out .entry)) r (now (out .exit)) ⌝ }
 {
     let mut k = sink;

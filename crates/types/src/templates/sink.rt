@@ -1,7 +1,7 @@
 // Where a template's bytes go (document 01, "Template and handle"): a sink counts them, folds them for
 // the handle and, if it writes, stores them. So one walk gives a template, its length and its handle.
 ghost use Prim.Native.Nat.{_+_};
-ghost use Rattle.types.specs.inside.templates.Sink.{Room, Emitted};
+ghost use Rattle.types.specs.inside.templates.Sink.{SinkRoom, Emitted};
 use crate::templates::handle::fold_handle;
 use words::copy;
 
@@ -14,7 +14,7 @@ pub struct Sink {
 
 // Some more bytes come.
 pub fn emit(s: &[u8], sink: Sink, out: &mut [u8]) -> Sink
-    requires { ⌜ Room (now s) sink (now out) ⌝ }
+    requires { ⌜ SinkRoom (now s) sink (now out) ⌝ }
     ensures { λ r. ⌜ Emitted (now (s .entry)) sink (now (out .entry)) r (now (out .exit)) ⌝ }
 {
     let at = sink.at;

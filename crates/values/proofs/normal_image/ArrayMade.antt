@@ -6,18 +6,18 @@ use mathlib.Core.Path.{_≡_, refl, sym, ap, _∙_, fun-ext}
 use mathlib.Core.Bool.{Bool, true, false, cond}
 use mathlib.Core.List.{List}
 use Rattle.words.specs.Bits.{Bits, inside}
-use Rattle.words.proofs.BitLaws.{Lies, among, beside, lies}
+use Rattle.words.proofs.BitLaws.{BitLies, among, beside, lies}
 use Rattle.words.proofs.StampLaws.{yes-inside, not-inside}
 use Rattle.words.proofs.TestLaws.{not-true}
 use Rattle.values.specs.inside.normal_image.InPlace.{eachMade, made}
-use Rattle.values.specs.inside.normal_image.Placed.{Placed}
+use Rattle.values.specs.inside.normal_image.Placed.{TreePlaced}
 use Rattle.values.specs.normal_image.Normal.{held, normal}
 use Rattle.values.specs.reading.Tree.{Item, Tree, array, each, items, span}
 use Rattle.values.proofs.normal_image.MadeLaws.{made-beside, made-inside, normal-around, normal-first}
 use Rattle.values.proofs.normal_image.MadeLaws.{normal-local, normal-second}
 use Rattle.values.proofs.normal_image.PlacedLaws.{each-between, tree-between}
 
-module _ (t : Tree) (placed : Placed t) where
+module _ (t : Tree) (placed : TreePlaced t) where
   abbrev w : ℕ
   w = span t
 
@@ -50,7 +50,7 @@ module _ (t : Tree) (placed : Placed t) where
       all : suc n * w ≡ n * w + w
       all = suc-mul n w
 
-      rest : (p ≤ k → k < p + w → ⊥) → inside p w k ≡ false → Lies (p + w) (n * w) k
+      rest : (p ≤ k → k < p + w → ⊥) → inside p w k ≡ false → BitLies (p + w) (n * w) k
           → elementsMade n (p + w) (made t p x) k ≡ elementsMade (suc n) p x k
       rest f e (among u v d) =
           rw (d, yes-inside p (suc n * w) k (omega arith) (omega (arith, all)))
@@ -60,7 +60,7 @@ module _ (t : Tree) (placed : Placed t) where
           rw (d, not-inside p (suc n * w) k (λ a b. g (omega (arith, f a)) (omega (arith, all))))
           (made-beside t p x k e)
 
-      first : Lies p w k → elementsMade n (p + w) (made t p x) k ≡ elementsMade (suc n) p x k
+      first : BitLies p w k → elementsMade n (p + w) (made t p x) k ≡ elementsMade (suc n) p x k
       first (among u v e) =
           rw (
             not-inside (p + w) (n * w) k (λ a b. omega arith),
@@ -76,7 +76,7 @@ module _ (t : Tree) (placed : Placed t) where
   elements-made (suc n) p x k = elements-made n (p + w) (made t p x) k ∙ more n p x k
 
 -- elements made normal one after another are the array made normal
-pub array-made : (n : ℕ) (t : Tree) (p : ℕ) (x : Bits) → Placed t
+pub array-made : (n : ℕ) (t : Tree) (p : ℕ) (x : Bits) → TreePlaced t
     → eachMade n (made t) (span t) p x ≡ made (array n t) p x
 unfolding made items span
 array-made n t p x placed =

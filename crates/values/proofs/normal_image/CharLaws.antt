@@ -5,12 +5,13 @@ use native.Mathlib.Decide.{decLt}
 use native.Mathlib.Omega.{arith}
 use mathlib.Core.Path.{_≡_, refl, sym, ap, ap₂, _∙_, fun-ext}
 use mathlib.Core.Bool.{Bool, true, false}
-use mathlib.Core.List.{List, _∷_}
+use mathlib.Core.List.{_∷_}
 use lib.Dec.{ltb}
 use lib.ListN.{length, getD}
 use borrow.Author.Tests.{ltb-true, ltb-false}
 use Rattle.words.specs.Bits.{Bits, bitOf, flat, from, val}
 use Rattle.words.proofs.BitLaws.{bit-none, bit-val, val-ext}
+use Rattle.words.proofs.Lists.{head-same, tail-same}
 use Rattle.values.specs.reading.Leaf.{chars}
 
 -- bits made into n bytes are n bytes long
@@ -26,12 +27,6 @@ chars-ext zero b c h = refl
 chars-ext (suc n) b c h =
     ap₂ _∷_ (val-ext 8 b c (λ k l. h k (omega arith)))
     (chars-ext n (from 8 b) (from 8 c) (λ k l. h (8 + k) (omega arith)))
-
-head-same : {x y : ℕ} {xs ys : List ℕ} → x ∷ xs ≡ y ∷ ys → x ≡ y
-head-same e = cc
-
-tail-same : {x y : ℕ} {xs ys : List ℕ} → x ∷ xs ≡ y ∷ ys → xs ≡ ys
-tail-same e = cc
 
 -- bytes tell their bits
 pub chars-tell : (n : ℕ) (b c : Bits) → chars n b ≡ chars n c → (k : ℕ) → k < 8 * n → b k ≡ c k

@@ -9,8 +9,7 @@ use mathlib.Core.Bool.{Bool, true, false, cond}
 use mathlib.Core.List.{List}
 use lib.ListN.{length}
 use Rattle.words.specs.Bits.{Bits, flat, from, inside, stamp}
-use Rattle.words.proofs.BitLaws.{Lies, among, beside, lies}
-use Rattle.words.proofs.StampLaws.{stamp-ext}
+use Rattle.words.proofs.StampLaws.{one-bit, cond-beside, cond-own}
 use Rattle.types.specs.layout.Laid.{firstBit}
 use Rattle.types.specs.tables.Lent.{memberAt}
 use Rattle.types.specs.declared.tables.member.Bit.the-variants.{None, At}
@@ -49,12 +48,6 @@ pub unflagged-whole : {m n : Member} (x y : Bits) → m ≡ n → m .hidden ≡ 
     → y ≡ cond (isFlag n) x y
 unfolding isFlag
 unflagged-whole x y e h b = rw (← e, h, b) refl
-
--- one bit of some others
-one-bit : (q r j : ℕ) (v : Bool) (b z : Bits) → q ≡ r → v ≡ b j → stamp q 1 (λ i. v) z ≡ stamp r 1 (from j b) z
-one-bit q r j v b z e h =
-    ap (λ (p : ℕ). stamp p 1 (λ i. v) z) e
-    ∙ stamp-ext r 1 (λ i. v) (from j b) z (λ i l. let f : j ≡ j + i = omega arith in h ∙ ap b f)
 
 -- the member of a row was read, with its place: a visible BOOL at bit b of its byte
 pub record FlagHere (members : List ℕ) (row base : ℕ) (image : List ℕ) (m : Member) (start b : ℕ) : Type 0 where
@@ -127,24 +120,6 @@ pub keeping-none : {members : List ℕ} {first base : ℕ} {image kept : List �
 keeping-none {members} {first} {base} {image} {kept} {k} e =
     record { long = refl; each = λ i l. absurd (let z : ⊥ = omega arith in z) }
 
--- a row changes no bit but its own
-row-beside : (c : Bool) (k i : ℕ) (b z : Bits) → i < k → cond c (stamp k 1 b z) z i ≡ z i
-unfolding stamp
-row-beside true k i b z l = go (lies k 1 i)
-  where
-    go : Lies k 1 i → cond (inside k 1 i) (b (i - k)) (z i) ≡ z i
-    go (among m n e) = absurd (let y : ⊥ = omega arith in y)
-    go (beside f e) = rw e refl
-row-beside false k i b z l = refl
-
-row-own : (c : Bool) (k i q : ℕ) (b z : Bits) → i ≡ k → c ≡ true → cond c (stamp k 1 (from q b) z) z i ≡ b q
-unfolding stamp
-row-own c k i q b z e h = rw h (go (lies k 1 i))
-  where
-    go : Lies k 1 i → cond (inside k 1 i) (b (q + (i - k))) (z i) ≡ b q
-    go (among m n f) = let g : q + (i - k) ≡ q = omega arith in rw f (ap b g)
-    go (beside f g) = absurd (f (omega arith) (omega arith))
-
 -- one row more, its BOOL kept where it has one
 pub keeping-more : {members : List ℕ} {first base : ℕ} {image kept : List ℕ} {k : ℕ} {new : List ℕ} {newer : List ℕ}
     → Keeping members first base image kept k new → length newer ≡ length new
@@ -159,16 +134,16 @@ keeping-more {members} {first} {base} {image} {kept} {k} {new} {newer} a long e 
         (stamp k 1 (from (8 * base + firstBit (memberAt members (first + k))) (flat image)) (flat new)) (flat new) i
         ≡ flat image (8 * base + firstBit (memberAt members (first + i)))
     go i l h (yes m) =
-        row-beside (isFlag (memberAt members (first + k))) k i
+        cond-beside (isFlag (memberAt members (first + k))) k i
         (from (8 * base + firstBit (memberAt members (first + k))) (flat image)) (flat new) m ∙ a .each i m h
     go i l h (no m) =
         let f : i ≡ k = omega (arith, m) in
-        row-own (isFlag (memberAt members (first + k))) k i (8 * base + firstBit (memberAt members (first + k)))
+        cond-own (isFlag (memberAt members (first + k))) k i (8 * base + firstBit (memberAt members (first + k)))
         (flat image) (flat new) f (rw f at h)
         ∙ ap (λ (j : ℕ). flat image (8 * base + firstBit (memberAt members (first + j)))) (sym f)
 
 -- what is left after k rows comes to the whole
-pub record Putting (members : List ℕ) (first n : ℕ) (b : Bits) (p : ℕ) (image : List ℕ) (k : ℕ) (new : List ℕ)
+pub record PuttingFlags (members : List ℕ) (first n : ℕ) (b : Bits) (p : ℕ) (image : List ℕ) (k : ℕ) (new : List ℕ)
     : Type 0 where
   pub long : length new ≡ length image
   pub left : flagged b p k (membersAt members (first + k) (n - k)) (flat new)
@@ -176,7 +151,7 @@ pub record Putting (members : List ℕ) (first n : ℕ) (b : Bits) (p : ℕ) (im
 
 -- before the first row the whole is still to be put back
 pub putting-none : {members : List ℕ} {first n : ℕ} {b : Bits} {p : ℕ} {image : List ℕ} {k : ℕ} → k ≡ 0
-    → Putting members first n b p image k image
+    → PuttingFlags members first n b p image k image
 putting-none {members} {first} {n} {b} {p} {image} {k} e =
     let f : first + k ≡ first = omega arith in
     let g : n - k ≡ n = omega arith in
@@ -191,10 +166,10 @@ flagged-first b p k members row n x = let e : k + 1 ≡ suc k = omega arith in r
 
 -- one row more, its BOOL put back where it has one
 pub putting-more : {members : List ℕ} {first n : ℕ} {b : Bits} {p : ℕ} {image : List ℕ} {k : ℕ} {new : List ℕ}
-    {newer : List ℕ} → Putting members first n b p image k new → k < n → length newer ≡ length new
+    {newer : List ℕ} → PuttingFlags members first n b p image k new → k < n → length newer ≡ length new
     → flat newer ≡ cond (isFlag (memberAt members (first + k)))
     (stamp (p + firstBit (memberAt members (first + k))) 1 (from k b) (flat new)) (flat new)
-    → Putting members first n b p image (k + 1) newer
+    → PuttingFlags members first n b p image (k + 1) newer
 putting-more {members} {first} {n} {b} {p} {image} {k} {new} {newer} a l long e =
     let f : suc (n - (k + 1)) ≡ n - k = omega arith in
     let g : first + k + 1 ≡ first + (k + 1) = omega arith in
@@ -207,7 +182,7 @@ putting-more {members} {first} {n} {b} {p} {image} {k} {new} {newer} a l long e 
 
 -- after the last row every BOOL is put back
 pub putting-all : {members : List ℕ} {first n : ℕ} {b : Bits} {p : ℕ} {image : List ℕ} {k : ℕ} {new : List ℕ}
-    → Putting members first n b p image k new → k ≡ n
+    → PuttingFlags members first n b p image k new → k ≡ n
     → flat new ≡ flagged b p 0 (membersAt members first n) (flat image)
 unfolding membersAt flagged
 putting-all {members} {first} {n} {b} {p} {image} {k} {new} a e =

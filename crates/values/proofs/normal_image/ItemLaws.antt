@@ -6,8 +6,8 @@ use mathlib.Core.Path.{_≡_, refl, sym, ap, ap₂, _∙_, fun-ext}
 use mathlib.Core.Bool.{Bool, true, false, cond, _||_, true≢false}
 use mathlib.Core.List.{List, [], _∷_}
 use Rattle.words.specs.Bits.{Bits, from, inside}
-use Rattle.words.proofs.BitLaws.{Lies, among, beside, lies}
-use Rattle.values.specs.inside.normal_image.Placed.{Good}
+use Rattle.words.proofs.BitLaws.{BitLies, among, beside, lies}
+use Rattle.values.specs.inside.normal_image.Placed.{GoodLeaf}
 use Rattle.values.specs.normal_image.Normal.{norm, held, normal}
 use Rattle.values.specs.reading.Leaf.{Leaf, width, emit}
 use Rattle.values.specs.reading.Tree.{Item, say, at, read}
@@ -15,20 +15,20 @@ use Rattle.values.specs.stream.Stream.{Token}
 use Rattle.values.proofs.normal_image.NormalLaws.{emit-norm, emit-tells}
 
 -- no bit of n bits from p on is held
-abbrev pub Free : ℕ → ℕ → List Item → Type 0
-Free p n is = (k : ℕ) → p ≤ k → k < p + n → held is k ≡ false
+abbrev pub HeldNowhere : ℕ → ℕ → List Item → Type 0
+HeldNowhere p n is = (k : ℕ) → p ≤ k → k < p + n → held is k ≡ false
 
 -- no two leaves share a bit
-abbrev pub Apart : List Item → Type 0
-Apart [] = Unit {0}
-Apart (say e ∷ is) = Apart is
-Apart (at p l ∷ is) = Free p (width l) is × Apart is
+abbrev pub HeldApart : List Item → Type 0
+HeldApart [] = Unit {0}
+HeldApart (say e ∷ is) = HeldApart is
+HeldApart (at p l ∷ is) = HeldNowhere p (width l) is × HeldApart is
 
 -- each leaf is one that types have
 abbrev pub AllGood : List Item → Type 0
 AllGood [] = Unit {0}
 AllGood (say e ∷ is) = AllGood is
-AllGood (at p l ∷ is) = Good l × AllGood is
+AllGood (at p l ∷ is) = GoodLeaf l × AllGood is
 
 -- ---- a reading sees nothing but the normal bits
 
@@ -37,23 +37,23 @@ first-normal : (p : ℕ) (l : Leaf) (is : List Item) (x y : Bits)
 unfolding held normal
 first-normal p l is x y h = emit-norm l (from p x) (from p y) (λ k b. go k b (lies p (width l) (p + k)))
   where
-    go : (k : ℕ) → k < width l → Lies p (width l) (p + k) → y (p + k) ≡ norm l (from p x) k
+    go : (k : ℕ) → k < width l → BitLies p (width l) (p + k) → y (p + k) ≡ norm l (from p x) k
     go k b (among u v e) =
         let q : p + k - p ≡ k = omega arith in
         h (p + k) (rw e refl) ∙ rw (e, q) refl
     go k b (beside f e) = absurd (f (omega arith) (omega arith))
 
-rest-normal : (p : ℕ) (l : Leaf) (is : List Item) (x y : Bits) → Free p (width l) is
+rest-normal : (p : ℕ) (l : Leaf) (is : List Item) (x y : Bits) → HeldNowhere p (width l) is
     → ((k : ℕ) → held (at p l ∷ is) k ≡ true → y k ≡ normal (at p l ∷ is) x k)
     → (k : ℕ) → held is k ≡ true → y k ≡ normal is x k
 unfolding held normal
 rest-normal p l is x y a h k t = go (lies p (width l) k)
   where
-    go : Lies p (width l) k → y k ≡ normal is x k
+    go : BitLies p (width l) k → y k ≡ normal is x k
     go (among u v e) = absurd (true≢false (sym t ∙ a k u v))
     go (beside f e) = h k (rw e t) ∙ rw e refl
 
-read-normal : (is : List Item) (x y : Bits) → Apart is → ((k : ℕ) → held is k ≡ true → y k ≡ normal is x k)
+read-normal : (is : List Item) (x y : Bits) → HeldApart is → ((k : ℕ) → held is k ≡ true → y k ≡ normal is x k)
     → read is y ≡ read is x
 unfolding read held normal
 read-normal [] x y a h = refl
@@ -89,14 +89,14 @@ read-tells (say d ∷ is) g x y e k = read-tells is g x y (tail-same e) k
 read-tells (at p l ∷ is) (g, more) x y e k =
     go (lies p (width l) k) (read-tells is more x y (tail-same e) k)
   where
-    go : Lies p (width l) k → normal is x k ≡ normal is y k
+    go : BitLies p (width l) k → normal is x k ≡ normal is y k
         → cond (inside p (width l) k) (norm l (from p x) (k - p)) (normal is x k)
         ≡ cond (inside p (width l) k) (norm l (from p y) (k - p)) (normal is y k)
     go (among u v q) ih =
         rw (q) (emit-tells l g (from p x) (from p y) (head-same e) (k - p) (omega arith))
     go (beside f q) ih = rw (q) ih
 
-module _ (is : List Item) (apart : Apart is) (good : AllGood is) where
+module _ (is : List Item) (apart : HeldApart is) (good : AllGood is) where
   read-of-normal : (x : Bits) → read is (normal is x) ≡ read is x
   read-of-normal x = read-normal is x (normal is x) apart (λ k h. refl)
 

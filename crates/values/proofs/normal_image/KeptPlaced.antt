@@ -14,19 +14,20 @@ use Rattle.types.specs.tables.Limits.{mostTypes}
 use Rattle.types.specs.tables.Sizes.{bitsOf, sizesIn}
 use Rattle.types.specs.declared.tables.member.Member.{Member}
 use Rattle.types.proofs.Face.{RowIs, holds, empty, kept-row}
-use Rattle.values.specs.inside.normal_image.Placed.{AllPlaced, Clear, Disjoint, Numbered, Placed}
+use Rattle.values.specs.inside.normal_image.Placed.{BranchesPlaced, ClearOfBranches, Disjoint, Ascending}
+use Rattle.values.specs.inside.normal_image.Placed.{TreePlaced}
 use Rattle.values.specs.reading.Leaf.{str}
 use Rattle.values.specs.reading.Tree.{Tree, leaf, struct, span}
 use Rattle.values.specs.reading.Trees.{bitTree, branchesFrom, isString, knownIn, membersAt, secondCount, seen}
 use Rattle.values.specs.reading.Trees.{structTree, treeOf, treeWithin, valueTree}
 use Rattle.values.proofs.normal_image.DisjointLaws.{member-placed}
 use Rattle.values.proofs.reading.KeptWalkable.{kept-walkable}
-use Rattle.values.proofs.reading.SpanLaws.{Sized, sound-below, sound-within, bit-span}
+use Rattle.values.proofs.reading.SpanLaws.{TreesSized, sound-below, sound-within, bit-span}
 
 -- ---- a structure whose earlier ones are placed
 
-module _ (types members names : List ℕ) (trees : ℕ → Tree) (i : ℕ) (sound : Sized types trees i)
-    (placed : (s : ℕ) → s < i → Placed (trees s)) where
+module _ (types members names : List ℕ) (trees : ℕ → Tree) (i : ℕ) (sound : TreesSized types trees i)
+    (placed : (s : ℕ) → s < i → TreePlaced (trees s)) where
   abbrev tree : Member → Tree
   tree m = bitTree (m .bit) (valueTree trees (m .ty) (m .count))
 
@@ -34,7 +35,7 @@ module _ (types members names : List ℕ) (trees : ℕ → Tree) (i : ℕ) (soun
   rows-clear : (m : Member) → m .hidden ≡ false → Earlier i (m .ty) → (size j row n : ℕ)
       → ClearOf (sizesIn types) m (partsAt members names row n)
       → Laid (sizesIn types) i size (partsAt members names row n)
-      → Clear (firstBit m) (span (tree m)) (branchesFrom trees j (membersAt members row n))
+      → ClearOfBranches (firstBit m) (span (tree m)) (branchesFrom trees j (membersAt members row n))
   unfolding ClearOf Laid partsAt partAt branchesFrom membersAt
   rows-clear m v e size j row zero c d = tt
   rows-clear m v e size j row (suc n) (c, cs) (d, ds) =
@@ -48,8 +49,8 @@ module _ (types members names : List ℕ) (trees : ℕ → Tree) (i : ℕ) (soun
       theirs = bit-span types members trees i sound (memberAt members row .bit) (memberAt members row) (d .earlier)
 
       go : (h : Bool) → memberAt members row .hidden ≡ h
-          → Clear (firstBit m) (span (tree m)) (branchesFrom trees (suc j) (membersAt members (row + 1) n))
-          → Clear (firstBit m) (span (tree m))
+          → ClearOfBranches (firstBit m) (span (tree m)) (branchesFrom trees (suc j) (membersAt members (row + 1) n))
+          → ClearOfBranches (firstBit m) (span (tree m))
           (seen h j (firstBit (memberAt members row)) (tree (memberAt members row))
           (branchesFrom trees (suc j) (membersAt members (row + 1) n)))
       go true h rest = rest
@@ -57,8 +58,8 @@ module _ (types members names : List ℕ) (trees : ℕ → Tree) (i : ℕ) (soun
           (⊎-elim (λ p. inl (omega (arith, p, mine))) (λ p. inr (omega (arith, p, theirs))) (c v h), rest)
 
   rows-placed : (size j row n : ℕ) → Laid (sizesIn types) i size (partsAt members names row n)
-      → AllPlaced (8 * size) (branchesFrom trees j (membersAt members row n))
-  unfolding Laid partsAt partAt branchesFrom membersAt Placed
+      → BranchesPlaced (8 * size) (branchesFrom trees j (membersAt members row n))
+  unfolding Laid partsAt partAt branchesFrom membersAt TreePlaced
   rows-placed size j row zero d = tt
   rows-placed size j row (suc n) (d, ds) =
       go (memberAt members row .hidden) refl (rows-placed size (suc j) (row + 1) n ds)
@@ -67,8 +68,8 @@ module _ (types members names : List ℕ) (trees : ℕ → Tree) (i : ℕ) (soun
       m = memberAt members row
 
       go : (h : Bool) → memberAt members row .hidden ≡ h
-          → AllPlaced (8 * size) (branchesFrom trees (suc j) (membersAt members (row + 1) n))
-          → AllPlaced (8 * size)
+          → BranchesPlaced (8 * size) (branchesFrom trees (suc j) (membersAt members (row + 1) n))
+          → BranchesPlaced (8 * size)
           (seen h j (firstBit (memberAt members row)) (tree (memberAt members row))
           (branchesFrom trees (suc j) (membersAt members (row + 1) n)))
       go true h rest = rest
@@ -87,25 +88,26 @@ module _ (types members names : List ℕ) (trees : ℕ → Tree) (i : ℕ) (soun
       )
 
   -- members are numbered in their order
-  rows-numbered : (low j : ℕ) (ms : List Member) → low ≤ j → Numbered low (branchesFrom trees j ms)
+  rows-numbered : (low j : ℕ) (ms : List Member) → low ≤ j → Ascending low (branchesFrom trees j ms)
   unfolding branchesFrom
   rows-numbered low j [] l = tt
   rows-numbered low j (m ∷ ms) l =
       go (m .hidden) (rows-numbered low (suc j) ms (omega arith)) (rows-numbered (suc j) (suc j) ms (omega arith))
     where
-      go : (h : Bool) → Numbered low (branchesFrom trees (suc j) ms) → Numbered (suc j) (branchesFrom trees (suc j) ms)
-          → Numbered low (seen h j (firstBit m) (tree m) (branchesFrom trees (suc j) ms))
+      go : (h : Bool) → Ascending low (branchesFrom trees (suc j) ms)
+          → Ascending (suc j) (branchesFrom trees (suc j) ms)
+          → Ascending low (seen h j (firstBit m) (tree m) (branchesFrom trees (suc j) ms))
       go true skipped next = skipped
       go false skipped next = (l, next)
 
   struct-placed : Laid (sizesIn types) i (typeAt types i .size)
       (partsAt members names (typeAt types i .first) (typeAt types i .count))
-      → Placed (structTree trees (knownIn types members i))
-  unfolding structTree knownIn Placed
+      → TreePlaced (structTree trees (knownIn types members i))
+  unfolding structTree knownIn TreePlaced
   struct-placed d = go (isString (typeAt types i .kind))
     where
       go : (b : Bool)
-          → Placed
+          → TreePlaced
           (cond b (leaf (str (secondCount (membersAt members (typeAt types i .first) (typeAt types i .count)))))
           (struct (8 * typeAt types i .size)
           (branchesFrom trees 0 (membersAt members (typeAt types i .first) (typeAt types i .count)))))
@@ -128,7 +130,7 @@ module _ {types members names : List ℕ} (k : Kept types members names) where
       go (holds r) = r .laid
       go (empty e) = rw e (unfold partsAt Laid in tt)
 
-  within-placed : (f i : ℕ) → f ≤ mostTypes → i < f → Placed (treeWithin (knownIn types members) f i)
+  within-placed : (f i : ℕ) → f ≤ mostTypes → i < f → TreePlaced (treeWithin (knownIn types members) f i)
   unfolding treeWithin
   within-placed zero i h l = absurd (let z : ⊥ = omega arith in z)
   within-placed (suc f) i h l =

@@ -6,7 +6,7 @@ use mathlib.Core.Path.{_≡_, refl, ap}
 use mathlib.Core.Bool.{true, false, cond, or-true}
 use mathlib.Core.List.{List, [], _∷_, _++_}
 use Rattle.words.specs.Bits.{Bits, bitOf, digit, from, inside}
-use Rattle.words.proofs.BitLaws.{Lies, among, beside, lies, val-ext}
+use Rattle.words.proofs.BitLaws.{BitLies, among, beside, lies, val-ext}
 use Rattle.words.proofs.StampLaws.{yes-inside}
 use Rattle.words.proofs.TestLaws.{or-first, or-second}
 use Rattle.values.specs.inside.normal_image.InPlace.{made}
@@ -38,7 +38,7 @@ normal-local (at p l ∷ is) x y h k =
     own : (j : ℕ) → j < width l → x (p + j) ≡ y (p + j)
     own j q = h (p + j) (rw (yes-inside p (width l) (p + j) (omega arith) (omega arith)) refl)
 
-    go : Lies p (width l) k → normal is x k ≡ normal is y k
+    go : BitLies p (width l) k → normal is x k ≡ normal is y k
         → cond (inside p (width l) k) (norm l (from p x) (k - p)) (normal is x k)
         ≡ cond (inside p (width l) k) (norm l (from p y) (k - p)) (normal is y k)
     go (among u v e) ih = rw e (norm-local l (from p x) (from p y) own (k - p) (omega arith))

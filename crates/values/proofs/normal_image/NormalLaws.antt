@@ -11,8 +11,8 @@ use lib.ListN.{length}
 use lib.Pow.{pow-mono}
 use borrow.Author.Tests.{lt-ltb, le-ltb, ltb-true, ltb-false}
 use Rattle.words.specs.Bits.{Bits, from, bitOf, digit, val}
-use Rattle.words.proofs.BitLaws.{bit-val, val-below, val-bit, val-ext}
-use Rattle.values.specs.inside.normal_image.Placed.{Good}
+use Rattle.words.proofs.BitLaws.{val-below, val-bit, val-ext, val-tells, digit-lt}
+use Rattle.values.specs.inside.normal_image.Placed.{GoodLeaf}
 use Rattle.values.specs.normal_image.Normal.{norm}
 use Rattle.values.specs.reading.Leaf.{Leaf, flag, byte, int, word, str, width, isTrue, chars, clipped, emit}
 use Rattle.values.specs.reading.Leaf.{signed}
@@ -24,10 +24,6 @@ use Rattle.values.proofs.normal_image.CharLaws.{chars-ext, chars-tell, 
 truth-digit : (t : Bool) → isTrue (digit t) ≡ t
 truth-digit true = refl
 truth-digit false = refl
-
-digit-small : (t : Bool) → digit t < 2 ^ 8
-digit-small true = omega arith
-digit-small false = omega arith
 
 norm-len : (c : ℕ) (b : Bits) (k : ℕ) → k < 32 → norm (str c) b k ≡ bitOf (clipped c b) k
 norm-len c b k h = rw (lt-ltb k 32 h) refl
@@ -50,7 +46,7 @@ pub emit-norm : (l : Leaf) (b d : Bits) → ((k : ℕ) → k < width l → d k �
 emit-norm flag b d h = ap bool (h 0 (omega arith))
 emit-norm byte b d h =
     let t : Bool = isTrue (val 8 b) in
-    let e : val 8 d ≡ digit t = val-ext 8 d (bitOf (digit t)) h ∙ val-bit 8 (digit t) (digit-small t) in
+    let e : val 8 d ≡ digit t = val-ext 8 d (bitOf (digit t)) h ∙ val-bit 8 (digit t) (omega (arith, digit-lt t)) in
     ap (λ (x : ℕ). bool (isTrue x)) e ∙ ap bool (truth-digit t)
 emit-norm (int n) b d h = ap (λ (x : ℕ). number 2 (signed n x)) (val-ext n d b h)
 emit-norm (word kind n) b d h = ap (number kind) (val-ext n d b h)
@@ -90,17 +86,14 @@ bool-tells x y e = sym (truth-digit x) ∙ ap isTrue (number-tells e) ∙ truth-
 text-tells : {xs ys : List ℕ} → text xs ≡ text ys → xs ≡ ys
 text-tells e = cc
 
-bits-tell : (n : ℕ) (b c : Bits) → val n b ≡ val n c → (k : ℕ) → k < n → b k ≡ c k
-bits-tell n b c e k l = sym (bit-val n b k l) ∙ ap (λ (x : ℕ). bitOf x k) e ∙ bit-val n c k l
-
 -- bits that give the same entry of a leaf have the same normal bits
-pub emit-tells : (l : Leaf) → Good l → (b c : Bits) → emit l b ≡ emit l c → (k : ℕ) → k < width l
+pub emit-tells : (l : Leaf) → GoodLeaf l → (b c : Bits) → emit l b ≡ emit l c → (k : ℕ) → k < width l
     → norm l b k ≡ norm l c k
 emit-tells flag g b c e k l = let z : k ≡ 0 = omega arith in rw z (bool-tells (b 0) (c 0) e)
 emit-tells byte g b c e k l = ap (λ (t : Bool). bitOf (digit t) k) (bool-tells (isTrue (val 8 b)) (isTrue (val 8 c)) e)
 emit-tells (int n) (u, v) b c e k l =
-    bits-tell n b c (signed-tells n (val n b) (val n c) u v (val-below n b) (val-below n c) (number-tells e)) k l
-emit-tells (word kind n) g b c e k l = bits-tell n b c (number-tells e) k l
+    val-tells n b c (signed-tells n (val n b) (val n c) u v (val-below n b) (val-below n c) (number-tells e)) k l
+emit-tells (word kind n) g b c e k l = val-tells n b c (number-tells e) k l
 emit-tells (str m) g b c e k l = go (ltb k 32) refl (ltb (k - 32) (8 * clipped m b)) refl
   where
     same : chars (clipped m b) (from 32 b) ≡ chars (clipped m c) (from 32 c)

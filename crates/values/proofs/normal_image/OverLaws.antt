@@ -4,15 +4,15 @@ use Prim.Native.Nat.{ℕ, zero, suc, _+_, _-_}
 use native.Mathlib.Nat.{add-assoc}
 use native.Mathlib.Omega.{arith}
 use mathlib.Core.Path.{_≡_, refl, sym, ap, _∙_, fun-ext}
-use mathlib.Core.Bool.{Bool, true, false, cond, _||_}
+use mathlib.Core.Bool.{cond, _||_}
 use mathlib.Core.List.{List, [], _∷_, _++_}
 use Rattle.words.specs.Bits.{Bits, from, inside, stamp}
-use Rattle.words.proofs.BitLaws.{Lies, among, beside, lies}
-use Rattle.words.proofs.StampLaws.{stamp-none, stamp-two}
+use Rattle.words.proofs.BitLaws.{BitLies, among, beside, lies}
+use Rattle.words.proofs.StampLaws.{stamp-none, stamp-two, stamp-again}
 use Rattle.values.specs.normal_image.Normal.{norm, held, normal}
 use Rattle.values.specs.reading.Leaf.{width}
 use Rattle.values.specs.reading.Tree.{Item, say, at, each, oneFlag}
-use Rattle.values.proofs.normal_image.ItemLaws.{Apart}
+use Rattle.values.proofs.normal_image.ItemLaws.{HeldApart}
 
 -- what stands at the end where the leaves' normal bits in x are put over z
 unfoldable pub over : List Item → Bits → Bits → Bits
@@ -28,7 +28,7 @@ over-append (say e ∷ a) b x z = over-append a b x z
 over-append (at p l ∷ a) b x z = over-append a b x (stamp p (width l) (norm l (from p x)) z)
 
 -- where no two leaves share a bit
-pub over-bit : (is : List Item) (x z : Bits) → Apart is → (k : ℕ)
+pub over-bit : (is : List Item) (x z : Bits) → HeldApart is → (k : ℕ)
     → over is x z k ≡ cond (held is k) (normal is x k) (z k)
 unfolding over held normal
 over-bit [] x z a k = refl
@@ -36,7 +36,7 @@ over-bit (say e ∷ is) x z a k = over-bit is x z a k
 over-bit (at p l ∷ is) x z (free, more) k =
     over-bit is x (stamp p (width l) (norm l (from p x)) z) more k ∙ go (lies p (width l) k)
   where
-    go : Lies p (width l) k → cond (held is k) (normal is x k) (stamp p (width l) (norm l (from p x)) z k)
+    go : BitLies p (width l) k → cond (held is k) (normal is x k) (stamp p (width l) (norm l (from p x)) z k)
         ≡ cond (inside p (width l) k || held is k)
         (cond (inside p (width l) k) (norm l (from p x) (k - p)) (normal is x k)) (z k)
     go (among u v e) = unfold stamp in rw (free k u v, e) refl
@@ -53,14 +53,6 @@ over-flags (suc n) p x z =
     ∙ ap (λ (b : Bits). stamp (p + 1) n b (stamp p 1 (from p x) z)) e
     ∙ stamp-two p 1 n (from p x) z
     ∙ ap (λ (m : ℕ). stamp p m (from p x) z) (omega arith)
-
-stamp-again : (p n : ℕ) (b c z : Bits) → stamp p n b (stamp p n c z) ≡ stamp p n b z
-unfolding stamp
-stamp-again p n b c z = fun-ext (λ k. go k (inside p n k))
-  where
-    go : (k : ℕ) (t : Bool) → cond t (b (k - p)) (cond t (c (k - p)) (z k)) ≡ cond t (b (k - p)) (z k)
-    go k true = refl
-    go k false = refl
 
 -- a run of bits put over an image hides what was put there before
 pub flags-hide : (n p : ℕ) (x b z : Bits)

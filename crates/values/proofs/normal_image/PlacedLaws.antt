@@ -3,21 +3,21 @@
 use Prim.Native.Nat.{ℕ, zero, suc, _+_, _*_, _<_, _≤_}
 use native.Mathlib.Nat.{mul-one, suc-mul}
 use native.Mathlib.Omega.{arith}
-use mathlib.Core.Bool.{Bool, true, false, _||_, or-assoc, or-false, or-true, true≢false}
+use mathlib.Core.Bool.{Bool, true, false, _||_, or-assoc, or-false, or-true}
 use mathlib.Core.List.{List, [], _∷_, _++_}
 use mathlib.Core.Logic.{_⊎_, inl, inr}
 use mathlib.Core.Path.{_≡_, refl, sym, ap, _∙_}
 use Rattle.words.specs.Bits.{inside}
-use Rattle.words.proofs.BitLaws.{Lies, among, beside, lies}
+use Rattle.words.proofs.BitLaws.{BitLies, among, beside, lies}
 use Rattle.words.proofs.StampLaws.{yes-inside}
-use Rattle.words.proofs.TestLaws.{not-true}
-use Rattle.values.specs.inside.normal_image.Placed.{AllPlaced, Clear, Placed}
+use Rattle.words.proofs.TestLaws.{not-true, clash}
+use Rattle.values.specs.inside.normal_image.Placed.{BranchesPlaced, ClearOfBranches, TreePlaced}
 use Rattle.values.specs.normal_image.Normal.{held}
 use Rattle.values.specs.reading.Leaf.{Leaf, flag, width}
 use Rattle.values.specs.reading.Tree.{Tree, leaf, bits, array, struct, Branches, none, branch, room, allBits}
 use Rattle.values.specs.reading.Tree.{span, Item, say, at, each, between, oneFlag, items, branchItems}
 use Rattle.values.specs.stream.Stream.{mark}
-use Rattle.values.proofs.normal_image.ItemLaws.{Apart, AllGood}
+use Rattle.values.proofs.normal_image.ItemLaws.{HeldApart, AllGood}
 use Rattle.values.proofs.reading.TreeLaws.{width-room}
 
 -- ---- held bits of lists
@@ -47,9 +47,6 @@ either-true false b e = right e
 pub held-or : (a b : List Item) (k : ℕ) → held (a ++ b) k ≡ true → Or (held a k) (held b k)
 held-or a b k e = either-true (held a k) (held b k) (sym (held-append a b k) ∙ e)
 
-never : {A : Type 0} → _≡_ {A = Bool} false true → A
-never e = absurd (true≢false (sym e))
-
 between-append : (lo hi : ℕ) (a b : List Item) → Between lo hi a → Between lo hi b → Between lo hi (a ++ b)
 between-append lo hi a b f g k e = go (held-or a b k e)
   where
@@ -60,7 +57,8 @@ between-append lo hi a b f g k e = go (held-or a b k e)
 between-wide : (lo hi low high : ℕ) (a : List Item) → low ≤ lo → hi ≤ high → Between lo hi a → Between low high a
 between-wide lo hi low high a p q f k e = let w : (lo ≤ k) × (k < hi) = f k e in (omega arith, omega arith)
 
-apart-append : (a b : List Item) → Apart a → Apart b → ((k : ℕ) → held a k ≡ true → held b k ≡ false) → Apart (a ++ b)
+apart-append : (a b : List Item) → HeldApart a → HeldApart b → ((k : ℕ) → held a k ≡ true → held b k ≡ false)
+    → HeldApart (a ++ b)
 unfolding held
 apart-append [] b f g h = g
 apart-append (say e ∷ a) b f g h = apart-append a b f g h
@@ -80,11 +78,11 @@ at-between : (p : ℕ) (l : Leaf) → Between p (p + width l) (at p l ∷ [])
 unfolding held
 at-between p l k e = go (lies p (width l) k)
   where
-    go : Lies p (width l) k → (p ≤ k) × (k < p + width l)
+    go : BitLies p (width l) k → (p ≤ k) × (k < p + width l)
     go (among a b t) = (a, b)
-    go (beside f t) = never (sym (or-false (inside p (width l) k) ∙ t) ∙ e)
+    go (beside f t) = clash e (or-false (inside p (width l) k) ∙ t)
 
-at-apart : (p : ℕ) (l : Leaf) → Apart (at p l ∷ [])
+at-apart : (p : ℕ) (l : Leaf) → HeldApart (at p l ∷ [])
 unfolding held
 at-apart p l = ((λ k u v. refl), tt)
 
@@ -92,7 +90,7 @@ at-apart p l = ((λ k u v. refl), tt)
 pub each-between : (n : ℕ) (f : ℕ → List Item) (w p : ℕ) → ((q : ℕ) → Between q (q + w) (f q))
     → Between p (p + n * w) (each n f w p)
 unfolding each held
-each-between zero f w p h = λ k e. never e
+each-between zero f w p h = λ k e. clash e refl
 each-between (suc n) f w p h =
     let s : suc n * w ≡ n * w + w = suc-mul n w in
     between-append p (p + suc n * w) (f p) (each n f w (p + w))
@@ -100,8 +98,8 @@ each-between (suc n) f w p h =
     (between-wide (p + w) (p + w + n * w) p (p + suc n * w) (each n f w (p + w)) (omega arith) (omega arith)
     (each-between n f w (p + w) h))
 
-each-apart : (n : ℕ) (f : ℕ → List Item) (w p : ℕ) → ((q : ℕ) → Between q (q + w) (f q)) → ((q : ℕ) → Apart (f q))
-    → Apart (each n f w p)
+each-apart : (n : ℕ) (f : ℕ → List Item) (w p : ℕ) → ((q : ℕ) → Between q (q + w) (f q)) → ((q : ℕ) → HeldApart (f q))
+    → HeldApart (each n f w p)
 unfolding each
 each-apart zero f w p h a = tt
 each-apart (suc n) f w p h a =
@@ -120,9 +118,9 @@ each-good (suc n) f w p g = good-append (f p) (each n f w (p + w)) (g p) (each-g
 
 around-between : (lo hi start stop : ℕ) (is : List Item) → Between lo hi is → Between lo hi (between start stop is)
 unfolding held
-around-between lo hi start stop is h = between-append lo hi is (say (mark stop) ∷ []) h (λ k t. never t)
+around-between lo hi start stop is h = between-append lo hi is (say (mark stop) ∷ []) h (λ k t. clash t refl)
 
-around-apart : (stop : ℕ) (is : List Item) → Apart is → Apart (is ++ say (mark stop) ∷ [])
+around-apart : (stop : ℕ) (is : List Item) → HeldApart is → HeldApart (is ++ say (mark stop) ∷ [])
 unfolding held
 around-apart stop is a = apart-append is (say (mark stop) ∷ []) a tt (λ k t. refl)
 
@@ -132,10 +130,10 @@ around-good stop is a = good-append is (say (mark stop) ∷ []) a tt
 -- ---- trees
 
 mutual
-  unfolding items Placed span held
+  unfolding items TreePlaced span held
 
   -- the bits that a tree holds lie among those that it takes
-  pub tree-between : (t : Tree) (p : ℕ) → Placed t → Between p (p + span t) (items t p)
+  pub tree-between : (t : Tree) (p : ℕ) → TreePlaced t → Between p (p + span t) (items t p)
   tree-between (leaf l) p a =
       between-wide p (p + width l) p (p + room l) (at p l ∷ []) (omega arith) (omega (arith, width-room l))
       (at-between p l)
@@ -148,8 +146,8 @@ mutual
   tree-between (struct size bs) p a =
       around-between p (p + size) 8 9 (branchItems bs p) (branches-between bs size p (a .0))
 
-  branches-between : (bs : Branches) (size p : ℕ) → AllPlaced size bs → Between p (p + size) (branchItems bs p)
-  branches-between none size p a = λ k e. never e
+  branches-between : (bs : Branches) (size p : ℕ) → BranchesPlaced size bs → Between p (p + size) (branchItems bs p)
+  branches-between none size p a = λ k e. clash e refl
   branches-between (branch j o t bs) size p a =
       between-append p (p + size) (items t (p + o)) (branchItems bs p)
       (between-wide (p + o) (p + o + span t) p (p + size) (items t (p + o)) (omega arith) (omega (arith, a .1 .0))
@@ -157,10 +155,10 @@ mutual
       (branches-between bs size p (a .1 .1 .1))
 
 -- a bit of a branch is none of those that it is clear of
-pub branches-clear : (bs : Branches) (size o n p : ℕ) → AllPlaced size bs → Clear o n bs → (k : ℕ)
+pub branches-clear : (bs : Branches) (size o n p : ℕ) → BranchesPlaced size bs → ClearOfBranches o n bs → (k : ℕ)
     → held (branchItems bs p) k ≡ true → p + o ≤ k → k < p + o + n → ⊥
-unfolding branchItems Placed held
-branches-clear none size o n p a c k t u v = never t
+unfolding branchItems TreePlaced held
+branches-clear none size o n p a c k t u v = clash t refl
 branches-clear (branch j q r bs) size o n p a c k t u v =
     go (λ e. branches-clear bs size o n p (a .1 .1 .1) (c .1) k e u v)
     (held-or (items r (p + q)) (branchItems bs p) k t)
@@ -174,10 +172,10 @@ branches-clear (branch j q r bs) size o n p a c k t u v =
     go ih (right e) = ih e
 
 mutual
-  unfolding items Placed span
+  unfolding items TreePlaced span
 
   -- no two leaves of a tree share a bit, where its branches share none
-  pub tree-apart : (t : Tree) (p : ℕ) → Placed t → Apart (items t p)
+  pub tree-apart : (t : Tree) (p : ℕ) → TreePlaced t → HeldApart (items t p)
   tree-apart (leaf l) p a = at-apart p l
   tree-apart (bits w n) p a =
       around-apart 11 (each (allBits w n) oneFlag 1 p)
@@ -187,7 +185,7 @@ mutual
       (each-apart n (items t) (span t) p (λ q. tree-between t q a) (λ q. tree-apart t q a))
   tree-apart (struct size bs) p a = around-apart 9 (branchItems bs p) (branches-apart bs size p (a .0))
 
-  branches-apart : (bs : Branches) (size p : ℕ) → AllPlaced size bs → Apart (branchItems bs p)
+  branches-apart : (bs : Branches) (size p : ℕ) → BranchesPlaced size bs → HeldApart (branchItems bs p)
   branches-apart none size p a = tt
   branches-apart (branch j o t bs) size p a =
       apart-append (items t (p + o)) (branchItems bs p) (tree-apart t (p + o) (a .0))
@@ -197,10 +195,10 @@ mutual
       (tree-between t (p + o) (a .0) k h .0) (tree-between t (p + o) (a .0) k h .1)))
 
 mutual
-  unfolding items Placed
+  unfolding items TreePlaced
 
   -- the leaves of such a tree are those that types have
-  pub tree-good : (t : Tree) (p : ℕ) → Placed t → AllGood (items t p)
+  pub tree-good : (t : Tree) (p : ℕ) → TreePlaced t → AllGood (items t p)
   tree-good (leaf l) p a = (a, tt)
   tree-good (bits w n) p a =
       around-good 11 (each (allBits w n) oneFlag 1 p) (each-good (allBits w n) oneFlag 1 p (λ q. (tt, tt)))
@@ -208,7 +206,7 @@ mutual
       around-good 11 (each n (items t) (span t) p) (each-good n (items t) (span t) p (λ q. tree-good t q a))
   tree-good (struct size bs) p a = around-good 9 (branchItems bs p) (branches-good bs size p (a .0))
 
-  branches-good : (bs : Branches) (size p : ℕ) → AllPlaced size bs → AllGood (branchItems bs p)
+  branches-good : (bs : Branches) (size p : ℕ) → BranchesPlaced size bs → AllGood (branchItems bs p)
   branches-good none size p a = tt
   branches-good (branch j o t bs) size p a =
       good-append (items t (p + o)) (branchItems bs p) (tree-good t (p + o) (a .0))

@@ -1,22 +1,21 @@
 -- What a leaf gives, it takes back (document 01, "Writing", "Normal image"): the bits that its entry sets are the
 -- leaf's normal bits.
-use Prim.Native.Nat.{ℕ, suc, _+_, _-_, _*_, _/_, _%_, _^_, _<_, _≤_}
-use native.Mathlib.Nat.{add-mul-div-right, mul-assoc, pow-suc}
+use Prim.Native.Nat.{ℕ, suc, _+_, _-_, _*_, _^_, _<_, _≤_}
+use native.Mathlib.Nat.{pow-suc, mul-comm}
 use native.Mathlib.Omega.{arith}
-use mathlib.Core.Path.{_≡_, refl, sym, ap, _∙_}
+use mathlib.Core.Path.{_≡_, refl, ap, _∙_}
 use mathlib.Core.Bool.{Bool, true, false, cond, _&&_}
 use mathlib.Core.List.{List, _++_}
 use lib.Dec.{eqb, leb, ltb}
-use lib.ListN.{length, List·getD-append}
-use lib.Pow.{high-ones, pow-add, pow-mono, pow-pos}
-use lib.Seq.{getD-append-add}
+use lib.ListN.{length}
+use lib.Pow.{high-ones, pow-mono}
 use borrow.Author.Tests.{eq-eqb, ne-eqb, le-leb, lt-leb, lt-ltb, le-ltb, ltb-true, ltb-false}
 use Rattle.words.specs.Bits.{Bits, from, bitOf, digit, flat, val}
 use Rattle.words.specs.Words.{bytesOf}
-use Rattle.words.proofs.BitLaws.{bit-val, val-below}
-use Rattle.words.proofs.StampLaws.{flat-bytes}
+use Rattle.words.proofs.BitLaws.{bit-val, val-below, append-first, append-second, digit-bit}
+use Rattle.words.proofs.StampLaws.{flat-bytes, low-bit}
 use Rattle.words.proofs.WordLaws.{length-bytes}
-use Rattle.values.specs.inside.normal_image.Placed.{Good}
+use Rattle.values.specs.inside.normal_image.Placed.{GoodLeaf}
 use Rattle.values.specs.normal_image.Normal.{norm}
 use Rattle.values.specs.reading.Leaf.{Leaf, flag, byte, int, word, str, width, chars, clipped, emit, signed}
 use Rattle.values.specs.stream.Stream.{number, text, kindOf}
@@ -30,7 +29,7 @@ pub record PutBack (l : Leaf) (b : Bits) : Type 0 where
   pub normal : (k : ℕ) → k < width l → bits k ≡ norm l b k
 
 -- its entry is a value: no null, no member number, no bracket
-pub emit-value : (l : Leaf) → Good l → (b : Bits) → (1 ≤ kindOf (emit l b)) × (kindOf (emit l b) ≤ 6)
+pub emit-value : (l : Leaf) → GoodLeaf l → (b : Bits) → (1 ≤ kindOf (emit l b)) × (kindOf (emit l b) ≤ 6)
 emit-value flag g b = (omega arith, omega arith)
 emit-value byte g b = (omega arith, omega arith)
 emit-value (int n) g b = (omega arith, omega arith)
@@ -38,26 +37,6 @@ emit-value (word kind n) g b = (omega arith, omega arith)
 emit-value (str c) g b = (omega arith, omega arith)
 
 -- ---- a signed number
-
--- a multiple of 2 ^ n changes no bit below n
-bit-high : (v c n k : ℕ) → k < n → bitOf (v + c * 2 ^ n) k ≡ bitOf v k
-unfolding bitOf
-bit-high v c n k l =
-    ap (λ (r : ℕ). eqb r 1)
-    (ap (λ (x : ℕ). (v + x) / 2 ^ k % 2) whole-part
-    ∙ ap (_% 2) (add-mul-div-right v (c * 2 ^ (n - 1 - k) * 2) (pow-pos k))
-    ∙ even (v / 2 ^ k) (c * 2 ^ (n - 1 - k)))
-  where
-    whole-part : c * 2 ^ n ≡ c * 2 ^ (n - 1 - k) * 2 * 2 ^ k
-    whole-part =
-        let d : n ≡ suc (n - 1 - k) + k = omega arith in
-        ap (λ (m : ℕ). c * 2 ^ m) d
-        ∙ ap (c *_) (pow-add 2 (suc (n - 1 - k)) k ∙ ap (_* 2 ^ k) (pow-suc 2 (n - 1 - k)))
-        ∙ sym (mul-assoc c (2 ^ (n - 1 - k) * 2) (2 ^ k))
-        ∙ ap (_* 2 ^ k) (sym (mul-assoc c (2 ^ (n - 1 - k)) 2))
-
-    even : (r m : ℕ) → (r + m * 2) % 2 ≡ r % 2
-    even r m = omega arith
 
 module _ (n v : ℕ) (some : 1 ≤ n) (most : n ≤ 64) where
   signed-bit : (k : ℕ) → k < n → bitOf (signed n v) k ≡ bitOf v k
@@ -69,7 +48,9 @@ module _ (n v : ℕ) (some : 1 ≤ n) (most : n ≤ 64) where
 
       go : (t : Bool) → bitOf (cond t v (v + (2 ^ 64 - 2 ^ n))) k ≡ bitOf v k
       go true = refl
-      go false = ap (λ (x : ℕ). bitOf (v + x) k) ones ∙ bit-high v (2 ^ (64 - n) - 1) n k l
+      go false =
+          ap (λ (x : ℕ). bitOf (v + x) k) (ones ∙ mul-comm (2 ^ (64 - n) - 1) (2 ^ n))
+          ∙ low-bit n v (2 ^ (64 - n) - 1) k l
 
   signed-range : v < 2 ^ n → inRange (2 ^ (n - 1)) (2 ^ (n - 1)) 2 (signed n v) ≡ true
   unfolding signed
@@ -128,17 +109,6 @@ flat-clip n b k =
     ap (λ (s : List ℕ). flat s k) (chars-ext n b c (λ j l. rw (lt-ltb j (8 * n) l) refl))
     ∙ ap (λ (f : Bits). f k) (flat-chars n c (λ j l. rw (le-ltb j (8 * n) l) refl))
 
-flat-first : (a b : List ℕ) (k : ℕ) → k < 8 * length a → flat (a ++ b) k ≡ flat a k
-unfolding flat
-flat-first a b k l = ap (λ (x : ℕ). bitOf x (k % 8)) (List·getD-append a b 0 (k / 8) (omega arith))
-
-flat-second : (a b : List ℕ) (k : ℕ) → flat (a ++ b) (8 * length a + k) ≡ flat b k
-unfolding flat
-flat-second a b k =
-    let e : (8 * length a + k) / 8 ≡ length a + k / 8 = omega arith in
-    let f : (8 * length a + k) % 8 ≡ k % 8 = omega arith in
-    rw (e, f) (ap (λ (x : ℕ). bitOf x (k % 8)) (getD-append-add a b (k / 8) 0))
-
 module _ (c : ℕ) (b : Bits) where
   abbrev body : List ℕ
   body = chars (clipped c b) (from 32 b)
@@ -156,7 +126,7 @@ module _ (c : ℕ) (b : Bits) where
           → textBits body k ≡ cond t (bitOf (clipped c b) k) (ltb (k - 32) (8 * clipped c b) && b k)
       go true e =
           let l = ltb-true k 32 e in
-          flat-first len body k (omega (arith, four))
+          append-first len body k (omega (arith, four))
           ∙ flat-bytes 4 (length body) k (omega arith)
           ∙ ap (λ (x : ℕ). bitOf x k) (length-chars (clipped c b) (from 32 b))
       go false e =
@@ -164,19 +134,14 @@ module _ (c : ℕ) (b : Bits) where
           let i : k ≡ 8 * length len + (k - 32) = omega (arith, four) in
           let j : 32 + (k - 32) ≡ k = omega arith in
           ap (flat (len ++ body)) i
-          ∙ flat-second len body (k - 32)
+          ∙ append-second len body (k - 32)
           ∙ flat-clip (clipped c b) (from 32 b) (k - 32)
           ∙ ap (λ (m : ℕ). ltb (k - 32) (8 * clipped c b) && b m) j
 
 -- ---- each leaf
 
-digit-bit : (t : Bool) → bitOf (digit t) 0 ≡ t
-unfolding bitOf
-digit-bit true = refl
-digit-bit false = refl
-
 -- each leaf that types have takes back what it gives
-pub put-back : (l : Leaf) → Good l → (b : Bits) → PutBack l b
+pub put-back : (l : Leaf) → GoodLeaf l → (b : Bits) → PutBack l b
 unfolding ofKind
 put-back flag g b =
     record {

@@ -14,7 +14,7 @@ use Rattle.types.specs.inside.tables.Lent.{TyFits}
 use Rattle.types.specs.layout.Placing.{times}
 use Rattle.types.specs.tables.Sizes.{sizeIn, sizesIn}
 use Rattle.types.specs.declared.tables.member.Ty.{Ty}
-use Rattle.values.specs.inside.normal_image.Placed.{Disjoint, Placed}
+use Rattle.values.specs.inside.normal_image.Placed.{Disjoint, TreePlaced}
 use Rattle.values.specs.inside.reading.Walk.{valueOut}
 use Rattle.values.specs.inside.reading.Walkable.{ValueImage, Walkable}
 use Rattle.values.specs.normal_image.Normal.{held, normal, normalImage}
@@ -27,13 +27,13 @@ use Rattle.values.specs.stream.Form.{streamOk}
 use Rattle.values.specs.stream.Stream.{streamBytes, mostBytes}
 use Rattle.values.proofs.normal_image.CharLaws.{flat-chars, length-chars}
 use Rattle.values.proofs.normal_image.DisjointLaws.{disjoint-value}
-use Rattle.values.proofs.normal_image.ItemLaws.{Apart, AllGood, normal-unheld, same-normal, same-read}
+use Rattle.values.proofs.normal_image.ItemLaws.{HeldApart, AllGood, normal-unheld, same-normal, same-read}
 use Rattle.values.proofs.normal_image.ItemLaws.{normal-twice}
 use Rattle.values.proofs.normal_image.PlacedLaws.{tree-apart, tree-between, tree-good}
 use Rattle.values.proofs.reading.Meaning.{meaning}
 use Rattle.values.proofs.reading.ReadingLaws.{stream-is}
 use Rattle.values.proofs.reading.SpanLaws.{tree-value-span}
-use Rattle.values.proofs.stream.DecodeBack.{Back}
+use Rattle.values.proofs.stream.DecodeBack.{DecodedBack}
 use Rattle.values.proofs.stream.SayLaws.{reading-back}
 
 module _ {types members : List ℕ} (d : Disjoint types members) (t : Ty) (n : ℕ) (fits : TyFits t) where
@@ -49,10 +49,10 @@ module _ {types members : List ℕ} (d : Disjoint types members) (t : Ty) (n : �
   walkable : Walkable types members
   walkable = d .walkable
 
-  placed : Placed tree
+  placed : TreePlaced tree
   placed = disjoint-value d t n fits
 
-  apart : Apart is
+  apart : HeldApart is
   apart = tree-apart tree 0 placed
 
   good : AllGood is
@@ -86,7 +86,7 @@ module _ {types members : List ℕ} (d : Disjoint types members) (t : Ty) (n : �
 
     -- the stream's form is good, and it says the entries
     module _ (room : length (valueStream types members t n x) ≤ mostBytes) where
-      said : Back (valueOut types members t n x)
+      said : DecodedBack (valueOut types members t n x)
       said =
           reading-back types members walkable t n x (v .fits)
           (rw (stream-is types members walkable t n x v b) at room)

@@ -13,7 +13,7 @@ use Rattle.types.specs.declared.tables.member.Bit.{Bit}
 use Rattle.types.specs.declared.tables.member.Bit.the-variants.{None, At}
 use Rattle.types.specs.declared.tables.member.Member.{Member}
 use Rattle.values.specs.inside.normal_image.InPlace.{RowsHere, isPlain}
-use Rattle.values.specs.inside.normal_image.Placed.{AllPlaced, Placed, Sweepable}
+use Rattle.values.specs.inside.normal_image.Placed.{BranchesPlaced, TreePlaced, Sweepable}
 use Rattle.values.specs.inside.reading.Walkable.{Walkable}
 use Rattle.values.specs.inside.writing.Rows.{Here, branchesIn}
 use Rattle.values.specs.reading.Trees.{isString}
@@ -37,10 +37,10 @@ module _ {types members : List ℕ} (s : Sweepable types members) where
   module _ (i : ℕ) (low : i < mostTypes) where
     -- a structure that is no string has branches that share no bit
     pub sweepable-branches : isString (typeAt types i .kind) ≡ false
-        → AllPlaced (8 * sizesIn types i) (branchesIn types members i)
-    unfolding Placed
+        → BranchesPlaced (8 * sizesIn types i) (branchesIn types members i)
+    unfolding TreePlaced
     sweepable-branches e =
-        subst Placed (members-tree types members sweepable-walkable i low e) (s .disjoint .placed i low) .0
+        subst TreePlaced (members-tree types members sweepable-walkable i low e) (s .disjoint .placed i low) .0
 
     -- its rows lie in the image
     pub sweepable-rows : (base : ℕ) (image : List ℕ) → Here types i base image

@@ -9,7 +9,7 @@ use lib.ListN.{length, length-append}
 use borrow.Author.Tests.{eq-eqb, ne-eqb}
 use Rattle.words.specs.Bits.{Bits, from, stamp}
 use Rattle.words.proofs.StampLaws.{stamp-ext}
-use Rattle.values.specs.inside.normal_image.Placed.{AllPlaced, Good, Numbered, Placed}
+use Rattle.values.specs.inside.normal_image.Placed.{BranchesPlaced, GoodLeaf, Ascending, TreePlaced}
 use Rattle.values.specs.normal_image.Normal.{norm}
 use Rattle.values.specs.reading.Leaf.{Leaf, flag, width, emit}
 use Rattle.values.specs.reading.Tree.{Tree, leaf, bits, array, struct, Branches, none, branch, allBits, span}
@@ -25,15 +25,15 @@ use Rattle.values.proofs.writing.FitLaws.{not-null}
 use Rattle.values.proofs.writing.OutcomeLaws.{elements-next}
 
 -- the entries of some items are taken, and more are left
-abbrev pub Back : (List Token → Bits → Outcome) → List Item → Bits → Type 0
-Back f is x = (z : Bits) (more : List Token) → f (read is x ++ more) z ≡ ok more (over is x z)
+abbrev pub WrittenOver : (List Token → Bits → Outcome) → List Item → Bits → Type 0
+WrittenOver f is x = (z : Bits) (more : List Token) → f (read is x ++ more) z ≡ ok more (over is x z)
 
 -- the same with the close after them
 abbrev Closed : ℕ → (List Token → Bits → Outcome) → List Item → Bits → Type 0
 Closed stop f is x = (z : Bits) (more : List Token) → f (read is x ++ mark stop ∷ more) z ≡ ok more (over is x z)
 
 opened-back : (start stop : ℕ) (inner : List Token → Bits → Outcome) (is : List Item) (x : Bits) → 1 ≤ start
-    → Closed stop inner is x → Back (opened start inner) (between start stop is) x
+    → Closed stop inner is x → WrittenOver (opened start inner) (between start stop is) x
 unfolding opened read over
 opened-back start stop inner is x s h z more =
     rw (
@@ -48,19 +48,20 @@ opened-back start stop inner is x s h z more =
 -- ---- a leaf
 
 one-back : (takes : Token → Effect) (l : Leaf) (p : ℕ) (x : Bits) (r : PutBack l (from p x))
-    → takes (emit l (from p x)) ≡ put (r .bits) → Back (writeOne takes (width l) p) (at p l ∷ []) x
+    → takes (emit l (from p x)) ≡ put (r .bits) → WrittenOver (writeOne takes (width l) p) (at p l ∷ []) x
 unfolding writeOne read over
 one-back takes l p x r e z more =
     rw e (ap (ok more) (stamp-ext p (width l) (r .bits) (norm l (from p x)) z (r .normal)))
 
-leaf-back : (l : Leaf) → Good l → (p : ℕ) (x : Bits) → Back (writeOne (orNull (taken l)) (width l) p) (at p l ∷ []) x
+leaf-back : (l : Leaf) → GoodLeaf l → (p : ℕ) (x : Bits)
+    → WrittenOver (writeOne (orNull (taken l)) (width l) p) (at p l ∷ []) x
 leaf-back l g p x =
     let r = put-back l g (from p x) in
     let some = emit-value l g (from p x) .0 in
     one-back (orNull (taken l)) l p x r
     (not-null (taken l) (emit l (from p x)) (λ e. omega arith) ∙ r .takes)
 
-flag-back : (p : ℕ) (x : Bits) → Back (writeOne (taken flag) 1 p) (oneFlag p) x
+flag-back : (p : ℕ) (x : Bits) → WrittenOver (writeOne (taken flag) 1 p) (oneFlag p) x
 flag-back p x = let r = put-back flag tt (from p x) in one-back (taken flag) flag p x r (r .takes)
 
 -- ---- elements
@@ -75,8 +76,8 @@ record Starts (ts : List Token) : Type 0 where
 marked : (k : ℕ) {ts : List Token} → (k ≡ 11 → ⊥) → Starts (mark k ∷ ts)
 marked k {ts} h = record { first = mark k; others = ts; are = refl; unclosed = h }
 
-tree-starts : (t : Tree) (p : ℕ) (x : Bits) → Placed t → Starts (read (items t p) x)
-unfolding items read Placed
+tree-starts : (t : Tree) (p : ℕ) (x : Bits) → TreePlaced t → Starts (read (items t p) x)
+unfolding items read TreePlaced
 tree-starts (leaf l) p x g =
     let most = emit-value l g (from p x) .1 in
     record { first = emit l (from p x); others = []; are = refl; unclosed = λ e. omega arith }
@@ -89,7 +90,7 @@ unfolding read
 flag-starts p x = record { first = emit flag (from p x); others = []; are = refl; unclosed = λ e. omega arith }
 
 each-back : (n : ℕ) (one : ℕ → List Token → Bits → Outcome) (f : ℕ → List Item) (w p : ℕ) (x : Bits)
-    → ((q : ℕ) → Back (one q) (f q) x) → ((q : ℕ) → Starts (read (f q) x))
+    → ((q : ℕ) → WrittenOver (one q) (f q) x) → ((q : ℕ) → Starts (read (f q) x))
     → Closed 11 (elements n one w p) (each n f w p) x
 unfolding each read over
 each-back zero one f w p x h s z more = unfold elements in refl
@@ -115,7 +116,7 @@ bools-back : (w n m p : ℕ) (x : Bits)
 bools-back w n zero p x z more = unfold each read over elements in refl
 bools-back w n (suc m) p x z more = unfold each read in flags-back (suc m) p x z more
 
-bits-back : (w n p : ℕ) (x : Bits) → Back (writeBits w n p) (items (bits w n) p) x
+bits-back : (w n p : ℕ) (x : Bits) → WrittenOver (writeBits w n p) (items (bits w n) p) x
 unfolding writeBits items allBits read over
 bits-back w zero p x z more =
     rw (
@@ -136,7 +137,7 @@ Finds p one none = Unit {0}
 Finds p one (branch j o t bs) =
     ((ts : List Token) (z : Bits) → one (member j) ts z ≡ write t (p + o) ts z) × Finds p one bs
 
-finds-later : (bs cs : Branches) (p j o low : ℕ) (t : Tree) → j < low → Numbered low bs
+finds-later : (bs cs : Branches) (p j o low : ℕ) (t : Tree) → j < low → Ascending low bs
     → Finds p (writeBranch cs p) bs → Finds p (writeBranch (branch j o t cs) p) bs
 unfolding write
 finds-later none cs p j o low t l n f = tt
@@ -145,7 +146,7 @@ finds-later (branch i q u bs) cs p j o low t l n f = (
   finds-later bs cs p j o (suc i) t (omega (arith, n .0)) (n .1) (f .1),
 )
 
-finds-all : (bs : Branches) (p low : ℕ) → Numbered low bs → Finds p (writeBranch bs p) bs
+finds-all : (bs : Branches) (p low : ℕ) → Ascending low bs → Finds p (writeBranch bs p) bs
 unfolding write
 finds-all none p low n = tt
 finds-all (branch j o t bs) p low n = (
@@ -174,7 +175,7 @@ members-end one x zero l z more = absurd (let y : ⊥ = omega arith in y)
 members-end one x (suc most) l z more = refl
 
 members-step : (j : ℕ) (a b : List Item) (x : Bits) (one : Token → List Token → Bits → Outcome) (n : ℕ)
-    → Back (one (member j)) a x → ((most : ℕ) → n < most → Closed 9 (membersIn most one) b x)
+    → WrittenOver (one (member j)) a x → ((most : ℕ) → n < most → Closed 9 (membersIn most one) b x)
     → (most : ℕ) → suc n < most → Closed 9 (membersIn most one) (say (member j) ∷ (a ++ b)) x
 unfolding membersIn read over
 members-step j a b x one n h rest zero l z more = absurd (let y : ⊥ = omega arith in y)
@@ -190,10 +191,10 @@ members-step j a b x one n h rest (suc most) l z more =
 -- ---- trees
 
 mutual
-  unfolding items write Placed count
+  unfolding items write TreePlaced count
 
   -- what was read of a tree is all taken, and the image gets the leaves' normal bits
-  pub tree-back : (t : Tree) (p : ℕ) (x : Bits) → Placed t → Back (write t p) (items t p) x
+  pub tree-back : (t : Tree) (p : ℕ) (x : Bits) → TreePlaced t → WrittenOver (write t p) (items t p) x
   tree-back (leaf l) p x a = leaf-back l a p x
   tree-back (bits w n) p x a = bits-back w n p x
   tree-back (array n t) p x a =
@@ -205,7 +206,7 @@ mutual
       (suc (length (read (branchItems bs p) x ++ mark 9 ∷ more)))
       (omega (arith, count-most bs p x, length-append (read (branchItems bs p) x) (mark 9 ∷ more))) z more)
 
-  branches-back : (bs : Branches) (size p : ℕ) (x : Bits) → AllPlaced size bs
+  branches-back : (bs : Branches) (size p : ℕ) (x : Bits) → BranchesPlaced size bs
       → (one : Token → List Token → Bits → Outcome) → Finds p one bs
       → (most : ℕ) → count bs < most → Closed 9 (membersIn most one) (branchItems bs p) x
   branches-back none size p x a one f most l = members-end one x most l

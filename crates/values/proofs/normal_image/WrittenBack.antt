@@ -14,7 +14,7 @@ use Rattle.types.specs.refusals.Said.{done}
 use Rattle.types.specs.tables.Sizes.{sizeIn, sizesIn}
 use Rattle.types.specs.tables.There.{isThere}
 use Rattle.types.specs.declared.tables.member.Ty.{Ty}
-use Rattle.values.specs.inside.normal_image.Placed.{Disjoint, Placed}
+use Rattle.values.specs.inside.normal_image.Placed.{Disjoint, TreePlaced}
 use Rattle.values.specs.inside.reading.Walkable.{ValueImage}
 use Rattle.values.specs.normal_image.Normal.{held, normalImage}
 use Rattle.values.specs.reading.Leaf.{chars}
@@ -41,7 +41,7 @@ pub record WrittenBack (tree : Tree) (x z : List ℕ) (r : Result) : Type 0 wher
       → flat (r .image) k ≡ cond (held (items tree 0) k) (flat (normalImage tree x) k) (flat z k)
 
 -- of a tree whose branches share no bit
-whole-back : (tree : Tree) (x z : Bits) → Placed tree
+whole-back : (tree : Tree) (x z : Bits) → TreePlaced tree
     → written tree (read (items tree 0) x) z ≡ ok [] (over (items tree 0) x z)
 unfolding written
 whole-back tree x z a =
@@ -60,7 +60,7 @@ module _ {types members : List ℕ} (d : Disjoint types members) (t : Ty) (n : �
   abbrev stream : List ℕ
   stream = valueStream types members t n x
 
-  placed : Placed tree
+  placed : TreePlaced tree
   placed = disjoint-value d t n (v .fits)
 
   outcome : valueWritten types members t n stream z ≡ ok [] (over is (flat x) (flat z))

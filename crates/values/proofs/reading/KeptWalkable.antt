@@ -14,7 +14,7 @@ use Rattle.types.specs.declared.tables.member.StructDef.{StructDef}
 use Rattle.types.specs.declared.tables.member.StructKind.{StructKind}
 use Rattle.types.specs.declared.tables.member.StructKind.the-variants.{Udt, Predefined, Str, Aoi}
 use Rattle.types.proofs.Face.{row-lies, TypeRow, RowIs, holds, empty, kept-row, StringRow}
-use Rattle.values.specs.inside.reading.Walkable.{Within, IsString, WalkableType, Walkable}
+use Rattle.values.specs.inside.reading.Walkable.{MemberWithin, IsString, WalkableType, Walkable}
 use Rattle.values.specs.reading.Trees.{isString}
 
 string-kind : (k : StructKind) → isString k ≡ true → k ≡ Str
@@ -52,7 +52,7 @@ module _ {types members names : List ℕ} where
       }
     where
       within : (j : ℕ) → j < typeAt types i .count
-          → Within types i (typeAt types i .size) (memberAt members (typeAt types i .first + j))
+          → MemberWithin types i (typeAt types i .size) (memberAt members (typeAt types i .first + j))
       within j h =
           let w = row-lies (sizesIn types) i (typeAt types i .size) members names (typeAt types i .first)
           (typeAt types i .count) j (r .laid) h in

@@ -24,7 +24,7 @@ use Rattle.types.specs.declared.tables.member.Ty.the-variants as ty
 use Rattle.values.specs.inside.reading.Walk.{wrap, bitToken, bitsOut, elementOut, numbersOut, atomicsOut, bitOut}
 use Rattle.values.specs.inside.reading.Walk.{leafValue, leafOut}
 use Rattle.values.specs.inside.reading.Walkable.{RowOf, ImageOf}
-use Rattle.values.specs.inside.stream.Laying.{Put}
+use Rattle.values.specs.inside.stream.Laying.{EntriesPut}
 use Rattle.values.specs.reading.Leaf.{emit, leafOf}
 use Rattle.values.specs.stream.Stream.{Token, bool, member, entryBytes}
 use Rattle.values.proofs.reading.PartLaws.{lent, lent-part, lent-long}
@@ -87,7 +87,7 @@ module _ (j : ℕ) (image : List ℕ) where
 
 module _ (j : ℕ) {m x : Member} (image : List ℕ) (is : m ≡ x) where
   -- a hidden member puts nothing, and the place stays
-  pub put-hidden : (out : List ℕ) (at : ℕ) → m .hidden ≡ true → Put out at (leafOut j x image) out at
+  pub put-hidden : (out : List ℕ) (at : ℕ) → m .hidden ≡ true → EntriesPut out at (leafOut j x image) out at
   unfolding leafOut
   put-hidden out at e = rw (← is, e) (put-none out at)
 
@@ -98,7 +98,7 @@ module _ (j : ℕ) {m x : Member} (image : List ℕ) (is : m ≡ x) where
   shown-room at e h = let k = rw (← is, e) at h in omega arith
 
 -- a visible row of structure i was read and its number put: the member, where it starts, and its count
-pub record Numbered (types members image out : List ℕ) (i row j at : ℕ) (m : Member) (mid : List ℕ) (start n : ℕ)
+pub record NumberPut (types members image out : List ℕ) (i row j at : ℕ) (m : Member) (mid : List ℕ) (start n : ℕ)
     : Type 0 where
   pub row-of : RowOf types members i row
   pub whole : ImageOf types i image
@@ -120,13 +120,13 @@ row-bit members row k e =
     bit-low (eqb (getD members (8 * row + 5) 0) 0) (getD members (8 * row + 5) 0 - 1) k e
 
 module _ {types members image out : List ℕ} {i row j at : ℕ} {m : Member} {mid : List ℕ} {start n : ℕ}
-    (w : Numbered types members image out i row j at m mid start n) where
+    (w : NumberPut types members image out i row j at m mid start n) where
   mid-long : length mid ≡ length out
   mid-long = ap length (w .put) ∙ length-sets out at (entryBytes 7 j)
 
   -- the number, and then the rest
   number-then : {new : List ℕ} {r : ℕ} {ts : List Token} → leafOut j (memberAt members row) image ≡ member j ∷ ts
-      → Put mid (at + 12) ts new r → Put out at (leafOut j (memberAt members row) image) new r
+      → EntriesPut mid (at + 12) ts new r → EntriesPut out at (leafOut j (memberAt members row) image) new r
   number-then e v = rw e (put-first (member j) (textless-plain .none) refl refl (w .put) v)
 
   -- a BOOL is one bit of a byte
@@ -150,19 +150,19 @@ module _ {types members image out : List ℕ} {i row j at : ℕ} {m : Member} {m
     -- the number and then the bit are put: all that a BOOL gives
     pub put-bit : {payload : ℕ} {b : Bool} {new : List ℕ} → b ≡ flat image (8 * start + k) → payload ≡ digit b
         → new ≡ sets mid (at + 12) (entryBytes 1 payload)
-        → Put out at (leafOut j (memberAt members row) image) new (at + 12 + 12)
+        → EntriesPut out at (leafOut j (memberAt members row) image) new (at + 12 + 12)
     put-bit f d v = number-then bit-is (put-one (bool (flat image (8 * start + k))) refl (sym (d ∙ ap digit f)) v)
 
   -- a structure gives no more than its number here
   pub put-struct : {s : ℕ} → m .bit ≡ None → m .ty ≡ ty.Struct s
-      → Put out at (leafOut j (memberAt members row) image) mid (at + 12)
+      → EntriesPut out at (leafOut j (memberAt members row) image) mid (at + 12)
   unfolding leafOut
   put-struct e f = rw (← w .is, w .shown, e, f) (put-one (member j) refl refl (w .put))
 
 -- it is an atomic, or an array of them: their size, and how many times
 pub record Atomics (types members image out : List ℕ) (i row j at : ℕ) (m : Member) (mid : List ℕ) (start n : ℕ)
     (a : Atomic) (size count : ℕ) : Type 0 where
-  pub numbered : Numbered types members image out i row j at m mid start n
+  pub numbered : NumberPut types members image out i row j at m mid start n
   pub whole : m .bit ≡ None
   pub atomic : m .ty ≡ ty.Atomic a
   pub long : size ≡ sizeOf a
@@ -206,6 +206,6 @@ module _ {types members image out : List ℕ} {i row j at : ℕ} {m : Member} {m
 
   -- the number and then the atomics are put: all that the member gives
   pub put-atomics : {new : List ℕ} {r : ℕ}
-      → Put mid (at + 12) (atomicsOut a n (lent image start (start + size * count))) new r
-      → Put out at (leafOut j (memberAt members row) image) new r
+      → EntriesPut mid (at + 12) (atomicsOut a n (lent image start (start + size * count))) new r
+      → EntriesPut out at (leafOut j (memberAt members row) image) new r
   put-atomics v = number-then (w .numbered) atomics-are v

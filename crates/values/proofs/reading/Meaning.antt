@@ -7,11 +7,11 @@ use mathlib.Core.Path.{_≡_, refl, sym, ap, ap₂, _∙_, fun-ext}
 use mathlib.Core.Bool.{Bool, true, false, cond}
 use mathlib.Core.List.{List, [], _∷_, _++_}
 use lib.Dec.{eqb}
-use lib.ListN.{length, take, drop}
-use lib.Seq.{getD-drop}
+use lib.ListN.{length}
 use Rattle.words.specs.Bits.{Bits, flat}
 use Rattle.words.specs.Words.{Bytes, part}
 use Rattle.words.proofs.Lists.{length-part}
+use Rattle.words.proofs.WordLaws.{part-bytes}
 use Rattle.types.specs.atomics.Atomic.{bitString, sizeOf}
 use Rattle.types.specs.inside.tables.Lent.{TyFits}
 use Rattle.types.specs.layout.Laid.{Earlier, firstIn, firstBit}
@@ -29,7 +29,7 @@ use Rattle.values.specs.inside.reading.Walk.{upTo, wrap, bitToken, bitsO
 use Rattle.values.specs.inside.reading.Walk.{atomicsOut, textOut, bitOut, elementBy, elementsBy, structsBy}
 use Rattle.values.specs.inside.reading.Walk.{valueBy, bytesBy, memberBy, rowBy, membersBy, structBy, structWithin}
 use Rattle.values.specs.inside.reading.Walk.{structOut, valueOut}
-use Rattle.values.specs.inside.reading.Walkable.{Within, IsString, WalkableType, Walkable}
+use Rattle.values.specs.inside.reading.Walkable.{MemberWithin, IsString, WalkableType, Walkable}
 use Rattle.values.specs.reading.Leaf.{Leaf, flag, str, leafOf, emit, clipped}
 use Rattle.values.specs.reading.Texts.{capacityAt}
 use Rattle.values.specs.reading.Tree.{Tree, leaf, bits, array, struct, Branches, allBits, span, each, oneFlag}
@@ -38,23 +38,13 @@ use Rattle.values.specs.reading.Trees.{membersAt, knownIn, secondCount, 
 use Rattle.values.specs.reading.Trees.{structsTree, valueTree, branchesFrom, structTree, treeWithin, treeOf}
 use Rattle.values.specs.reading.Trees.{treeOfValue}
 use Rattle.values.specs.stream.Stream.{Token, bool, text, member}
-use Rattle.values.proofs.reading.SpanLaws.{Many, one, some, many, leaf-room, all-bits, Sized, value-span}
+use Rattle.values.proofs.reading.SpanLaws.{Many, one, some, many, leaf-room, all-bits, TreesSized, value-span}
 use Rattle.values.proofs.reading.SpanLaws.{value-inside, sound-below, capacity-is, earlier, sound-within}
 use Rattle.values.proofs.reading.SpanLaws.{sound-all}
 use Rattle.values.proofs.reading.TreeLaws.{Inside, read-append, read-between, part-read, chars-part, each-up}
 use Rattle.values.proofs.reading.UpLaws.{up-cons, up-ext}
 
 -- ---- parts of an image have bytes
-
-take-bytes : (n : ℕ) (s : List ℕ) → Bytes s → Bytes (take n s)
-take-bytes zero s b k = omega arith
-take-bytes (suc n) [] b k = omega arith
-take-bytes (suc n) (x ∷ s) b zero = b 0
-take-bytes (suc n) (x ∷ s) b (suc k) = take-bytes n s (λ j. b (suc j)) k
-
-part-bytes : (s : List ℕ) (a n : ℕ) → Bytes s → Bytes (part s a n)
-unfolding part
-part-bytes s a n b = take-bytes n (drop a s) (λ k. rw getD-drop (b (a + k)))
 
 -- ---- leaves
 
@@ -123,7 +113,7 @@ text-read capacity image b h =
 
 -- ---- structures whose earlier ones are read
 
-module _ (types members : List ℕ) (trees : ℕ → Tree) (i : ℕ) (sound : Sized types trees i)
+module _ (types members : List ℕ) (trees : ℕ → Tree) (i : ℕ) (sound : TreesSized types trees i)
     (rec : ℕ → List ℕ → List Token)
     (same : (s : ℕ) (image : List ℕ) → s < i → length image ≡ sizesIn types s → Bytes image
     → rec s image ≡ read (items (trees s) 0) (flat image)) where
@@ -173,7 +163,8 @@ module _ (types members : List ℕ) (trees : ℕ → Tree) (i : ℕ) (sound : Si
   body-read (At k) m image l h b = sym (flag-read (flat image) (8 * m .offset + k))
 
   -- a member, hidden or not, and the branches after it
-  member-read : (j : ℕ) (m : Member) (image : List ℕ) (rest : Branches) → Within types i (length image) m → Bytes image
+  member-read : (j : ℕ) (m : Member) (image : List ℕ) (rest : Branches) → MemberWithin types i (length image) m
+      → Bytes image
       → memberBy types members rec j m image ++ read (branchItems rest 0) (flat image)
       ≡ read
       (branchItems (seen (m .hidden) j (firstBit m) (bitTree (m .bit) (valueTree trees (m .ty) (m .count))) rest) 0)
@@ -204,7 +195,7 @@ module _ (types members : List ℕ) (trees : ℕ → Tree) (i : ℕ) (sound : Si
 
   -- the rows from member j on
   rows-read : (image : List ℕ) (first j n : ℕ) → Bytes image
-      → ((k : ℕ) → k < n → Within types i (length image) (memberAt members (first + (j + k))))
+      → ((k : ℕ) → k < n → MemberWithin types i (length image) (memberAt members (first + (j + k))))
       → upTo (λ k. rowBy types members rec first image (j + k)) n
       ≡ read (branchItems (branchesFrom trees j (membersAt members (first + j) n)) 0) (flat image)
   unfolding branchesFrom membersAt

@@ -1,18 +1,18 @@
 -- Laws of numbers (document 01, "Reading"): a number as the code widens it is what its leaf gives, by one law over the
 -- width for signed numbers and one for the others; that each atomic but BOOL is an instance of it.
-use Prim.Native.Nat.{ℕ, _+_, _-_, _*_, _/_, _%_, _^_, _≤_, _<_}
+use Prim.Native.Nat.{ℕ, _+_, _-_, _*_, _^_, _≤_, _<_}
 use native.Mathlib.Nat.{add-zero}
 use native.Mathlib.Omega.{arith}
 use mathlib.Core.Path.{_≡_, refl, sym, ap, _∙_}
-use mathlib.Core.Bool.{Bool, true, false, cond}
+use mathlib.Core.Bool.{Bool}
 use mathlib.Core.List.{List}
 use lib.Dec.{ltb}
 use lib.ListN.{getD}
-use lib.Seq.{getD-take, getD-drop}
-use Rattle.words.specs.Bits.{from, flat, val}
+use Rattle.words.specs.Bits.{flat}
 use Rattle.words.specs.Words.{part, wordAt, Bytes}
-use Rattle.words.proofs.BitLaws.{val-ext, word-val}
-use Rattle.words.proofs.WordLaws.{word-below}
+use Rattle.words.proofs.BitLaws.{part-val}
+use Rattle.words.proofs.WordLaws.{word-below, word-one}
+use Rattle.words.proofs.TestLaws.{cond-same}
 use Rattle.types.specs.atomics.Atomic.{sizeOf}
 use Rattle.types.specs.declared.atomics.atomic.Atomic.{Atomic}
 use Rattle.types.specs.declared.atomics.atomic.Atomic.the-variants as atomic
@@ -23,31 +23,12 @@ use Rattle.values.specs.declared.reading.numbers.Form.{Form}
 
 -- ---- the bits of a part
 
--- bit k of a part is that bit of the whole
-pub flat-part : (s : List ℕ) (at n k : ℕ) → k < 8 * n → flat (part s at n) k ≡ flat s (8 * at + k)
-unfolding flat part
-flat-part s at n k h =
-    let e : (8 * at + k) / 8 ≡ at + k / 8 = omega arith in
-    let f : (8 * at + k) % 8 ≡ k % 8 = omega arith in
-    let l : k / 8 < n = omega arith in
-    rw (e, f, getD-take, getD-drop)
-
--- a word is the number of the bits of its part
-part-val : (n : ℕ) (s : List ℕ) (at : ℕ) → Bytes s → wordAt n s at ≡ val (8 * n) (flat (part s at n))
-part-val n s at b =
-    word-val n s at b
-    ∙ val-ext (8 * n) (from (8 * at) (flat s)) (flat (part s at n)) (λ k l. sym (flat-part s at n k l))
-
 -- ---- one number
-
-same-plus : (b : Bool) (x : ℕ) → cond b x (x + 0) ≡ x
-same-plus true x = refl
-same-plus false x = add-zero x
 
 -- nothing is put above it
 no-fill : (f : Form) (x : ℕ) → f .fill ≡ 0 → extended f x ≡ x
 unfolding extended
-no-fill f x h = rw h (same-plus (ltb x (f .half)) x)
+no-fill f x h = rw (h, add-zero x) (cond-same (ltb x (f .half)) x)
 
 -- THE LAW over the width: a signed number of n bytes
 pub int-form : (n : ℕ) (s : List ℕ) (at : ℕ) → Bytes s
@@ -89,10 +70,6 @@ number-form atomic.Byte s at b h = word-form 3 1 s at b
 number-form atomic.Word s at b h = word-form 3 2 s at b
 number-form atomic.DWord s at b h = word-form 3 4 s at b
 number-form atomic.LWord s at b h = word-form 3 8 s at b
-
-word-one : (s : List ℕ) (at : ℕ) → wordAt 1 s at ≡ getD s at 0
-unfolding wordAt
-word-one s at = add-zero (getD s at 0)
 
 -- BOOL's byte
 pub truth-form : (s : List ℕ) (at : ℕ) → Bytes s → emit byte (flat (part s at 1)) ≡ bool (isTrue (getD s at 0))

@@ -13,6 +13,7 @@ use Rattle.types.specs.tables.Lent.{memberAt}
 use Rattle.types.specs.tables.Limits.{mostTypes}
 use Rattle.types.specs.tables.Sizes.{sizesIn}
 use Rattle.types.specs.declared.tables.member.Ty.the-variants as ty
+use Rattle.types.proofs.Face.{times-one, times-same}
 use Rattle.values.specs.inside.reading.Walk.{elementBy, elementsBy, structsBy, memberBy}
 use Rattle.values.specs.inside.reading.Walkable.{NestedRow, ImageOf, ImagesOf}
 use Rattle.values.specs.stream.Stream.{Token, member}
@@ -56,16 +57,8 @@ module _ {types image : List ℕ} {i n size : ℕ} (w : ImagesOf types i n image
 
 -- ---- a structure, or an array of structures, in a row
 
-times-one : (n : ℕ) → n ≡ 0 → times n ≡ 1
-unfolding times
-times-one n e = rw (eq-eqb n 0 e)
-
-times-some : (n : ℕ) → (n ≡ 0 → ⊥) → times n ≡ n
-unfolding times
-times-some n e = rw (ne-eqb n 0 e)
-
 -- a row of structure i, read: it holds structure s, n times, from a start on, each of a size
-pub record Held (types members : List ℕ) (i row : ℕ) (image : List ℕ) (s start n size : ℕ) : Type 0 where
+pub record HeldRow (types members : List ℕ) (i row : ℕ) (image : List ℕ) (s start n size : ℕ) : Type 0 where
   pub nested : NestedRow types members i row
   pub whole : ImageOf types i image
   pub struct : memberAt members row .ty ≡ ty.Struct s
@@ -74,7 +67,7 @@ pub record Held (types members : List ℕ) (i row : ℕ) (image : List ℕ) (s s
   pub long : size ≡ sizesIn types s
 
 module _ {types members : List ℕ} {i row : ℕ} {image : List ℕ} {s start n size : ℕ}
-    (w : Held types members i row image s start n size) where
+    (w : HeldRow types members i row image s start n size) where
   -- the structure that a row holds is an earlier one
   pub held-earlier : s < i
   held-earlier = nested-earlier (w .nested) (w .struct)
@@ -99,7 +92,7 @@ module _ {types members : List ℕ} {i row : ℕ} {image : List ℕ} {s start n 
 
   module _ (none : n ≡ 0) where
     one : size * times n ≡ size
-    one = ap (size *_) (times-one n none) ∙ mul-one size
+    one = ap (size *_) (sym (times-one n none)) ∙ mul-one size
 
     -- one structure in a row: its bytes lie in the image
     pub one-fits : start + size ≤ length image
@@ -117,7 +110,7 @@ module _ {types members : List ℕ} {i row : ℕ} {image : List ℕ} {s start n 
 
   module _ (some : n ≡ 0 → ⊥) where
     all : size * times n ≡ size * n
-    all = ap (size *_) (times-some n some)
+    all = ap (size *_) (sym (times-same n some))
 
     -- an array of structures in a row: its bytes lie in the image
     pub some-fits : start + size * n ≤ length image

@@ -1,15 +1,13 @@
 -- What a reading answers and leaves (document 01, "Reading", "Refusal numbers"): a law for each way out of the call.
-use Prim.Native.Nat.{ℕ, _+_, _*_, _/_, _%_, _<_, _≤_, min}
-use native.Mathlib.Nat.{add-zero, div-add-mod, mul-comm, mul-one, zero-mul}
+use Prim.Native.Nat.{ℕ, _+_, _*_, _<_, _≤_, min}
+use native.Mathlib.Nat.{mul-one}
 use native.Mathlib.Omega.{arith}
 use mathlib.Core.Path.{_≡_, refl, sym, ap, ap₂, _∙_}
 use mathlib.Core.Bool.{Bool, true, false, cond}
 use mathlib.Core.List.{List, []}
-use lib.Dec.{eqb}
 use lib.ListN.{length, take}
 use lib.Seq.{sets}
-use lib.Arith.{digits-div, digits-mod}
-use borrow.Author.Tests.{eq-eqb, ne-eqb, eqb-true, eqb-false, le-leb, lt-leb, leb-true}
+use borrow.Author.Tests.{ne-eqb, eqb-true, le-leb, lt-leb, leb-true}
 use Rattle.words.specs.Bits.{flat}
 use Rattle.words.specs.Words.{Bytes, bytesOf, part}
 use Rattle.words.proofs.Lists.{part-run}
@@ -26,7 +24,7 @@ use Rattle.values.specs.inside.reading.Read.{StreamWritten}
 use Rattle.values.specs.inside.reading.Walk.{atomicsOut, elementsBy, structOut, structsBy, valueOut}
 use Rattle.values.specs.inside.reading.Walkable.{ImageOf, ImagesOf, ValueImage, Walkable}
 use Rattle.values.specs.inside.stream.Counting.{Texts}
-use Rattle.values.specs.inside.stream.Laying.{laidIn, Wrote}
+use Rattle.values.specs.inside.stream.Laying.{laidIn, TokensLaid}
 use Rattle.values.specs.reading.Read.{streamOf, valueStream, imageFits, hasRoom, streamAnswer, readAnswer}
 use Rattle.values.specs.reading.Read.{Answered}
 use Rattle.values.specs.reading.Tree.{items, read}
@@ -69,35 +67,6 @@ module _ (types members : List ℕ) (t : Ty) (n : ℕ) (image out : List ℕ) wh
       → StreamWritten types members t n image out (Length k) new
   unfolding streamAnswer
   all-room e f g = record { answer = rw e (ap done f); leaves = rw e g }
-
--- ---- a product that is compared without being made
-
--- a size of 0: a length is the product where it is 0
-pub product-none : (long size n : ℕ) → size ≡ 0 → eqb long 0 ≡ eqb long (size * n)
-product-none long size n e = ap (eqb long) (sym (ap (λ (s : ℕ). s * n) e ∙ zero-mul n))
-
-module _ (long size n : ℕ) (some : size ≡ 0 → ⊥) where
-  exact : long ≡ size * n → (long % size ≡ 0) × (long / size ≡ n)
-  exact e =
-      let p : long ≡ n * size + 0 = e ∙ mul-comm size n ∙ sym (add-zero (n * size)) in (
-        ap (λ (k : ℕ). k % size) p ∙ digits-mod n (omega (arith, some)),
-        ap (λ (k : ℕ). k / size) p ∙ digits-div n (omega (arith, some)),
-      )
-
-  -- a length that the size does not divide is not the product
-  pub product-not : (long % size ≡ 0 → ⊥) → false ≡ eqb long (size * n)
-  product-not r = sym (ne-eqb long (size * n) (λ e. r (exact e .0)))
-
-  -- a length that the size divides is the product where the quotient is the count
-  pub product-is : long % size ≡ 0 → eqb (long / size) n ≡ eqb long (size * n)
-  product-is r = go (eqb (long / size) n) refl
-    where
-      go : (b : Bool) → eqb (long / size) n ≡ b → b ≡ eqb long (size * n)
-      go true e =
-          let p : size * n ≡ long
-          = ap (λ (k : ℕ). size * k) (sym (eqb-true (long / size) n e)) ∙ omega (arith, div-add-mod long size, r) in
-          sym (eq-eqb long (size * n) (sym p))
-      go false e = sym (ne-eqb long (size * n) (λ p. eqb-false (long / size) n e (exact p .1)))
 
 -- ---- a value is an atomic or a structure, one or an array
 
@@ -185,7 +154,7 @@ module _ (types members : List ℕ) (t : Ty) (n : ℕ) (image out : List ℕ) (r
   -- the count of the entries, then entries and texts
   pub read-all : {entries text : ℕ} {mid new : List ℕ} {p : Place} → entries ≡ length ts → text ≡ length (bodies ts)
       → 12 * length ts + length (bodies ts) ≤ room → mid ≡ sets out 0 (bytesOf 4 entries)
-      → Wrote mid (4 + 12 * entries) 4 0 ts new p
+      → TokensLaid mid (4 + 12 * entries) 4 0 ts new p
       → StreamWritten types members t n image out (Length (4 + 12 * entries + text)) new
   read-all {entries} {text} {mid} e f l m w =
       all-room types members t n image out (in-room l) (omega (arith, long, e, f))
@@ -205,7 +174,7 @@ no-start types members t n image out l =
 -- ---- what a caller may count on
 
 -- of tests p, q, r that were passed in turn
-record Given (p q r : Bool) (k m : ℕ) : Type 0 where
+record TestsPassed (p q r : Bool) (k m : ℕ) : Type 0 where
   pub there : p ≡ true
   pub fits : q ≡ true
   pub room : r ≡ true
@@ -213,7 +182,7 @@ record Given (p q r : Bool) (k m : ℕ) : Type 0 where
 
 given : (p q r : Bool) (k m : ℕ)
     → done k ≡ cond p (cond q (cond r (done m) (refused 16 0)) (refused 14 0)) (refused 15 0)
-    → Given p q r k m
+    → TestsPassed p q r k m
 given true true true k m e = record { there = refl; fits = refl; room = refl; long = cc }
 given true true false k m e = record { there = refl; fits = refl; room = cc; long = cc }
 given true false r k m e = record { there = refl; fits = cc; room = cc; long = cc }

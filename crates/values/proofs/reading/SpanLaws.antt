@@ -1,12 +1,13 @@
 -- The trees of the types in the tables (document 01, "Layout", "Value stream"): a tree has as many bits as its type's
 -- bytes say, and the branches of a structure lie inside it.
 use Prim.Native.Nat.{ℕ, zero, suc, _+_, _*_, _≤_, _<_}
-use native.Mathlib.Nat.{add-zero, mul-assoc, mul-comm, mul-one}
+use native.Mathlib.Nat.{add-zero, mul-assoc, mul-one}
 use native.Mathlib.Omega.{arith}
 use mathlib.Core.Path.{_≡_, refl, ap, _∙_}
 use mathlib.Core.Bool.{Bool, true, false, cond}
 use mathlib.Core.List.{List}
 use lib.Dec.{eqb}
+use Rattle.words.proofs.ArithLaws.{array-bits}
 use Rattle.types.specs.atomics.Atomic.{bitString, sizeOf}
 use Rattle.types.specs.inside.tables.Lent.{TyFits}
 use Rattle.types.specs.layout.Laid.{Earlier, firstBit}
@@ -22,7 +23,7 @@ use Rattle.types.specs.declared.tables.member.Member.{Member}
 use Rattle.types.specs.declared.tables.member.Ty.{Ty}
 use Rattle.types.specs.declared.tables.member.Ty.the-variants as ty
 use Rattle.types.proofs.Face.{times-same}
-use Rattle.values.specs.inside.reading.Walkable.{Within, IsString, WalkableType, Walkable}
+use Rattle.values.specs.inside.reading.Walkable.{MemberWithin, IsString, WalkableType, Walkable}
 use Rattle.values.specs.reading.Leaf.{str, leafOf}
 use Rattle.values.specs.reading.Texts.{capacityAt}
 use Rattle.values.specs.reading.Tree.{Tree, leaf, bits, array, struct, Branches, room, allBits, span}
@@ -73,10 +74,6 @@ all-bits w zero = omega (arith, mul-one w)
 all-bits w (suc n) =
     mul-assoc 8 w (suc n) ∙ ap (λ (k : ℕ). 8 * (w * k)) (times-same (suc n) (λ e. omega arith))
 
--- n trees of so many bytes
-array-bits : (n w k : ℕ) → k ≡ 8 * w → n * k ≡ 8 * (w * n)
-array-bits n w k e = ap (n *_) e ∙ mul-comm n (8 * w) ∙ mul-assoc 8 w n
-
 -- the tree of an atomic, or of so many, takes the bits of all their bytes
 pub atomics-span : (a : Atomic) (n : ℕ) → span (atomicsTree a n) ≡ 8 * (sizeOf a * times n)
 unfolding atomicsTree span
@@ -101,17 +98,17 @@ atomics-inside a n = go (bitString a) (eqb n 0)
 -- ---- structures whose earlier ones are known
 
 -- the trees of the first i structures have their sizes, and their branches lie inside
-pub record Sized (types : List ℕ) (trees : ℕ → Tree) (i : ℕ) : Type 0 where
+pub record TreesSized (types : List ℕ) (trees : ℕ → Tree) (i : ℕ) : Type 0 where
   pub spans : (s : ℕ) → s < i → span (trees s) ≡ 8 * sizesIn types s
   pub insides : (s : ℕ) → s < i → Inside (trees s)
 
 -- and so are fewer
-pub sound-below : {types : List ℕ} {trees : ℕ → Tree} {f : ℕ} (i : ℕ) → i ≤ f → Sized types trees f
-    → Sized types trees i
+pub sound-below : {types : List ℕ} {trees : ℕ → Tree} {f : ℕ} (i : ℕ) → i ≤ f → TreesSized types trees f
+    → TreesSized types trees i
 sound-below i h sound =
     record { spans = λ s l. sound .spans s (omega arith); insides = λ s l. sound .insides s (omega arith) }
 
-module _ (types members : List ℕ) (trees : ℕ → Tree) (i : ℕ) (sound : Sized types trees i) where
+module _ (types members : List ℕ) (trees : ℕ → Tree) (i : ℕ) (sound : TreesSized types trees i) where
   structs-span : (s n : ℕ) → s < i → span (structsTree trees s n) ≡ 8 * (sizesIn types s * times n)
   unfolding structsTree span
   structs-span s n l = go (many n)
@@ -150,7 +147,7 @@ module _ (types members : List ℕ) (trees : ℕ → Tree) (i : ℕ) (sound : Si
   bit-inside (At k) m l = unfold Inside in tt
 
   -- a member that lies inside, hidden or not, before others that do
-  seen-inside : (hidden : Bool) (size j : ℕ) (m : Member) (rest : Branches) → Within types i size m
+  seen-inside : (hidden : Bool) (size j : ℕ) (m : Member) (rest : Branches) → MemberWithin types i size m
       → AllInside (8 * size) rest
       → AllInside (8 * size)
       (seen hidden j (firstBit m) (bitTree (m .bit) (valueTree trees (m .ty) (m .count))) rest)
@@ -159,7 +156,7 @@ module _ (types members : List ℕ) (trees : ℕ → Tree) (i : ℕ) (sound : Si
   seen-inside false size j m rest within others =
       (bit-inside (m .bit) m (within .earlier), (rw (bit-span (m .bit) m (within .earlier)) (within .inside), others))
 
-  rows-inside : (size j row n : ℕ) → ((k : ℕ) → k < n → Within types i size (memberAt members (row + k)))
+  rows-inside : (size j row n : ℕ) → ((k : ℕ) → k < n → MemberWithin types i size (memberAt members (row + k)))
       → AllInside (8 * size) (branchesFrom trees j (membersAt members row n))
   unfolding branchesFrom membersAt
   rows-inside size j row zero each = unfold Inside in tt
@@ -217,7 +214,7 @@ earlier (ty.Struct s) l = l
 
 module _ (types members : List ℕ) (w : Walkable types members) where
   -- nested so deep, the first so many are sound
-  pub sound-within : (f : ℕ) → f ≤ mostTypes → Sized types (treeWithin (knownIn types members) f) f
+  pub sound-within : (f : ℕ) → f ≤ mostTypes → TreesSized types (treeWithin (knownIn types members) f) f
   unfolding treeWithin
   sound-within zero h =
       record {
@@ -234,7 +231,7 @@ module _ (types members : List ℕ) (w : Walkable types members) where
       }
 
   -- the trees of all structures have their sizes, and their branches lie inside
-  pub sound-all : Sized types (treeOf (knownIn types members)) mostTypes
+  pub sound-all : TreesSized types (treeOf (knownIn types members)) mostTypes
   unfolding treeOf
   sound-all = sound-within mostTypes (omega arith)
 

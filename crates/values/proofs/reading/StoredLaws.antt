@@ -77,12 +77,12 @@ pub record Accepted (types : List ℕ) (i : ℕ) (image : List ℕ) : Type 0 whe
   pub string : isString (typeAt types i .kind) ≡ true
   pub long : length image ≡ sizesIn types i
 
-record Passed (a b c : Bool) : Type 0 where
+record TextPassed (a b c : Bool) : Type 0 where
   pub there : a ≡ true
   pub string : b ≡ true
   pub long : c ≡ true
 
-passed : (a b c : Bool) → cond a (stringBy b c) 15 ≡ 0 → Passed a b c
+passed : (a b c : Bool) → cond a (stringBy b c) 15 ≡ 0 → TextPassed a b c
 passed true true true e = record { there = refl; string = refl; long = refl }
 passed true true false e = absurd (let z : ⊥ = omega arith in z)
 passed true false c e = absurd (let z : ⊥ = omega arith in z)
@@ -102,14 +102,14 @@ accepted types i image e =
     }
 
 -- its rows are in the table, and its capacity in the image
-pub record Readable (types members : List ℕ) (i : ℕ) (image : List ℕ) : Type 0 where
+pub record TextReadable (types members : List ℕ) (i : ℕ) (image : List ℕ) : Type 0 where
   pub low : i < mostTypes
   pub rows : typeAt types i .first < 1999
   pub inside : 4 + capacityAt members (typeAt types i .first) ≤ length image
 
 -- a number of 0: the rows of the string are in the table, and its capacity is in the image
 pub readable : {types members : List ℕ} (t : Ty) {i : ℕ} (image : List ℕ) → Walkable types members → t ≡ ty.Struct i
-    → textNumber types t image ≡ 0 → Readable types members i image
+    → textNumber types t image ≡ 0 → TextReadable types members i image
 readable {types} {members} t {i} image w e n =
     let a : Accepted types i image = accepted types i image (rw e at n) in
     let s : IsString members (typeAt types i) = w .each i (a .low) .string (a .string) in
@@ -121,7 +121,7 @@ readable {types} {members} t {i} image w e n =
 
 -- the text of a string whose capacity is in the image lies in the image
 pub held-struct : {types members : List ℕ} {t : Ty} {i : ℕ} {image : List ℕ} {n : ℕ} → t ≡ ty.Struct i
-    → Readable types members i image → n ≡ textLength (capacityAt members (typeAt types i .first)) image
+    → TextReadable types members i image → n ≡ textLength (capacityAt members (typeAt types i .first)) image
     → TextHeld types members t image n
 held-struct {types} {members} {t} {i} {image} e r h = record { long = rw e h; inside = omega (arith, r .inside) }
 

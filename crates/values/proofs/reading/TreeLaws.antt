@@ -9,7 +9,7 @@ use lib.ListN.{length}
 use lib.Seq.{drop-cons}
 use Rattle.words.specs.Bits.{Bits, flat, from, val}
 use Rattle.words.specs.Words.{Bytes, part}
-use Rattle.words.proofs.BitLaws.{byte-val, val-ext}
+use Rattle.words.proofs.BitLaws.{byte-val, val-ext, flat-part, from-from}
 use Rattle.values.specs.inside.reading.Walk.{upTo, wrap}
 use Rattle.values.specs.reading.Leaf.{Leaf, flag, byte, int, word, str, width, signed, isTrue, chars, clipped}
 use Rattle.values.specs.reading.Leaf.{emit}
@@ -17,7 +17,6 @@ use Rattle.values.specs.reading.Tree.{Tree, leaf, bits, array, struct, B
 use Rattle.values.specs.reading.Tree.{span, Item, say, at, each, between, oneFlag, items, branchItems, read}
 use Rattle.values.specs.stream.Stream.{Token, bool, number, text, member, mark}
 use Rattle.values.proofs.normal_image.CharLaws.{chars-ext}
-use Rattle.values.proofs.reading.NumberLaws.{flat-part}
 use Rattle.values.proofs.reading.UpLaws.{up-cons}
 
 -- ---- reading some items
@@ -51,9 +50,6 @@ unfolding read
 none-same x y = refl
 
 -- ---- a tree further on
-
-from-from : (p q : ℕ) (x : Bits) → from (p + q) x ≡ from q (from p x)
-from-from p q x = fun-ext (λ k. ap x (add-assoc p q k))
 
 leaf-shift : (l : Leaf) (p q : ℕ) (x : Bits) → read (at (p + q) l ∷ []) x ≡ read (at q l ∷ []) (from p x)
 unfolding read

@@ -127,16 +127,16 @@ module _ (a : Atomic) (n : ℕ) where
   pub bytes-fit : {s t : ℕ} → s ≡ sizeOf a → t ≡ times n → n ≤ 2 ^ 32 → s * t ≤ 2 ^ 36
   bytes-fit p q h = rw (p, q) (omega (arith, bytes-most, times-near .1))
 
-  record Sized : Type 0 where
+  record RunSized : Type 0 where
     pub entries : ℕ
     pub is : TextFree (atomicsOut a n) entries
     pub enough : n ≤ entries
     pub few : entries ≤ 2 + 64 * times n
 
-  sized : Sized
+  sized : RunSized
   sized = go (bitString a) refl (eqb n 0) refl
     where
-      go : (b : Bool) → bitString a ≡ b → (z : Bool) → eqb n 0 ≡ z → Sized
+      go : (b : Bool) → bitString a ≡ b → (z : Bool) → eqb n 0 ≡ z → RunSized
       go true e z f = record {
         entries = 2 + 8 * (sizeOf a * times n);
         is = atomics-bits e;

@@ -8,10 +8,11 @@ use mathlib.Core.Bool.{true, false}
 use mathlib.Core.List.{List, [], _∷_, _++_, append-assoc, append-nil}
 use lib.Dec.{eqb}
 use lib.ListN.{length, length-append}
-use lib.Seq.{sets, sets-eq, take-append-seam, drop-append-seam, drop-append-add}
+use lib.Seq.{sets}
 use borrow.Author.Tests.{eq-eqb, eqb-false, le-leb}
 use Rattle.words.specs.Words.{bytesOf, part, wordAt}
 use Rattle.words.proofs.WordLaws.{length-bytes, word-back}
+use Rattle.words.proofs.Lists.{store-same, part-seam}
 use Rattle.types.specs.layout.Laid.{Every}
 use Rattle.values.specs.stream.Decode.{tokenAt, tokensFrom, tokensIn}
 use Rattle.values.specs.stream.Entry.{payloadRight}
@@ -24,9 +25,9 @@ use Rattle.values.proofs.stream.HeadLaws.{bodies-append, bodies-one, he
 use Rattle.values.proofs.stream.StreamLaws.{stream-long}
 
 -- an entry that can be said: its payload is right and has 64 bits, or it is a text
-abbrev pub Sound : Token → Type 0
-Sound (plain kind x) = (payloadRight kind x ≡ true) × ((eqb kind 6 ≡ false) × (x < 2 ^ 64))
-Sound (text s) = Unit {0}
+abbrev pub SaidWell : Token → Type 0
+SaidWell (plain kind x) = (payloadRight kind x ≡ true) × ((eqb kind 6 ≡ false) × (x < 2 ^ 64))
+SaidWell (text s) = Unit {0}
 
 -- what its bytes then say, where the next text begins at a place
 record Says (place : ℕ) (t : Token) : Type 0 where
@@ -36,7 +37,7 @@ record Says (place : ℕ) (t : Token) : Type 0 where
   token : (s : List ℕ) (base at : ℕ) → Read s at (kindOf t) (payloadOf place t)
       → part s (base + place) (length (bodyOf t)) ≡ bodyOf t → tokenAt s base at ≡ t
 
-one-says : (place : ℕ) (t : Token) → Sound t → place + length (bodyOf t) < 2 ^ 32 → Says place t
+one-says : (place : ℕ) (t : Token) → SaidWell t → place + length (bodyOf t) < 2 ^ 32 → Says place t
 unfolding payloadRight
 one-says place (plain kind x) (r, (n, l)) h =
     record {
@@ -58,18 +59,6 @@ one-says place (text bs) w h =
     }
 
 -- ---- lists
-
--- storing what stands there changes nothing
-store-same : (xs b ys : List ℕ) → sets (xs ++ (b ++ ys)) (length xs) b ≡ xs ++ (b ++ ys)
-store-same xs b ys =
-    let l = length-append xs (b ++ ys) in
-    let m = length-append b ys in
-    sets-eq b (xs ++ (b ++ ys)) (length xs) (omega arith)
-    ∙ rw (take-append-seam, drop-append-add, drop-append-seam) (append-assoc xs b ys)
-
-part-seam : (xs b ys : List ℕ) → part (xs ++ (b ++ ys)) (length xs) (length b) ≡ b
-unfolding part
-part-seam xs b ys = rw drop-append-seam (take-append-seam b ys)
 
 -- ---- one entry after those that are done
 
@@ -147,7 +136,7 @@ pub record Decoded (all : List Token) (k : ℕ) (rest : List Token) (place : ℕ
   pub form : formed (streamBytes all) (4 + 12 * length all) k (length rest) place ≡ true
   pub tokens : tokensFrom (streamBytes all) (4 + 12 * length all) k (length rest) ≡ rest
 
-decoded : (done rest : List Token) → Every Sound rest → length (bodies (done ++ rest)) < 2 ^ 32
+decoded : (done rest : List Token) → Every SaidWell rest → length (bodies (done ++ rest)) < 2 ^ 32
     → Decoded (done ++ rest) (length done) rest (length (bodies done))
 unfolding formed tokensFrom Every bodies
 decoded done [] w l =
@@ -179,12 +168,12 @@ decoded done (t ∷ rest) (sound, more-sound) l =
     }
 
 -- the stream of entries that can be said is a stream, and says them
-pub record Back (ts : List Token) : Type 0 where
+pub record DecodedBack (ts : List Token) : Type 0 where
   pub ok : streamOk (streamBytes ts) ≡ true
   pub tokens : tokensIn (streamBytes ts) ≡ ts
 
 -- entries that can be said, with a stream of at most 2^31 bytes, are decoded again from it
-pub decode-back : (ts : List Token) → Every Sound ts → length (streamBytes ts) ≤ mostBytes → Back ts
+pub decode-back : (ts : List Token) → Every SaidWell ts → length (streamBytes ts) ≤ mostBytes → DecodedBack ts
 unfolding streamOk tokensIn bodies
 decode-back ts w l =
     let long = stream-long ts in

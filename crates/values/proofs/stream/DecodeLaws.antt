@@ -7,11 +7,10 @@ use mathlib.Core.Path.{_≡_, refl, sym, ap, ap₂, _∙_}
 use mathlib.Core.Bool.{Bool, true}
 use mathlib.Core.List.{List, _++_, append-assoc}
 use lib.Dec.{leb}
-use lib.ListN.{length, take, drop, drop-of-length-le, take-append-drop}
-use lib.Seq.{drop-drop}
+use lib.ListN.{length, drop, drop-of-length-le}
 use borrow.Author.Tests.{eq-eqb, ne-eqb, eqb-true, leb-true}
 use Rattle.words.specs.Words.{Bytes, bytesOf, part}
-use Rattle.words.proofs.Lists.{length-part}
+use Rattle.words.proofs.Lists.{length-part, part-rest}
 use Rattle.words.proofs.TestLaws.{and-left, and-right}
 use Rattle.words.proofs.WordLaws.{bytes-back}
 use Rattle.values.specs.stream.Decode.{tokenAt, tokensFrom, tokensIn}
@@ -20,7 +19,7 @@ use Rattle.values.specs.stream.Form.{formed, countIn, baseIn, streamOk}
 use Rattle.values.specs.stream.Stream.{Token, plain, text, kindOf, payloadOf, bodyOf, entryBytes, heads, bodies}
 use Rattle.values.specs.stream.Stream.{streamBytes, mostBytes}
 use Rattle.values.proofs.stream.EntryLaws.{entry-only}
-use Rattle.values.proofs.stream.FormLaws.{Goes, goes, goes-on, Stepped, over, still, form-end}
+use Rattle.values.proofs.stream.FormLaws.{EntryGoes, goes, goes-on, EntryStepped, over, still, form-end}
 
 -- ---- one entry of a stream that is well formed
 
@@ -37,19 +36,13 @@ module _ (s : List ℕ) (base at : ℕ) where
   token-text e = rw (eq-eqb (kindAt s at) 6 e) refl
 
 -- what an entry says, and where the next text begins
-record Said (s : List ℕ) (base kind x place next : ℕ) (t : Token) : Type 0 where
+record EntrySaid (s : List ℕ) (base kind x place next : ℕ) (t : Token) : Type 0 where
   bytes : entryBytes (kindOf t) (payloadOf place t) ≡ entryBytes kind x
   next-is : place + length (bodyOf t) ≡ next
   body : bodyOf t ++ drop (base + next) s ≡ drop (base + place) s
 
--- a part and what comes after it
-part-rest : (s : List ℕ) (at n : ℕ) → part s at n ++ drop (at + n) s ≡ drop at s
-unfolding part
-part-rest s at n =
-    ap (λ (r : List ℕ). take n (drop at s) ++ r) (sym (drop-drop n at s)) ∙ take-append-drop n (drop at s)
-
 text-said : (s : List ℕ) (base x place next : ℕ) → x % 2 ^ 32 ≡ place → place + x / 2 ^ 32 ≡ next
-    → base + next ≤ length s → Said s base 6 x place next (text (part s (base + x % 2 ^ 32) (x / 2 ^ 32)))
+    → base + next ≤ length s → EntrySaid s base 6 x place next (text (part s (base + x % 2 ^ 32) (x / 2 ^ 32)))
 text-said s base x place next a q l =
     let n : length (part s (base + x % 2 ^ 32) (x / 2 ^ 32)) ≡ x / 2 ^ 32
     = length-part s (base + x % 2 ^ 32) (x / 2 ^ 32) (omega arith) in
@@ -61,8 +54,8 @@ text-said s base x place next a q l =
       body = rw z (part-rest s (base + x % 2 ^ 32) (x / 2 ^ 32) ∙ ap (λ (k : ℕ). drop (base + k) s) a);
     }
 
-entry-said : (s : List ℕ) (base at place next : ℕ) → Stepped (kindAt s at) (payloadAt s at) place next
-    → base + next ≤ length s → Said s base (kindAt s at) (payloadAt s at) place next (tokenAt s base at)
+entry-said : (s : List ℕ) (base at place next : ℕ) → EntryStepped (kindAt s at) (payloadAt s at) place next
+    → base + next ≤ length s → EntrySaid s base (kindAt s at) (payloadAt s at) place next (tokenAt s base at)
 entry-said s base at place next (over e a q) l =
     rw (token-text s base at e, e) (text-said s base (payloadAt s at) place next a q l)
 entry-said s base at place next (still n q) l =
@@ -75,16 +68,16 @@ entry-said s base at place next (still n q) l =
 -- ---- entries in order
 
 -- entry k, where its text begins if it is one, and where the next begins
-pub record There (s : List ℕ) (base k : ℕ) : Type 0 where
+pub record EntryIn (s : List ℕ) (base k : ℕ) : Type 0 where
   pub place : ℕ
   pub next : ℕ
   pub is : isEntry s (4 + 12 * k) ≡ true
-  pub step : Stepped (kindAt s (4 + 12 * k)) (payloadAt s (4 + 12 * k)) place next
+  pub step : EntryStepped (kindAt s (4 + 12 * k)) (payloadAt s (4 + 12 * k)) place next
   pub within : base + next ≤ length s
 
 module _ (s : List ℕ) (base : ℕ) where
   -- entry i of them is there, and its text lies in the stream
-  pub entry-there : (k n place i : ℕ) → formed s base k n place ≡ true → i < n → There s base (k + i)
+  pub entry-there : (k n place i : ℕ) → formed s base k n place ≡ true → i < n → EntryIn s base (k + i)
   unfolding formed
   entry-there k zero place i h l = absurd (let z : ⊥ = omega arith in z)
   entry-there k (suc n) place i h l =
@@ -92,8 +85,8 @@ module _ (s : List ℕ) (base : ℕ) where
       (goes-on s (4 + 12 * k) place (λ p. formed s base (k + 1) n p) h)
     where
       go : (j : ℕ) → j < suc n
-          → ((next m : ℕ) → formed s base (k + 1) n next ≡ true → m < n → There s base (k + 1 + m))
-          → Goes s (4 + 12 * k) place (λ p. formed s base (k + 1) n p) → There s base (k + j)
+          → ((next m : ℕ) → formed s base (k + 1) n next ≡ true → m < n → EntryIn s base (k + 1 + m))
+          → EntryGoes s (4 + 12 * k) place (λ p. formed s base (k + 1) n p) → EntryIn s base (k + j)
       go zero l later (goes next is g rest) =
           rw add-zero
           (record { place = place; next = next; is = is; step = g; within = form-end s base (k + 1) n next rest })
@@ -119,7 +112,7 @@ module _ (s : List ℕ) (base : ℕ) where
     where
       go : ((next : ℕ) → formed s base (k + 1) n next ≡ true
           → bodies (tokensFrom s base (k + 1) n) ≡ drop (base + next) s)
-          → Goes s (4 + 12 * k) place (λ p. formed s base (k + 1) n p)
+          → EntryGoes s (4 + 12 * k) place (λ p. formed s base (k + 1) n p)
           → bodyOf (tokenAt s base (4 + 12 * k)) ++ bodies (tokensFrom s base (k + 1) n) ≡ drop (base + place) s
       go more (goes next is g rest) =
           ap (λ (b : List ℕ). bodyOf (tokenAt s base (4 + 12 * k)) ++ b) (more next rest)
@@ -140,7 +133,7 @@ module _ (s : List ℕ) (base : ℕ) where
 
         go : ((next : ℕ) → formed s base (k + 1) n next ≡ true
             → heads next (tokensFrom s base (k + 1) n) ++ drop (4 + 12 * (k + 1 + n)) s ≡ drop (4 + 12 * (k + 1)) s)
-            → Goes s (4 + 12 * k) place (λ p. formed s base (k + 1) n p)
+            → EntryGoes s (4 + 12 * k) place (λ p. formed s base (k + 1) n p)
             → (entryBytes (kindOf (tokenAt s base (4 + 12 * k))) (payloadOf place (tokenAt s base (4 + 12 * k)))
             ++ heads (place + length (bodyOf (tokenAt s base (4 + 12 * k)))) (tokensFrom s base (k + 1) n))
             ++ drop (4 + 12 * (k + suc n)) s
@@ -155,13 +148,13 @@ module _ (s : List ℕ) (base : ℕ) where
 -- ---- the whole
 
 -- what a well-formed stream has passed, and that the entries that it counts lie in it
-pub record Whole (s : List ℕ) : Type 0 where
+pub record StreamWhole (s : List ℕ) : Type 0 where
   pub short : length s ≤ mostBytes
   pub inside : baseIn s ≤ length s
   pub entries : formed s (baseIn s) 0 (countIn s) 0 ≡ true
 
 -- a well-formed stream has passed each test
-pub whole : (s : List ℕ) → streamOk s ≡ true → Whole s
+pub whole : (s : List ℕ) → streamOk s ≡ true → StreamWhole s
 unfolding streamOk
 whole s h =
     let most : Bool = leb (length s) mostBytes in

@@ -12,10 +12,9 @@ use lib.Dec.{eqb, leb, ltb}
 use lib.ListN.{length, getD, List·getD-eq-default}
 use lib.Seq.{sets, length-sets}
 use Rattle.words.specs.Words.{bytesOf, part, wordAt, Bytes}
-use Rattle.words.proofs.Lists.{sets-append, getD-sets, part-cons}
-use Rattle.words.proofs.WordLaws.{length-bytes, word-back, bytes-back}
-use borrow.Author.Tests.{eq-eqb, ne-eqb, eqb-true, lt-ltb, le-ltb, ltb-true, le-leb, lt-leb, leb-true}
-use borrow.Author.Tests.{leb-false}
+use Rattle.words.proofs.Lists.{sets-append, getD-sets}
+use Rattle.words.proofs.WordLaws.{length-bytes, word-back, twelve}
+use borrow.Author.Tests.{eq-eqb, ne-eqb, eqb-true, lt-ltb, le-ltb, ltb-true, le-leb, leb-true}
 use Rattle.words.proofs.TestLaws.{and-left, and-right, clash}
 use Rattle.types.specs.refusals.Said.{Said, done}
 use Rattle.values.specs.inside.stream.Entry.{bareIn, entryIn, loadedOf, lowIn, payloadsIn, textEntry, truthIn}
@@ -111,23 +110,8 @@ entry-back s at kind x r l h =
 
 -- ---- the bytes of an entry are those of its kind and its payload
 
--- the twelve bytes, one after the other
-twelve : (s : List ℕ) (at : ℕ) → Bytes s → at + 12 ≤ length s
-    → part s at 12
-    ≡ getD s at 0 ∷ getD s (at + 1) 0 ∷ getD s (at + 2) 0 ∷ getD s (at + 3) 0 ∷ bytesOf 8 (wordAt 8 s (at + 4))
-twelve s at b h =
-    let a : at + 0 ≡ at = add-zero at in
-    let p : part s at 12 ≡ getD s at 0 ∷ part s (at + 1) 11 = rw a at (part-cons s at 12 0 0 (omega arith) h) in
-    p
-    ∙ rw (
-      part-cons s at 12 1 0 (omega arith) h,
-      part-cons s at 12 2 0 (omega arith) h,
-      part-cons s at 12 3 0 (omega arith) h,
-      bytes-back 8 s (at + 4) b (omega arith),
-    )
-
 -- an entry's bytes are there, with three zeros after the kind, and its payload is right
-pub record Held (s : List ℕ) (at : ℕ) : Type 0 where
+pub record EntryHeld (s : List ℕ) (at : ℕ) : Type 0 where
   pub inside : at + 12 ≤ length s
   pub first : getD s (at + 1) 0 ≡ 0
   pub second : getD s (at + 2) 0 ≡ 0
@@ -135,7 +119,7 @@ pub record Held (s : List ℕ) (at : ℕ) : Type 0 where
   pub right : payloadRight (kindAt s at) (payloadAt s at) ≡ true
 
 -- what the test of an entry says
-pub entry-held : (s : List ℕ) (at : ℕ) → isEntry s at ≡ true → Held s at
+pub entry-held : (s : List ℕ) (at : ℕ) → isEntry s at ≡ true → EntryHeld s at
 unfolding isEntry threeZeros
 entry-held s at e =
     let long : Bool = leb (at + 12) (length s) in
@@ -327,14 +311,6 @@ loaded-same Malformed (Is f) g h q = cc
 loaded-same Malformed Malformed g h q = refl
 
 -- ---- at any place
-
--- in 12 bytes or more a place has room for an entry where it is at most the length less 12
-pub inside-test : (at long : ℕ) → 12 ≤ long → leb at (long - 12) ≡ leb (at + 12) long
-inside-test at long l = go (leb at (long - 12)) refl
-  where
-    go : (b : Bool) → leb at (long - 12) ≡ b → b ≡ leb (at + 12) long
-    go true e = sym (le-leb (at + 12) long (let a = leb-true at (long - 12) e in omega arith))
-    go false e = sym (lt-leb (at + 12) long (let a = leb-false at (long - 12) e in omega arith))
 
 module _ {out : List ℕ} {at : ℕ} (e : Entry) where
   -- an entry that has room is stored, and the answer is true

@@ -2,20 +2,21 @@
 -- what a stream that is well formed has passed.
 use Prim.Native.Nat.{ℕ, zero, suc, _+_, _-_, _*_, _/_, _%_, _^_, _<_, _≤_}
 use native.Mathlib.Nat.{add-zero, zero-add, sub-zero}
-use native.Mathlib.Decide.{decLt, ℕ-discrete}
+use native.Mathlib.Decide.{ℕ-discrete}
 use native.Mathlib.Omega.{arith}
 use mathlib.Core.Path.{_≡_, refl, sym, ap, ap₂, _∙_, subst}
 use mathlib.Core.Bool.{Bool, true, false, cond, _&&_}
 use mathlib.Core.List.{List}
-use lib.Dec.{eqb, leb, ltb}
+use lib.Dec.{eqb, leb}
 use lib.ListN.{length, getD, List·getD-eq-default}
-use borrow.Author.Tests.{eq-eqb, ne-eqb, eqb-true, le-leb, lt-leb, lt-ltb, le-ltb}
+use borrow.Author.Tests.{eq-eqb, ne-eqb, eqb-true, le-leb, lt-leb}
 use Rattle.words.specs.Words.{wordAt}
 use Rattle.words.proofs.TestLaws.{clash}
-use Rattle.words.proofs.WordLaws.{word-split}
+use Rattle.words.proofs.WordLaws.{word-split, word-four}
+use Rattle.words.proofs.ArithLaws.{none-most, below-most}
 use Rattle.values.specs.inside.stream.Steps.{Moved, mostOf, nowhere, stepOf}
 use Rattle.values.specs.stream.Entry.{isEntry, kindAt, payloadAt, payloadRight, payloadsRight, threeZeros}
-use Rattle.values.specs.stream.Form.{Step, At, Broken, textStep, entryStep, stepAt, onStep, formed, countIn}
+use Rattle.values.specs.stream.Form.{TextStep, At, Broken, textStep, entryStep, stepAt, onStep, formed, countIn}
 use Rattle.values.specs.stream.Form.{baseIn, streamOk}
 use Rattle.values.specs.stream.Stream.{mostBytes}
 
@@ -26,11 +27,11 @@ at-same : (x y : ℕ) → At x ≡ At y → x ≡ y
 at-same x y e = cc
 
 -- the answers of a step
-pub moved-to : {place r : ℕ} {step : Step} → step ≡ At r → r < nowhere → r ≤ place + 2 ^ 32 → Moved place step r
+pub moved-to : {place r : ℕ} {step : TextStep} → step ≡ At r → r < nowhere → r ≤ place + 2 ^ 32 → Moved place step r
 moved-to e l h = record { goes = λ q. e; near = λ q. h; broken = λ q. absurd (let z : ⊥ = omega arith in z) }
 
 -- a broken step is told by the place that is nowhere
-pub moved-none : {place : ℕ} {step : Step} → step ≡ Broken → Moved place step nowhere
+pub moved-none : {place : ℕ} {step : TextStep} → step ≡ Broken → Moved place step nowhere
 moved-none e =
     record {
       goes = λ q. absurd (let z : ⊥ = omega arith in z);
@@ -39,20 +40,6 @@ moved-none e =
     }
 
 -- ---- one kind's payloads: the greatest one
-
-none-most : (x : ℕ) → eqb x 0 ≡ leb x 0
-none-most x = go (ℕ-discrete x 0)
-  where
-    go : Dec (x ≡ 0) → eqb x 0 ≡ leb x 0
-    go (yes h) = eq-eqb x 0 h ∙ sym (le-leb x 0 (omega arith))
-    go (no h) = ne-eqb x 0 h ∙ sym (lt-leb x 0 (omega arith))
-
-below-most : (x most : ℕ) → ltb x (suc most) ≡ leb x most
-below-most x most = go (decLt x (suc most))
-  where
-    go : Dec (x < suc most) → ltb x (suc most) ≡ leb x most
-    go (yes h) = lt-ltb x (suc most) h ∙ sym (le-leb x most (omega arith))
-    go (no h) = le-ltb x (suc most) (omega arith) ∙ sym (lt-leb x most (omega arith))
 
 -- each kind from one on
 infixr 30 _then_
@@ -73,30 +60,18 @@ unfolding payloadRight mostOf
 kind-most x l =
     let whole : true ≡ leb x (2 ^ 64 - 1) = sym (le-leb x (2 ^ 64 - 1) (omega arith)) in
     (λ n. none-most x)
-    then (λ n. below-most x 1)
+    then (λ n. below-most 2 1 x refl)
     then (λ n. whole)
     then (λ n. whole)
-    then (λ n. below-most x (2 ^ 32 - 1))
+    then (λ n. below-most (2 ^ 32) (2 ^ 32 - 1) x refl)
     then (λ n. whole)
     then (λ n. absurd (n refl))
-    then (λ n. below-most x (2 ^ 32 - 1))
+    then (λ n. below-most (2 ^ 32) (2 ^ 32 - 1) x refl)
     then (λ n. none-most x)
     then (λ n. none-most x)
     then (λ n. none-most x)
     then (λ n. none-most x)
     then none
-
--- a kind above that of members
-pub above : {kind : ℕ} → 7 ≤ kind → (kind ≡ 7 → ⊥) → 8 ≤ kind
-above {kind} l n = go (decLt 7 kind)
-  where
-    go : Dec (7 < kind) → 8 ≤ kind
-    go (yes h) = omega arith
-    go (no h) = absurd (n (omega arith))
-
-not-zero : (x : ℕ) → (x ≡ 0 → ⊥) → 0 < x
-not-zero zero n = absurd (n refl)
-not-zero (suc x) n = omega arith
 
 module _ (kind x place : ℕ) where
   tested : x < 2 ^ 64 → kind < 12 → (kind ≡ 6 → ⊥) → stepOf kind x place ≡ cond (leb x (mostOf kind)) (At place) Broken
@@ -162,7 +137,7 @@ module _ (kind x place : ℕ) where
           not 5 (omega arith),
           not 7 (omega arith),
         ) refl in
-        plain-broken l b (λ q. let z : ⊥ = omega arith in z) (let p = not-zero x n in omega arith)
+        plain-broken l b (λ q. let z : ⊥ = omega arith in z) (omega (arith, n))
 
     -- members and brackets use no high half
     pub high-broken : 7 ≤ kind → kind < 12 → 2 ^ 32 ≤ x → stepOf kind x place ≡ Broken
@@ -170,7 +145,7 @@ module _ (kind x place : ℕ) where
       where
         go : Dec (kind ≡ 7) → stepOf kind x place ≡ Broken
         go (yes e) = member-broken e h
-        go (no e) = mark-broken (above a e) b (λ q. let z : ⊥ = omega arith in z)
+        go (no e) = mark-broken (omega (arith, e)) b (λ q. let z : ⊥ = omega arith in z)
 
   -- a text
   text-step : kind ≡ 6 → stepOf kind x place ≡ textStep (x % 2 ^ 32) (x / 2 ^ 32) place
@@ -192,14 +167,6 @@ module _ (kind x place : ℕ) where
 
 -- ---- the first four bytes: the kind, and a number above every kind where one of the three is not zero
 
-head-is : (s : List ℕ) (at : ℕ) → wordAt 4 s at
-    ≡ getD s at 0 + 256 * getD s (at + 1) 0 + 65536 * getD s (at + 2) 0 + 16777216 * getD s (at + 3) 0
-unfolding wordAt
-head-is s at =
-    let two : at + 1 + 1 ≡ at + 2 = omega arith in
-    let three : at + 2 + 1 ≡ at + 3 = omega arith in
-    rw (two, three) (omega arith)
-
 module _ (s : List ℕ) (at place : ℕ) (inside : at + 12 ≤ length s) where
   no-zeros : threeZeros s at ≡ false → 12 ≤ wordAt 4 s at
       → stepAt s at place ≡ stepOf (wordAt 4 s at) (payloadAt s at) place
@@ -213,12 +180,12 @@ module _ (s : List ℕ) (at place : ℕ) (inside : at + 12 ≤ length s) where
     where
       go : Dec (getD s (at + 1) 0 ≡ 0) → Dec (getD s (at + 2) 0 ≡ 0) → Dec (getD s (at + 3) 0 ≡ 0)
           → stepAt s at place ≡ stepOf (wordAt 4 s at) (payloadAt s at) place
-      go (no a) d e = no-zeros (simp (ne-eqb _ 0 a)) (omega (arith, head-is s at))
-      go (yes a) (no b) e = no-zeros (simp (eq-eqb _ 0 a, ne-eqb _ 0 b)) (omega (arith, head-is s at))
+      go (no a) d e = no-zeros (simp (ne-eqb _ 0 a)) (omega (arith, word-four s at))
+      go (yes a) (no b) e = no-zeros (simp (eq-eqb _ 0 a, ne-eqb _ 0 b)) (omega (arith, word-four s at))
       go (yes a) (yes b) (no d) =
-          no-zeros (simp (eq-eqb _ 0 a, eq-eqb _ 0 b, ne-eqb _ 0 d)) (omega (arith, head-is s at))
+          no-zeros (simp (eq-eqb _ 0 a, eq-eqb _ 0 b, ne-eqb _ 0 d)) (omega (arith, word-four s at))
       go (yes a) (yes b) (yes d) =
-          let e : getD s at 0 ≡ wordAt 4 s at = omega (arith, head-is s at) in
+          let e : getD s at 0 ≡ wordAt 4 s at = omega (arith, word-four s at) in
           rw (le-leb (at + 12) (length s) inside, eq-eqb _ 0 a, eq-eqb _ 0 b, eq-eqb _ 0 d, e) refl
 
 -- a step by the words that the code loads
@@ -229,22 +196,22 @@ words-moved {place} {r} {head} {low} {high} s at inside e f g w =
     let far : at + 4 + 4 ≡ at + 8 = omega arith in
     let both : low + 2 ^ 32 * high ≡ payloadAt s at
     = ap₂ (λ (x y : ℕ). x + 2 ^ 32 * y) f (g ∙ ap (wordAt 4 s) (sym far)) ∙ sym (word-split 4 4 s (at + 4)) in
-    subst (λ (step : Step). Moved place step r)
+    subst (λ (step : TextStep). Moved place step r)
     (ap₂ (λ (k x : ℕ). stepOf k x place) e both ∙ sym (head-read s at place inside)) w
 
 -- ---- the loop: what is left
 
 -- the first k entries are passed: the form is right where the entries that are left are, from a place on
-pub record Left (s : List ℕ) (base n place k : ℕ) : Type 0 where
+pub record EntriesLeft (s : List ℕ) (base n place k : ℕ) : Type 0 where
   pub inside : k ≤ n
   pub small : place ≤ 4294967296 * k
   pub rest : formed s base 0 n 0 ≡ formed s base k (n - k) place
 
 -- before the first entry all are left
-pub left-start : {s : List ℕ} {base n : ℕ} → Left s base n 0 0
+pub left-start : {s : List ℕ} {base n : ℕ} → EntriesLeft s base n 0 0
 left-start {s} {base} {n} = record { inside = omega arith; small = omega arith; rest = rw sub-zero }
 
-module _ {s : List ℕ} {base n place k : ℕ} (w : Left s base n place k) where
+module _ {s : List ℕ} {base n place k : ℕ} (w : EntriesLeft s base n place k) where
   next : k < n → formed s base k (n - k) place
       ≡ onStep (stepAt s (4 + 12 * k) place) (λ p. formed s base (k + 1) (n - (k + 1)) p)
   unfolding formed
@@ -252,7 +219,7 @@ module _ {s : List ℕ} {base n place k : ℕ} (w : Left s base n place k) where
 
   -- an entry whose step goes on: one entry less is left
   pub left-on : {p : ℕ} → k < n → Moved place (stepAt s (4 + 12 * k) place) p → p < nowhere
-      → Left s base n p (k + 1)
+      → EntriesLeft s base n p (k + 1)
   left-on {p} l v f =
       record {
         inside = omega arith;
@@ -273,15 +240,15 @@ module _ {s : List ℕ} {base n place k : ℕ} (w : Left s base n place k) where
 -- ---- one entry of a stream that is well formed
 
 -- a step that is not broken: a text begins at the place and ends at the next one, any other entry leaves the place
-pub data Stepped (kind x place next : ℕ) : Type 0 where
-  over : kind ≡ 6 → x % 2 ^ 32 ≡ place → place + x / 2 ^ 32 ≡ next → Stepped kind x place next
-  still : (kind ≡ 6 → ⊥) → place ≡ next → Stepped kind x place next
+pub data EntryStepped (kind x place next : ℕ) : Type 0 where
+  over : kind ≡ 6 → x % 2 ^ 32 ≡ place → place + x / 2 ^ 32 ≡ next → EntryStepped kind x place next
+  still : (kind ≡ 6 → ⊥) → place ≡ next → EntryStepped kind x place next
 
 -- what a step to a place says
-stepped : (kind x place next : ℕ) → entryStep kind x place ≡ At next → Stepped kind x place next
+stepped : (kind x place next : ℕ) → entryStep kind x place ≡ At next → EntryStepped kind x place next
 stepped kind x place next h = go (ℕ-discrete kind 6) (ℕ-discrete (x % 2 ^ 32) place)
   where
-    go : Dec (kind ≡ 6) → Dec (x % 2 ^ 32 ≡ place) → Stepped kind x place next
+    go : Dec (kind ≡ 6) → Dec (x % 2 ^ 32 ≡ place) → EntryStepped kind x place next
     go (no n) d = still n (at-same place next (rw (ne-eqb kind 6 n) at h))
     go (yes e) (yes d) =
         over e d (at-same (place + x / 2 ^ 32) next (rw (eq-eqb kind 6 e, eq-eqb (x % 2 ^ 32) place d) at h))
@@ -290,26 +257,28 @@ stepped kind x place next h = go (ℕ-discrete kind 6) (ℕ-discrete (x % 2 ^ 32
         absurd (let z : _≡_ {A = ℕ} 0 1 = cc in let y : ⊥ = omega arith in y)
 
 -- a text's place only goes on
-step-grows : {kind x place next : ℕ} → Stepped kind x place next → place ≤ next
+step-grows : {kind x place next : ℕ} → EntryStepped kind x place next → place ≤ next
 step-grows (over e d n) = omega arith
 step-grows (still d n) = omega arith
 
 -- the entry is there, and the next text's place goes on
-pub data Goes (s : List ℕ) (at place : ℕ) (on : ℕ → Bool) : Type 0 where
-  goes : (next : ℕ) → isEntry s at ≡ true → Stepped (kindAt s at) (payloadAt s at) place next → on next ≡ true
-      → Goes s at place on
+pub data EntryGoes (s : List ℕ) (at place : ℕ) (on : ℕ → Bool) : Type 0 where
+  goes : (next : ℕ) → isEntry s at ≡ true → EntryStepped (kindAt s at) (payloadAt s at) place next → on next ≡ true
+      → EntryGoes s at place on
 
 -- an entry from which the form goes on
-pub goes-on : (s : List ℕ) (at place : ℕ) (on : ℕ → Bool) → onStep (stepAt s at place) on ≡ true → Goes s at place on
+pub goes-on : (s : List ℕ) (at place : ℕ) (on : ℕ → Bool) → onStep (stepAt s at place) on ≡ true
+    → EntryGoes s at place on
 goes-on s at place on h = go (isEntry s at) refl h
   where
-    step : isEntry s at ≡ true → (r : Step) → entryStep (kindAt s at) (payloadAt s at) place ≡ r → onStep r on ≡ true
-        → Goes s at place on
+    step : isEntry s at ≡ true → (r : TextStep) → entryStep (kindAt s at) (payloadAt s at) place ≡ r
+        → onStep r on ≡ true
+        → EntryGoes s at place on
     step e (At next) q g = goes next e (stepped (kindAt s at) (payloadAt s at) place next q) g
     step e Broken q g = clash g refl
 
     go : (b : Bool) → isEntry s at ≡ b
-        → onStep (cond b (entryStep (kindAt s at) (payloadAt s at) place) Broken) on ≡ true → Goes s at place on
+        → onStep (cond b (entryStep (kindAt s at) (payloadAt s at) place) Broken) on ≡ true → EntryGoes s at place on
     go true e g = step e (entryStep (kindAt s at) (payloadAt s at) place) refl g
     go false e g = clash g refl
 
@@ -321,7 +290,7 @@ form-end s base k (suc n) place h =
     go (λ next. form-end s base (k + 1) n next) (goes-on s (4 + 12 * k) place (λ p. formed s base (k + 1) n p) h)
   where
     go : ((next : ℕ) → formed s base (k + 1) n next ≡ true → base + next ≤ length s)
-        → Goes s (4 + 12 * k) place (λ p. formed s base (k + 1) n p) → base + place ≤ length s
+        → EntryGoes s (4 + 12 * k) place (λ p. formed s base (k + 1) n p) → base + place ≤ length s
     go ends (goes next is g rest) = omega (arith, ends next rest, step-grows g)
 
 -- ---- the whole

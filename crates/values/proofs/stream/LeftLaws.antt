@@ -16,8 +16,8 @@ use Rattle.values.specs.stream.Form.{baseIn, countIn, streamOk}
 use Rattle.values.specs.stream.Stream.{Token, kindOf, payloadOf, bodyOf}
 use Rattle.values.proofs.stream.DecodeLaws.{entry-there, token-plain, token-text, tokens-long, whole}
 use Rattle.values.proofs.stream.DecodeLaws as decode
-use Rattle.values.proofs.stream.EntryLaws.{Held, bool-right, entry-held, kind-right}
-use Rattle.values.proofs.stream.FormLaws.{Stepped, over, still}
+use Rattle.values.proofs.stream.EntryLaws.{EntryHeld, bool-right, entry-held, kind-right}
+use Rattle.values.proofs.stream.FormLaws.{EntryStepped, over, still}
 
 -- where an entry's payload stands
 abbrev pub payloadAt : List ℕ → ℕ → ℕ
@@ -30,7 +30,7 @@ pub record TextThere (s : List ℕ) (k : ℕ) (t : Token) : Type 0 where
   pub long : length (bodyOf t) ≡ payloadAt s k / 2 ^ 32
 
 -- entry k is there
-pub record There (s : List ℕ) (k : ℕ) : Type 0 where
+pub record EntryThere (s : List ℕ) (k : ℕ) : Type 0 where
   pub token : Token
   pub left : leftAt s k ≡ token ∷ leftAt s (k + 1)
   pub inside : k < countIn s
@@ -55,8 +55,8 @@ module _ (s : List ℕ) (k : ℕ) where
   same : payloadIn s at ≡ payloadAt s k
   same = let n : 4 + 12 * k + 4 ≡ 8 + 12 * k = omega arith in ap (wordAt 8 s) n
 
-  token-is : (place next : ℕ) → Stepped (kindAt s at) (payloadIn s at) place next → baseIn s + next ≤ length s
-      → Held s at → TokenIs s k (tokenAt s (baseIn s) at)
+  token-is : (place next : ℕ) → EntryStepped (kindAt s at) (payloadIn s at) place next → baseIn s + next ≤ length s
+      → EntryHeld s at → TokenIs s k (tokenAt s (baseIn s) at)
   token-is place next (still n q) w h =
       rw (token-plain s (baseIn s) at n) (record {
         kind = refl;
@@ -80,10 +80,10 @@ module _ (s : List ℕ) (k : ℕ) where
       })
 
 -- in a well-formed stream each entry whose number is below the count is there
-pub there : (s : List ℕ) (k : ℕ) → streamOk s ≡ true → k < countIn s → There s k
+pub there : (s : List ℕ) (k : ℕ) → streamOk s ≡ true → k < countIn s → EntryThere s k
 unfolding leftAt tokensFrom
 there s k h l =
-    let d : decode.There s (baseIn s) k =
+    let d : decode.EntryIn s (baseIn s) k =
     rw (← zero-add k) (entry-there s (baseIn s) 0 (countIn s) 0 k (whole s h .entries) l) in
     let t = token-is s k (d .place) (d .next) (d .step) (d .within) (entry-held s (4 + 12 * k) (d .is)) in
     let n : countIn s - k ≡ suc (countIn s - (k + 1)) = omega arith in
@@ -117,7 +117,7 @@ unfolding leftAt
 left-long s k = tokens-long s (baseIn s) k (countIn s - k)
 
 -- the first kind, and that an entry is there where it is one
-pub kind-there : {s : List ℕ} {k : ℕ} (t : There s k) → firstKind (leftAt s k) ≡ kindOf (t .token)
+pub kind-there : {s : List ℕ} {k : ℕ} (t : EntryThere s k) → firstKind (leftAt s k) ≡ kindOf (t .token)
 kind-there t = ap firstKind (t .left)
 
 -- from the count on the first kind is 12, which is none
@@ -125,9 +125,9 @@ pub kind-none : (s : List ℕ) (k : ℕ) → countIn s ≤ k → firstKind (left
 kind-none s k l = ap firstKind (none-left s k l)
 
 -- a kind that is not 12 is an entry's
-pub by-kind : (s : List ℕ) (k : ℕ) → streamOk s ≡ true → (firstKind (leftAt s k) ≡ 12 → ⊥) → There s k
+pub by-kind : (s : List ℕ) (k : ℕ) → streamOk s ≡ true → (firstKind (leftAt s k) ≡ 12 → ⊥) → EntryThere s k
 by-kind s k h e = go (native.Mathlib.Decide.decLt k (countIn s))
   where
-    go : Dec (k < countIn s) → There s k
+    go : Dec (k < countIn s) → EntryThere s k
     go (yes l) = there s k h l
     go (no l) = absurd (e (kind-none s k (omega arith)))

@@ -9,27 +9,27 @@ use lib.ListN.{length, length-append}
 use lib.Seq.{sets, length-sets}
 use Rattle.words.proofs.Lists.{sets-append}
 use Rattle.values.specs.inside.reading.Walk.{wrap}
-use Rattle.values.specs.inside.stream.Laying.{Put, Wrote, laidIn}
+use Rattle.values.specs.inside.stream.Laying.{EntriesPut, TokensLaid, laidIn}
 use Rattle.values.specs.stream.Stream.{Token, mark, kindOf, payloadOf, entryBytes, heads, bodies}
 use Rattle.values.proofs.stream.HeadLaws.{heads-append, heads-one, length-heads, Textless}
 
 -- the buffer keeps its length
-pub put-length : {out new : List ℕ} {at r : ℕ} {ts : List Token} → Put out at ts new r → length new ≡ length out
+pub put-length : {out new : List ℕ} {at r : ℕ} {ts : List Token} → EntriesPut out at ts new r → length new ≡ length out
 put-length {out} {at = at} {ts = ts} w = ap length (w .bytes) ∙ length-sets out at (heads 0 ts)
 
 -- nothing
-pub put-none : (out : List ℕ) (at : ℕ) → Put out at [] out at
+pub put-none : (out : List ℕ) (at : ℕ) → EntriesPut out at [] out at
 put-none out at = record { next = omega arith; bytes = unfold heads in refl }
 
 -- one entry, from its kind and its payload as they were given
 pub put-one : {out new : List ℕ} {at kind payload : ℕ} (t : Token) → kindOf t ≡ kind → payloadOf 0 t ≡ payload
-    → new ≡ sets out at (entryBytes kind payload) → Put out at (t ∷ []) new (at + 12)
+    → new ≡ sets out at (entryBytes kind payload) → EntriesPut out at (t ∷ []) new (at + 12)
 put-one {out} {at = at} t a b w =
     record { next = omega arith; bytes = w ∙ ap (sets out at) (sym (heads-one 0 t ∙ ap₂ entryBytes a b)) }
 
 -- a run, and a run where it ends
-pub put-then : {out mid new : List ℕ} {at p r : ℕ} {ts us : List Token} → bodies ts ≡ [] → Put out at ts mid p
-    → Put mid p us new r → Put out at (ts ++ us) new r
+pub put-then : {out mid new : List ℕ} {at p r : ℕ} {ts us : List Token} → bodies ts ≡ [] → EntriesPut out at ts mid p
+    → EntriesPut mid p us new r → EntriesPut out at (ts ++ us) new r
 put-then {out} {mid} {new} {at} {p} {r} {ts} {us} h v w =
     let n = length-append ts us in
     let a = v .next in
@@ -44,19 +44,20 @@ put-then {out} {mid} {new} {at} {p} {r} {ts} {us} h v w =
 
 -- a run, and one entry more
 pub put-next : {out mid new : List ℕ} {at p kind payload : ℕ} {ts : List Token} (t : Token) → bodies ts ≡ []
-    → Put out at ts mid p → kindOf t ≡ kind → payloadOf 0 t ≡ payload
-    → new ≡ sets mid p (entryBytes kind payload) → Put out at (ts ++ t ∷ []) new (p + 12)
+    → EntriesPut out at ts mid p → kindOf t ≡ kind → payloadOf 0 t ≡ payload
+    → new ≡ sets mid p (entryBytes kind payload) → EntriesPut out at (ts ++ t ∷ []) new (p + 12)
 put-next t h v a b w = put-then h v (put-one t a b w)
 
 -- one entry, and a run after it
 pub put-first : {out mid new : List ℕ} {at kind payload r : ℕ} {us : List Token} (t : Token) → bodies (t ∷ []) ≡ []
     → kindOf t ≡ kind → payloadOf 0 t ≡ payload → mid ≡ sets out at (entryBytes kind payload)
-    → Put mid (at + 12) us new r → Put out at (t ∷ us) new r
+    → EntriesPut mid (at + 12) us new r → EntriesPut out at (t ∷ us) new r
 put-first t h a b w v = put-then h (put-one t a b w) v
 
 -- entries without a text, seen as entries and texts
-pub put-wrote : {out new : List ℕ} {at r : ℕ} {ts : List Token} (base text : ℕ) → Textless ts → Put out at ts new r
-    → Wrote out base at text ts new (record { at = r; text = text })
+pub put-wrote : {out new : List ℕ} {at r : ℕ} {ts : List Token} (base text : ℕ) → Textless ts
+    → EntriesPut out at ts new r
+    → TokensLaid out base at text ts new (record { at = r; text = text })
 put-wrote {out} {new} {at} {r} {ts} base text h w =
     record {
       entries = w .next;
@@ -65,12 +66,14 @@ put-wrote {out} {new} {at} {r} {ts} base text h w =
     }
 
 -- the same entries
-pub put-as : {out new : List ℕ} {at r : ℕ} {ts us : List Token} → ts ≡ us → Put out at ts new r → Put out at us new r
-put-as {out} {new} {at} {r} e w = subst (λ (ts : List Token). Put out at ts new r) e w
+pub put-as : {out new : List ℕ} {at r : ℕ} {ts us : List Token} → ts ≡ us → EntriesPut out at ts new r
+    → EntriesPut out at us new r
+put-as {out} {new} {at} {r} e w = subst (λ (ts : List Token). EntriesPut out at ts new r) e w
 
 -- brackets around entries
 pub put-wrap : (start stop : ℕ) {out first new last : List ℕ} {at p : ℕ} {ts : List Token} → bodies ts ≡ []
-    → first ≡ sets out at (entryBytes start 0) → Put first (at + 12) ts new p → last ≡ sets new p (entryBytes stop 0)
-    → Put out at (wrap start stop ts) last (p + 12)
+    → first ≡ sets out at (entryBytes start 0) → EntriesPut first (at + 12) ts new p
+    → last ≡ sets new p (entryBytes stop 0)
+    → EntriesPut out at (wrap start stop ts) last (p + 12)
 put-wrap start stop b d v e =
     put-first (mark start) (unfold bodies in refl) refl refl d (put-next (mark stop) b v refl refl e)

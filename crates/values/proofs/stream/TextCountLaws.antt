@@ -2,7 +2,6 @@
 -- more within the room, and the sum that a loop has so far. Entries of atomics have no text.
 use Prim.Native.Nat.{ℕ, zero, suc, _+_, _-_, _^_, _<_, _≤_}
 use native.Mathlib.Nat.{add-zero}
-use native.Mathlib.Numerals.{add-one}
 use native.Mathlib.Omega.{arith}
 use mathlib.Core.Path.{_≡_, refl, sym, ap, _∙_, subst}
 use mathlib.Core.Bool.{true, false}
@@ -20,7 +19,7 @@ use Rattle.values.specs.reading.Trees.{isString}
 use Rattle.values.specs.stream.Stream.{Token, member, bodies}
 use Rattle.values.proofs.reading.LeafLaws.{textless-leaf}
 use Rattle.values.proofs.reading.MemberLaws.{member-leaf}
-use Rattle.values.proofs.reading.UpLaws.{wrap-bodies}
+use Rattle.values.proofs.reading.UpLaws.{wrap-bodies, up-more}
 use Rattle.values.proofs.reading.WalkLaws.{struct-out}
 use Rattle.values.proofs.stream.HeadLaws.{bodies-append}
 
@@ -100,17 +99,13 @@ pub sum-start : {room n : ℕ} {g : ℕ → List Token} → Summed room g n 0 0
 unfolding upTo
 sum-start {room} = record { texts = texts-none room; most = omega arith }
 
-up-more : (g : ℕ → List Token) (k : ℕ) → upTo g k ++ g k ≡ upTo g (k + 1)
-unfolding upTo
-up-more g k = rw add-one
-
 module _ {room n k t : ℕ} {g : ℕ → List Token} (w : Summed room g n k t) (l : k < n) where
   -- the next part is summed, within the room that is left
   pub sum-on : {r : ℕ} → t ≤ room → Texts (room - t) (g k) r → Summed room g n (k + 1) (t + r)
-  sum-on h v = record { texts = texts-as (up-more g k) (texts-then h (w .texts) v); most = omega arith }
+  sum-on h v = record { texts = texts-as (sym (up-more g k)) (texts-then h (w .texts) v); most = omega arith }
 
   sum-plain : bodies (g k) ≡ [] → Summed room g n (k + 1) t
-  sum-plain e = record { texts = texts-as (up-more g k) (texts-plain (g k) e (w .texts)); most = omega arith }
+  sum-plain e = record { texts = texts-as (sym (up-more g k)) (texts-plain (g k) e (w .texts)); most = omega arith }
 
 past-up : {room t : ℕ} (g : ℕ → List Token) (k d : ℕ) → room < t → Texts room (upTo g k) t
     → Texts room (upTo g (k + d)) t
@@ -136,15 +131,16 @@ module _ {room n k t : ℕ} {g : ℕ → List Token} (start stop : ℕ) (w : Sum
 -- ---- a structure
 
 -- the first j rows of structure i are summed
-pub record Rows (types members : List ℕ) (i room : ℕ) (image : List ℕ) (j t : ℕ) : Type 0 where
+pub record RowsOfTexts (types members : List ℕ) (i room : ℕ) (image : List ℕ) (j t : ℕ) : Type 0 where
   pub sum : Summed room (rowBy types members (structOut types members) (typeAt types i .first) image)
       (typeAt types i .count) j t
 
 -- before the first row the sum is 0
-pub rows-start : {types members : List ℕ} {i room : ℕ} {image : List ℕ} → Rows types members i room image 0 0
+pub rows-start : {types members : List ℕ} {i room : ℕ} {image : List ℕ} → RowsOfTexts types members i room image 0 0
 rows-start = record { sum = sum-start }
 
-module _ {types members : List ℕ} {i room j t : ℕ} {image : List ℕ} (w : Rows types members i room image j t) where
+module _ {types members : List ℕ} {i room j t : ℕ} {image : List ℕ}
+    (w : RowsOfTexts types members i room image j t) where
   -- the room is passed before the last row
   pub rows-past : room < t → Texts room (membersBy types members (structOut types members) i image) t
   unfolding membersBy
@@ -162,14 +158,15 @@ module _ {types members : List ℕ} {i room j t : ℕ} {image : List ℕ} (w : R
       pub rows-on : {r : ℕ} → t ≤ room
           → Texts (room - t)
           (memberBy types members (structOut types members) j (memberAt members (first + j)) image) r
-          → Rows types members i room image (j + 1) (t + r)
+          → RowsOfTexts types members i room image (j + 1) (t + r)
       rows-on h v =
           let rec = structOut types members in
           let same = ap (λ (z : ℕ). memberBy types members rec j (memberAt members (z + j)) image) e in
           record { sum = sum-on (w .sum) (omega arith) h (texts-as same v) }
 
       -- a row that is no structure adds no text
-      pub rows-plain : isNested (memberAt members (first + j)) ≡ false → Rows types members i room image (j + 1) t
+      pub rows-plain : isNested (memberAt members (first + j)) ≡ false
+          → RowsOfTexts types members i room image (j + 1) t
       rows-plain h =
           let m = memberAt members (typeAt types i .first + j) in
           let leaf = member-leaf types members (structOut types members) j m image (rw e at h) in

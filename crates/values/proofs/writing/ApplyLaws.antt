@@ -13,10 +13,10 @@ use Rattle.values.specs.stream.Form.{countIn, streamOk}
 use Rattle.values.specs.stream.Stream.{Token, kindOf}
 use Rattle.values.specs.writing.Effects.{Effect}
 use Rattle.values.specs.writing.Writing.{Outcome, ok, bad, andThen, writeOne, opened, elements, membersIn}
-use Rattle.values.proofs.stream.LeftLaws.{There, kind-there, none-left, there}
+use Rattle.values.proofs.stream.LeftLaws.{EntryThere, kind-there, none-left, there}
 use Rattle.values.proofs.writing.OutcomeLaws.{one-none, opened-none, opened-null, opened-inner, opened-other}
-use Rattle.values.proofs.writing.OutcomeLaws.{elements-none, elements-close, elements-full, elements-next}
-use Rattle.values.proofs.writing.OutcomeLaws.{members-none, members-close, members-next, members-other}
+use Rattle.values.proofs.writing.OutcomeLaws.{elements-none, elements-close, elements-full, members-none}
+use Rattle.values.proofs.writing.OutcomeLaws.{members-close, members-other}
 
 -- ---- what is accepted
 
@@ -106,36 +106,36 @@ setting-then next e h a =
 -- ---- an accepted step has its entry
 
 module _ {s : List ℕ} {k : ℕ} (form : streamOk s ≡ true) where
-  there-unless : {o : Outcome} → ((leftAt s k ≡ []) → o ≡ bad 18 []) → accepted o ≡ true → There s k
+  there-unless : {o : Outcome} → ((leftAt s k ≡ []) → o ≡ bad 18 []) → accepted o ≡ true → EntryThere s k
   there-unless none h = go (decLt k (countIn s))
     where
-      go : Dec (k < countIn s) → There s k
+      go : Dec (k < countIn s) → EntryThere s k
       go (yes l) = there s k form l
       go (no l) = not-accepted (none (none-left s k (omega arith))) h
 
   -- an accepted write of one entry has its entry
   pub one-there : (takes : Token → Effect) (w p : ℕ) (z : Bits) → accepted (writeOne takes w p (leftAt s k) z) ≡ true
-      → There s k
+      → EntryThere s k
   one-there takes w p z h = there-unless (λ e. one-none takes w p z e) h
 
   -- an accepted null or opening has its entry
   pub opened-there : (start : ℕ) (inner : List Token → Bits → Outcome) (z : Bits)
-      → accepted (opened start inner (leftAt s k) z) ≡ true → There s k
+      → accepted (opened start inner (leftAt s k) z) ≡ true → EntryThere s k
   opened-there start inner z h = there-unless (λ e. opened-none start inner z e) h
 
   -- accepted elements have their next entry
   pub elements-there : (n : ℕ) (one : ℕ → List Token → Bits → Outcome) (w p : ℕ) (z : Bits)
-      → accepted (elements n one w p (leftAt s k) z) ≡ true → There s k
+      → accepted (elements n one w p (leftAt s k) z) ≡ true → EntryThere s k
   elements-there n one w p z h = there-unless (λ e. elements-none one w n p z e) h
 
   -- accepted members have their next entry
   pub members-there : (most : ℕ) (one : Token → List Token → Bits → Outcome) (z : Bits)
-      → accepted (membersIn most one (leftAt s k) z) ≡ true → There s k
+      → accepted (membersIn most one (leftAt s k) z) ≡ true → EntryThere s k
   members-there most one z h = there-unless (λ e. members-none one most z e) h
 
   -- ---- a null, or an opening
 
-  module _ (start : ℕ) (inner : List Token → Bits → Outcome) (t : There s k) where
+  module _ (start : ℕ) (inner : List Token → Bits → Outcome) (t : EntryThere s k) where
     -- null keeps what stands
     pub opened-kept : {image : List ℕ} → firstKind (leftAt s k) ≡ 0
         → Applied s k (k + 1) image image (opened start inner (leftAt s k))
@@ -162,7 +162,7 @@ module _ {s : List ℕ} {k : ℕ} (form : streamOk s ≡ true) where
 
   -- ---- elements
 
-  module _ (one : ℕ → List Token → Bits → Outcome) (w : ℕ) (t : There s k) where
+  module _ (one : ℕ → List Token → Bits → Outcome) (w : ℕ) (t : EntryThere s k) where
     -- at the array's close the elements end, and the image stands
     pub elements-closed : (n p : ℕ) {image : List ℕ} → firstKind (leftAt s k) ≡ 11
         → Applied s k (k + 1) image image (elements n one w p (leftAt s k))
@@ -179,15 +179,9 @@ module _ {s : List ℕ} {k : ℕ} (form : streamOk s ≡ true) where
         go (yes e) = kind-there t ∙ e
         go (no e) = not-accepted (elements-full one w p (t .token) (leftAt s (k + 1)) (flat image) (t .left) e) h
 
-    -- an entry that is no close is an element's, and the other elements come after it
-    pub elements-step : (n p : ℕ) (z : Bits) → (firstKind (leftAt s k) ≡ 11 → ⊥)
-        → elements (suc n) one w p (leftAt s k) z ≡ andThen (one p (leftAt s k) z) (elements n one w (p + w))
-    elements-step n p z e =
-        elements-next one w n p (t .token) (leftAt s (k + 1)) z (t .left) (λ q. e (kind-there t ∙ q))
-
   -- ---- members
 
-  module _ (one : Token → List Token → Bits → Outcome) (t : There s k) where
+  module _ (one : Token → List Token → Bits → Outcome) (t : EntryThere s k) where
     -- at the structure's close the members end, and the image stands
     pub members-closed : (most : ℕ) {image : List ℕ} → firstKind (leftAt s k) ≡ 9
         → Applied s k (k + 1) image image (membersIn (suc most) one (leftAt s k))
@@ -205,9 +199,3 @@ module _ {s : List ℕ} {k : ℕ} (form : streamOk s ≡ true) where
         go (no e) =
             not-accepted
             (members-other one most (t .token) (leftAt s (k + 1)) z (t .left) (λ q. n (kind-there t ∙ q)) e) h
-
-    -- an entry of kind 7 has the member that it names written, and then the other members
-    pub members-step : (most : ℕ) (z : Bits) → kindOf (t .token) ≡ 7
-        → membersIn (suc most) one (leftAt s k) z
-        ≡ andThen (one (t .token) (leftAt s (k + 1)) z) (membersIn most one)
-    members-step most z e = members-next one most (t .token) (leftAt s (k + 1)) z (t .left) e

@@ -1,7 +1,7 @@
 -- Which entries an atomic takes (document 01, "Writing"): the code's limits say what `Effects` says, by one law over
 -- the width; and what is taken sets the payload's bits. The same for a text.
 use Prim.Native.Nat.{ℕ, _+_, _-_, _*_, _^_, _<_, _≤_}
-use native.Mathlib.Decide.{decLe, decLt, ℕ-discrete}
+use native.Mathlib.Decide.{decLt, ℕ-discrete}
 use native.Mathlib.Omega.{arith}
 use mathlib.Core.Path.{_≡_, refl, sym, ap, _∙_}
 use mathlib.Core.Bool.{Bool, true, false, cond, true≢false}
@@ -9,17 +9,19 @@ use mathlib.Core.List.{List}
 use lib.Dec.{eqb, leb, ltb}
 use lib.ListN.{length}
 use lib.Pow.{pow-pos, pow-mono}
-use borrow.Author.Tests.{eq-eqb, ne-eqb, le-leb, lt-leb, lt-ltb, le-ltb}
+use borrow.Author.Tests.{eq-eqb, ne-eqb, le-leb, lt-leb}
 use Rattle.words.specs.Bits.{Bits, bitOf}
 use Rattle.words.specs.Words.{Bytes}
 use Rattle.words.proofs.WordLaws.{word-below}
+use Rattle.words.proofs.ArithLaws.{low-test, below-most}
+use Rattle.words.proofs.TestLaws.{picked}
 use Rattle.types.specs.atomics.Atomic.{bitString, sizeOf}
 use Rattle.types.specs.declared.atomics.atomic.Atomic.{Atomic}
 use Rattle.types.specs.declared.atomics.atomic.Atomic.the-variants as atomic
 use Rattle.values.specs.inside.writing.Effects.{Judged, kept, set, refused, atomicTakes}
 use Rattle.values.specs.inside.writing.Limits.{aboveMisfit, signedMisfit, wholeMisfit, limitsOf, misfit, oneKind}
 use Rattle.values.specs.inside.writing.Limits.{wholes}
-use Rattle.values.specs.inside.writing.Passes.{Checked, accepted, firstKind, leftAt}
+use Rattle.values.specs.inside.writing.Passes.{CheckedFrom, accepted, firstKind, leftAt}
 use Rattle.values.specs.reading.Leaf.{flag}
 use Rattle.values.specs.stream.Form.{countIn, streamOk}
 use Rattle.values.specs.stream.Stream.{Token, kindOf, payloadOf, bodyOf}
@@ -27,7 +29,7 @@ use Rattle.values.specs.writing.Effects.{Effect, keep, put, refuse, payl
 use Rattle.values.specs.writing.Effects.{inRange, whole, taken, orNull, asText}
 use Rattle.values.specs.writing.Writing.{onEffect, writeOne}
 use Rattle.values.specs.declared.writing.limits.Limits.{Limits}
-use Rattle.values.proofs.stream.LeftLaws.{There, kind-there, payloadAt, there}
+use Rattle.values.proofs.stream.LeftLaws.{EntryThere, kind-there, payloadAt, there}
 use Rattle.values.proofs.writing.StepLaws.{one-missing, one-refused}
 
 -- ---- null
@@ -58,21 +60,6 @@ kind-judged kind t x a n =
 
 -- ---- whole numbers in a range
 
--- one that is too low, and one that is not too high
-low-test : (low under x : ℕ) → x < 2 ^ 64 → under + low + 1 ≡ 2 ^ 64 → leb (2 ^ 64 - x) low ≡ ltb under x
-low-test low under x l e = go (decLt under x)
-  where
-    go : Dec (under < x) → leb (2 ^ 64 - x) low ≡ ltb under x
-    go (yes h) = le-leb (2 ^ 64 - x) low (omega arith) ∙ sym (lt-ltb under x h)
-    go (no h) = lt-leb (2 ^ 64 - x) low (omega arith) ∙ sym (le-ltb under x (omega arith))
-
-high-test : (high most x : ℕ) → most + 1 ≡ high → ltb x high ≡ leb x most
-high-test high most x e = go (decLe x most)
-  where
-    go : Dec (x ≤ most) → ltb x high ≡ leb x most
-    go (yes h) = lt-ltb x high (omega arith) ∙ sym (le-leb x most h)
-    go (no h) = le-ltb x high (omega arith) ∙ sym (lt-leb x most (omega arith))
-
 -- the numbers below zero, and the others
 two-tests : (b : Bits) (below low high : Bool) → Judged (cond (cond below low high) (put b) (refuse 19))
     (cond below (cond low 0 19) (cond high 0 19))
@@ -85,7 +72,7 @@ module _ (low high under most : ℕ) (t : Token) (x : ℕ) (l : x < 2 ^ 64) (e :
   unfolding whole inRange wholeMisfit signedMisfit aboveMisfit
   signed-judged k =
       let same = p (λ h. let z : ⊥ = omega arith in z) in
-      rw (eq-eqb (kindOf t) 2 k, same, low-test low under x l e, high-test high most x f)
+      rw (eq-eqb (kindOf t) 2 k, same, low-test low under x l e, below-most high most x f)
       (two-tests (bitOf x) (leb (2 ^ 63) x) (ltb under x) (leb x most))
 
   unsigned-judged : (kindOf t ≡ 2 → ⊥) → kindOf t ≡ 3
@@ -93,7 +80,7 @@ module _ (low high under most : ℕ) (t : Token) (x : ℕ) (l : x < 2 ^ 64) (e :
   unfolding whole inRange wholeMisfit signedMisfit aboveMisfit
   unsigned-judged n k =
       let same = p (λ h. let z : ⊥ = omega arith in z) in
-      rw (ne-eqb (kindOf t) 2 n, eq-eqb (kindOf t) 3 k, same, high-test high most x f)
+      rw (ne-eqb (kindOf t) 2 n, eq-eqb (kindOf t) 3 k, same, below-most high most x f)
       (judged-by (bitOf x) 19 (omega arith) (leb x most))
 
   other-judged : (kindOf t ≡ 2 → ⊥) → (kindOf t ≡ 3 → ⊥)
@@ -114,38 +101,38 @@ module _ (low high under most : ℕ) (t : Token) (x : ℕ) (l : x < 2 ^ 64) (e :
 -- ---- the atomics
 
 -- an atomic takes one kind, or the whole numbers of a range
-data Shape (takes : Token → Effect) (f : Limits) : Type 0 where
+data TakesBy (takes : Token → Effect) (f : Limits) : Type 0 where
   one : (kind : ℕ) → (kind ≡ 2 → ⊥) → kind < 6 → ((t : Token) → takes t ≡ ofKind kind t) → f ≡ oneKind kind
-      → Shape takes f
+      → TakesBy takes f
   range : (low high under most : ℕ) → under + low + 1 ≡ 2 ^ 64 → most + 1 ≡ high
-      → ((t : Token) → takes t ≡ whole low high t) → f ≡ wholes under most → Shape takes f
+      → ((t : Token) → takes t ≡ whole low high t) → f ≡ wholes under most → TakesBy takes f
 
 -- THE LAWS over the width: signed, unsigned, a bit string
 signed-shape : (n : ℕ) → n ≤ 64
-    → Shape (whole (2 ^ (n - 1)) (2 ^ (n - 1))) (wholes (2 ^ 64 - 2 ^ (n - 1) - 1) (2 ^ (n - 1) - 1))
+    → TakesBy (whole (2 ^ (n - 1)) (2 ^ (n - 1))) (wholes (2 ^ 64 - 2 ^ (n - 1) - 1) (2 ^ (n - 1) - 1))
 signed-shape n l =
     let pos = pow-pos (n - 1) in
     let low = pow-mono {i = n - 1} {j = 63} (omega arith) in
     range (2 ^ (n - 1)) (2 ^ (n - 1)) (2 ^ 64 - 2 ^ (n - 1) - 1) (2 ^ (n - 1) - 1) (omega arith) (omega arith)
     (λ t. refl) refl
 
-unsigned-shape : (n : ℕ) → Shape (whole 0 (2 ^ n)) (wholes (2 ^ 64 - 1) (2 ^ n - 1))
+unsigned-shape : (n : ℕ) → TakesBy (whole 0 (2 ^ n)) (wholes (2 ^ 64 - 1) (2 ^ n - 1))
 unsigned-shape n =
     let pos = pow-pos n in
     range 0 (2 ^ n) (2 ^ 64 - 1) (2 ^ n - 1) (omega arith) (omega arith) (λ t. refl) refl
 
 bits-shape : (n : ℕ) → n ≤ 64
-    → Shape (whole (2 ^ (n - 1)) (2 ^ n)) (wholes (2 ^ 64 - 2 ^ (n - 1) - 1) (2 ^ n - 1))
+    → TakesBy (whole (2 ^ (n - 1)) (2 ^ n)) (wholes (2 ^ 64 - 2 ^ (n - 1) - 1) (2 ^ n - 1))
 bits-shape n l =
     let pos = pow-pos (n - 1) in
     let most = pow-pos n in
     let low = pow-mono {i = n - 1} {j = 63} (omega arith) in
     range (2 ^ (n - 1)) (2 ^ n) (2 ^ 64 - 2 ^ (n - 1) - 1) (2 ^ n - 1) (omega arith) (omega arith) (λ t. refl) refl
 
-one-shape : (kind : ℕ) → (kind ≡ 2 → ⊥) → kind < 6 → Shape (ofKind kind) (oneKind kind)
+one-shape : (kind : ℕ) → (kind ≡ 2 → ⊥) → kind < 6 → TakesBy (ofKind kind) (oneKind kind)
 one-shape kind n l = one kind n l (λ t. refl) refl
 
-shape : (a : Atomic) → Shape (atomicTakes a) (limitsOf a)
+shape : (a : Atomic) → TakesBy (atomicTakes a) (limitsOf a)
 unfolding atomicTakes bitString sizeOf
 shape atomic.Bool = one-shape 1 (λ h. omega arith) (omega arith)
 shape atomic.SInt = signed-shape 8 (omega arith)
@@ -173,7 +160,7 @@ above-misfits a kind x l = go (shape a)
     not : (j : ℕ) → j < 6 → eqb kind j ≡ false
     not j h = ne-eqb kind j (λ q. let z : ⊥ = omega (arith, l, h, q) in z)
 
-    go : {takes : Token → Effect} {f : Limits} → Shape takes f → misfit f kind x ≡ 18
+    go : {takes : Token → Effect} {f : Limits} → TakesBy takes f → misfit f kind x ≡ 18
     go (one k n h e g) = rw (g, not 0 (omega arith), ne-eqb k 2 n, not k h) refl
     go (range low high under most a b e g) = rw (g, not 0 (omega arith), not 2 (omega arith), not 3 (omega arith)) refl
 
@@ -185,13 +172,13 @@ above-refused a t l = go (shape a)
     not : (j : ℕ) → j < 6 → eqb (kindOf t) j ≡ false
     not j h = ne-eqb (kindOf t) j (λ q. let z : ⊥ = omega (arith, l, h, q) in z)
 
-    go : {takes : Token → Effect} {f : Limits} → Shape takes f → takes t ≡ refuse 18
+    go : {takes : Token → Effect} {f : Limits} → TakesBy takes f → takes t ≡ refuse 18
     go (one k n h e g) = e t ∙ rw (not k h) refl
     go (range low high under most a b e g) = e t ∙ rw (not 2 (omega arith), not 3 (omega arith)) refl
 
 -- ---- what is taken
 
-shape-judged : {takes : Token → Effect} {f : Limits} → Shape takes f → (t : Token) (x : ℕ) → x < 2 ^ 64
+shape-judged : {takes : Token → Effect} {f : Limits} → TakesBy takes f → (t : Token) (x : ℕ) → x < 2 ^ 64
     → ((kindOf t ≡ 6 → ⊥) → payloadOf 0 t ≡ x) → (kindOf t ≡ 0 → ⊥) → Judged (takes t) (misfit f (kindOf t) x)
 shape-judged (one kind n k e g) t x l p z = rw (e t, g) (kind-judged kind t x n z)
 shape-judged (range low high under most a b e g) t x l p z =
@@ -211,30 +198,25 @@ atomic-judged a t x l e = go (ℕ-discrete (kindOf t) 0)
     go (no n) = rw (not-null (atomicTakes a) t n) (shape-judged (shape a) t x l e n)
 
 -- the same of entry k, by what the code reads of it
-pub atomic-here : {s : List ℕ} {k : ℕ} → Bytes s → (a : Atomic) (t : There s k) {f : Limits} {kind x number : ℕ}
+pub atomic-here : {s : List ℕ} {k : ℕ} → Bytes s → (a : Atomic) (t : EntryThere s k) {f : Limits} {kind x number : ℕ}
     → f ≡ limitsOf a → kind ≡ firstKind (leftAt s k) → x ≡ payloadAt s k → number ≡ misfit f kind x
     → Judged (orNull (atomicTakes a) (t .token)) number
 atomic-here {s} {k} bytes a t e g h i =
     rw (i, e, g, kind-there t, h)
     (atomic-judged a (t .token) (payloadAt s k) (word-below 8 s (8 + 12 * k) bytes) (t .payload))
 
--- the refusals' numbers are small
-small-if : (b : Bool) {x y : ℕ} → x < 20 → y < 20 → cond b x y < 20
-small-if true l h = l
-small-if false l h = h
-
 -- the number that the limits say is below 20
 pub misfit-small : (f : Limits) (kind x : ℕ) {number : ℕ} → number ≡ misfit f kind x → number < 20
 unfolding misfit wholeMisfit signedMisfit aboveMisfit
 misfit-small f kind x e =
-    let above = small-if (leb x (f .most)) {x = 0} {y = 19} (omega arith) (omega arith) in
-    let below = small-if (ltb (f .under) x) {x = 0} {y = 19} (omega arith) (omega arith) in
+    let above = picked (_< 20) (leb x (f .most)) 0 19 (omega arith) (omega arith) in
+    let below = picked (_< 20) (ltb (f .under) x) 0 19 (omega arith) (omega arith) in
     rw e
-    (small-if (eqb kind 0) (omega arith)
-    (small-if (eqb (f .kind) 2)
-    (small-if (eqb kind 2) (small-if (leb 0x8000000000000000 x) below above)
-    (small-if (eqb kind 3) above (omega arith)))
-    (small-if (eqb kind (f .kind)) (omega arith) (omega arith))))
+    (picked (_< 20) (eqb kind 0) _ _ (omega arith)
+    (picked (_< 20) (eqb (f .kind) 2) _ _
+    (picked (_< 20) (eqb kind 2) _ _ (picked (_< 20) (leb 0x8000000000000000 x) _ _ below above)
+    (picked (_< 20) (eqb kind 3) _ _ above (omega arith)))
+    (picked (_< 20) (eqb kind (f .kind)) _ _ (omega arith) (omega arith))))
 
 -- what is set is the payload's bits
 data Sets (b : Bits) (e : Effect) : Type 0 where
@@ -249,7 +231,7 @@ whole-sets : (b : Bits) (number fits : Bool) → Sets b (cond number (cond fits 
 whole-sets b true fits = sets-by b 19 fits
 whole-sets b false fits = refuses 18 refl
 
-shape-sets : {takes : Token → Effect} {f : Limits} → Shape takes f → (t : Token) → Sets (payloadBits t) (takes t)
+shape-sets : {takes : Token → Effect} {f : Limits} → TakesBy takes f → (t : Token) → Sets (payloadBits t) (takes t)
 unfolding ofKind whole
 shape-sets (one kind n k e g) t = rw (e t) (sets-by (payloadBits t) 18 (eqb (kindOf t) kind))
 shape-sets (range low high under most a b e g) t =
@@ -302,10 +284,10 @@ module _ (capacity : ℕ) (t : Token) where
 -- no text and no null stands at entry k
 pub no-text : {s : List ℕ} {k r : ℕ} (capacity w p : ℕ) → streamOk s ≡ true → k ≤ countIn s
     → (firstKind (leftAt s k) ≡ 0 → ⊥) → (firstKind (leftAt s k) ≡ 6 → ⊥) → r ≡ 2 ^ 32 * 18 + k
-    → Checked s k r (writeOne (orNull (asText capacity)) w p (leftAt s k))
+    → CheckedFrom s k r (writeOne (orNull (asText capacity)) w p (leftAt s k))
 no-text {s} {k} {r} capacity w p form l a b e = go (decLt k (countIn s))
   where
-    go : Dec (k < countIn s) → Checked s k r (writeOne (orNull (asText capacity)) w p (leftAt s k))
+    go : Dec (k < countIn s) → CheckedFrom s k r (writeOne (orNull (asText capacity)) w p (leftAt s k))
     go (yes h) =
         let t = there s k form h in
         let kind = kind-there t in

@@ -64,8 +64,8 @@ abbrev Keeps : ℕ → Bits → Outcome → Type 0
 Keeps k z (ok ts new) = new k ≡ z k
 Keeps k z (bad number ts) = Unit {0}
 
-abbrev Steady : ℕ → (List Token → Bits → Outcome) → Type 0
-Steady k f = (ts : List Token) (z : Bits) → Keeps k z (f ts z)
+abbrev KeepsBit : ℕ → (List Token → Bits → Outcome) → Type 0
+KeepsBit k f = (ts : List Token) (z : Bits) → Keeps k z (f ts z)
 
 keeps-from : (k : ℕ) (z y : Bits) (o : Outcome) → y k ≡ z k → Keeps k y o → Keeps k z o
 keeps-from k z y (ok ts new) e h = h ∙ e
@@ -75,7 +75,7 @@ keeps-cond : (k : ℕ) (z : Bits) (b : Bool) (o q : Outcome) → Keeps k z o →
 keeps-cond k z true o q h g = h
 keeps-cond k z false o q h g = g
 
-keeps-then : (k : ℕ) (z : Bits) (o : Outcome) (next : List Token → Bits → Outcome) → Keeps k z o → Steady k next
+keeps-then : (k : ℕ) (z : Bits) (o : Outcome) (next : List Token → Bits → Outcome) → Keeps k z o → KeepsBit k next
     → Keeps k z (andThen o next)
 keeps-then k z (ok ts y) next h steady = keeps-from k z y (next ts y) h (steady ts y)
 keeps-then k z (bad number ts) next h steady = tt
@@ -86,13 +86,13 @@ keeps-effect keep w p t ts z k h = refl
 keeps-effect (put b) w p t ts z k h = stamp-beside p w b z k h
 keeps-effect (refuse number) w p t ts z k h = tt
 
-one-steady : (takes : Token → Effect) (w p k : ℕ) → inside p w k ≡ false → Steady k (writeOne takes w p)
+one-steady : (takes : Token → Effect) (w p k : ℕ) → inside p w k ≡ false → KeepsBit k (writeOne takes w p)
 unfolding writeOne
 one-steady takes w p k h [] z = tt
 one-steady takes w p k h (t ∷ ts) z = keeps-effect (takes t) w p t ts z k h
 
-opened-steady : (start : ℕ) (inner : List Token → Bits → Outcome) (k : ℕ) → Steady k inner
-    → Steady k (opened start inner)
+opened-steady : (start : ℕ) (inner : List Token → Bits → Outcome) (k : ℕ) → KeepsBit k inner
+    → KeepsBit k (opened start inner)
 unfolding opened
 opened-steady start inner k steady [] z = tt
 opened-steady start inner k steady (t ∷ ts) z =
@@ -101,9 +101,9 @@ opened-steady start inner k steady (t ∷ ts) z =
 
 -- elements, where a fact of so many from a bit on tells of the first, and of those after it
 module _ (Beside : ℕ → ℕ → Type 0) (one : ℕ → List Token → Bits → Outcome) (w k : ℕ)
-    (first : (n p : ℕ) → Beside (suc n) p → Steady k (one p))
+    (first : (n p : ℕ) → Beside (suc n) p → KeepsBit k (one p))
     (after : (n p : ℕ) → Beside (suc n) p → Beside n (p + w)) where
-  elements-steady : (n p : ℕ) → Beside n p → Steady k (elements n one w p)
+  elements-steady : (n p : ℕ) → Beside n p → KeepsBit k (elements n one w p)
   unfolding elements
   elements-steady zero p h [] z = tt
   elements-steady zero p h (t ∷ ts) z = keeps-cond k z (eqb (kindOf t) 11) (ok ts z) (bad 20 (t ∷ ts)) refl tt
@@ -113,8 +113,8 @@ module _ (Beside : ℕ → ℕ → Type 0) (one : ℕ → List Token → Bits �
       (keeps-then k z (one p (t ∷ ts) z) (elements n one w (p + w)) (first n p h (t ∷ ts) z)
       (λ us y. elements-steady n (p + w) (after n p h) us y))
 
-members-steady : (most : ℕ) (one : Token → List Token → Bits → Outcome) (k : ℕ) → ((t : Token) → Steady k (one t))
-    → Steady k (membersIn most one)
+members-steady : (most : ℕ) (one : Token → List Token → Bits → Outcome) (k : ℕ) → ((t : Token) → KeepsBit k (one t))
+    → KeepsBit k (membersIn most one)
 unfolding membersIn
 members-steady zero one k steady ts z = tt
 members-steady (suc most) one k steady [] z = tt
@@ -129,7 +129,7 @@ members-steady (suc most) one k steady (t ∷ ts) z =
 
 -- n numbers of w bits
 run-steady : (takes : Token → Effect) (w n p k : ℕ) → inside p (w * n) k ≡ false
-    → Steady k (elements n (writeOne takes w) w p)
+    → KeepsBit k (elements n (writeOne takes w) w p)
 run-steady takes w n p k h =
     elements-steady (λ m q. inside q (w * m) k ≡ false) (writeOne takes w) w k
     (λ m q e. one-steady takes w q k (first-part q w (w * m) k (rw (next m) at e)))
@@ -138,12 +138,12 @@ run-steady takes w n p k h =
     next : (m : ℕ) → w * suc m ≡ w + w * m
     next m = omega (arith, mul-suc w m)
 
-bools-steady : (n p k : ℕ) → inside p n k ≡ false → Steady k (boolsIn n p)
+bools-steady : (n p k : ℕ) → inside p n k ≡ false → KeepsBit k (boolsIn n p)
 bools-steady n p k h ts z =
     let e : n ≡ 1 * n = omega arith in
     run-steady (taken flag) 1 n p k (ap (λ (m : ℕ). inside p m k) (sym e) ∙ h) ts z
 
-bits-steady : (w n p k : ℕ) → inside p (allBits w n) k ≡ false → Steady k (writeBits w n p)
+bits-steady : (w n p k : ℕ) → inside p (allBits w n) k ≡ false → KeepsBit k (writeBits w n p)
 unfolding writeBits allBits
 bits-steady w zero p k h ts z =
     keeps-cond k z (firstIs 10 ts) (boolsIn w p (rest ts) (stamp p w noBits z))
@@ -160,8 +160,8 @@ bits-steady w (suc n) p k h ts z =
 -- ---- a tree
 
 array-steady : (n : ℕ) (one : ℕ → List Token → Bits → Outcome) (f : ℕ → List Item) (w p k : ℕ)
-    → ((q : ℕ) → held (f q) k ≡ false → Steady k (one q)) → held (each n f w p) k ≡ false
-    → Steady k (elements n one w p)
+    → ((q : ℕ) → held (f q) k ≡ false → KeepsBit k (one q)) → held (each n f w p) k ≡ false
+    → KeepsBit k (elements n one w p)
 unfolding each
 array-steady n one f w p k steady h =
     elements-steady (λ m q. held (each m f w q) k ≡ false) one w k
@@ -171,7 +171,7 @@ array-steady n one f w p k steady h =
 mutual
   unfolding write items held
 
-  write-steady : (t : Tree) (p k : ℕ) → held (items t p) k ≡ false → Steady k (write t p)
+  write-steady : (t : Tree) (p k : ℕ) → held (items t p) k ≡ false → KeepsBit k (write t p)
   write-steady (leaf l) p k h ts z = one-steady (orNull (taken l)) (width l) p k (held-leaf p l [] k h) ts z
   write-steady (bits w n) p k h ts z =
       bits-steady w n p k
@@ -186,7 +186,7 @@ mutual
       (λ t vs x. branch-steady bs p k (held-between 8 9 (branchItems bs p) k h) t vs x) us y) ts z
 
   branch-steady : (bs : Branches) (p k : ℕ) → held (branchItems bs p) k ≡ false → (t : Token)
-      → Steady k (writeBranch bs p t)
+      → KeepsBit k (writeBranch bs p t)
   branch-steady none p k h t ts z = tt
   branch-steady (branch j o tree bs) p k h t ts z =
       keeps-cond k z (eqb (payloadOf 0 t) j) (write tree (p + o) ts z) (writeBranch bs p t ts z)

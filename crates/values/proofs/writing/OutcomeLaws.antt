@@ -5,11 +5,13 @@ use native.Mathlib.Omega.{arith}
 use mathlib.Core.Path.{_≡_, refl}
 use mathlib.Core.List.{List, [], _∷_}
 use borrow.Author.Tests.{eq-eqb, ne-eqb}
+use lib.ListN.{length}
 use Rattle.words.specs.Bits.{Bits}
+use Rattle.values.specs.reading.Tree.{Tree, array, struct, Branches, span}
 use Rattle.values.specs.stream.Stream.{Token, kindOf}
 use Rattle.values.specs.writing.Effects.{Effect}
 use Rattle.values.specs.writing.Writing.{Outcome, ok, bad, andThen, onEffect, writeOne, opened, elements}
-use Rattle.values.specs.writing.Writing.{membersIn}
+use Rattle.values.specs.writing.Writing.{membersIn, write, writeBranch}
 
 -- some entries that begin with one of a kind, and some that do not
 pub one-is : (takes : Token → Effect) (w p : ℕ) {us : List Token} (t : Token) (ts : List Token) (z : Bits)
@@ -105,3 +107,25 @@ module _ (one : Token → List Token → Bits → Outcome) {us : List Token} whe
       → (kindOf t ≡ 7 → ⊥) → membersIn (suc most) one us z ≡ bad 18 us
   unfolding membersIn
   members-other most t ts z e n k = rw (e, ne-eqb (kindOf t) 9 n, ne-eqb (kindOf t) 7 k) refl
+
+-- ---- a structure and an array open
+
+-- what is inside a structure, after its opening
+abbrev pub inStruct : Branches → ℕ → List Token → Bits → Outcome
+inStruct bs p ts z = membersIn (suc (length ts)) (writeBranch bs p) ts z
+
+-- what is inside an array, after its opening
+abbrev pub inArray : ℕ → Tree → ℕ → List Token → Bits → Outcome
+inArray n tree p ts z = elements n (write tree) (span tree) p ts z
+
+-- a structure is written as a null, or as an opening and the members inside
+pub struct-opens : (size : ℕ) (bs : Branches) (p : ℕ) (ts : List Token) (z : Bits)
+    → write (struct size bs) p ts z ≡ opened 8 (inStruct bs p) ts z
+unfolding write
+struct-opens size bs p ts z = refl
+
+-- an array is written as a null, or as an opening and the elements inside
+pub array-opens : (n : ℕ) (tree : Tree) (p : ℕ) (ts : List Token) (z : Bits)
+    → write (array n tree) p ts z ≡ opened 10 (inArray n tree p) ts z
+unfolding write
+array-opens n tree p ts z = refl

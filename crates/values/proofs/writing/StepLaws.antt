@@ -8,12 +8,12 @@ use mathlib.Core.Bool.{true}
 use mathlib.Core.List.{List}
 use Rattle.words.specs.Bits.{Bits, stamp}
 use Rattle.values.specs.inside.writing.Effects.{Judged, kept, set, refused}
-use Rattle.values.specs.inside.writing.Passes.{Goes, Checked, firstKind, leftAt}
+use Rattle.values.specs.inside.writing.Passes.{CheckGoes, CheckedFrom, firstKind, leftAt}
 use Rattle.values.specs.stream.Form.{countIn, streamOk}
 use Rattle.values.specs.stream.Stream.{Token}
 use Rattle.values.specs.writing.Effects.{Effect}
 use Rattle.values.specs.writing.Writing.{Outcome, ok, bad, andThen, writeOne, opened, elements, membersIn}
-use Rattle.values.proofs.stream.LeftLaws.{There, by-kind, few-entries, kind-there, none-left, there}
+use Rattle.values.proofs.stream.LeftLaws.{EntryThere, by-kind, few-entries, kind-there, none-left, there}
 use Rattle.values.proofs.writing.OutcomeLaws.{one-is, one-none, opened-none, opened-null, opened-inner}
 use Rattle.values.proofs.writing.OutcomeLaws.{opened-other, elements-none, elements-close, elements-full}
 use Rattle.values.proofs.writing.OutcomeLaws.{elements-next, members-none, members-close, members-next}
@@ -23,7 +23,7 @@ use Rattle.values.proofs.writing.OutcomeLaws.{members-other}
 
 -- on to entry r
 goes-on : {s : List ℕ} {k : ℕ} (r : ℕ) {f : Bits → Outcome} → streamOk s ≡ true → k < r → r ≤ countIn s
-    → ((z : Bits) → (new : Bits) × (f z ≡ ok (leftAt s r) new)) → Checked s k r f
+    → ((z : Bits) → (new : Bits) × (f z ≡ ok (leftAt s r) new)) → CheckedFrom s k r f
 goes-on {s} {k} r {f} h a b g =
     record {
       goes = λ l. record { further = a; inside = b; gives = g };
@@ -32,7 +32,7 @@ goes-on {s} {k} r {f} h a b g =
 
 -- a refusal at entry q
 pub refuses-at : {s : List ℕ} {k r : ℕ} {f : Bits → Outcome} (number q : ℕ) → streamOk s ≡ true → q ≤ countIn s
-    → 1 ≤ number → r ≡ 2 ^ 32 * number + q → ((z : Bits) → f z ≡ bad number (leftAt s q)) → Checked s k r f
+    → 1 ≤ number → r ≡ 2 ^ 32 * number + q → ((z : Bits) → f z ≡ bad number (leftAt s q)) → CheckedFrom s k r f
 refuses-at {s} {k} {r} {f} number q h a b e g =
     let few = few-entries s h in
     let high : r / 2 ^ 32 ≡ number = omega arith in
@@ -46,8 +46,8 @@ refuses-at {s} {k} {r} {f} number q h a b e g =
     }
 
 -- another function that gives the same
-pub checked-as : {s : List ℕ} {k r : ℕ} {f g : Bits → Outcome} → ((z : Bits) → f z ≡ g z) → Checked s k r g
-    → Checked s k r f
+pub checked-as : {s : List ℕ} {k r : ℕ} {f g : Bits → Outcome} → ((z : Bits) → f z ≡ g z) → CheckedFrom s k r g
+    → CheckedFrom s k r f
 checked-as e c =
     record {
       goes = λ l. record {
@@ -67,7 +67,7 @@ checked-as e c =
 pub record Onward (s : List ℕ) (k : ℕ) (f : Bits → Outcome) (p : ℕ) (g : Bits → Outcome) : Type 0 where
   pub further : k ≤ p
   pub inside : p ≤ countIn s
-  pub onward : (r : ℕ) → Checked s p r g → Checked s k r f
+  pub onward : (r : ℕ) → CheckedFrom s p r g → CheckedFrom s k r f
 
 -- at the first entry all is left to be checked
 pub onward-start : {s : List ℕ} {k : ℕ} {f : Bits → Outcome} → k ≤ countIn s → Onward s k f k f
@@ -105,14 +105,14 @@ onward-on a b =
 
 -- one step that was taken, and what comes after it
 pub onward-then : {s : List ℕ} {p r : ℕ} {g one : Bits → Outcome} (next : List Token → Bits → Outcome)
-    → ((z : Bits) → g z ≡ andThen (one z) next) → Goes s p r one → Onward s p g r (next (leftAt s r))
+    → ((z : Bits) → g z ≡ andThen (one z) next) → CheckGoes s p r one → Onward s p g r (next (leftAt s r))
 onward-then {s} {p} {r} {g} {one} next e w =
     onward-from (let l = w .further in omega arith) (w .inside)
     (λ z. (w .gives z .0, e z ∙ ap (λ o. andThen o next) (w .gives z .1)))
 
 -- and one that was refused
 pub refused-then : {s : List ℕ} {p r : ℕ} {g one : Bits → Outcome} (next : List Token → Bits → Outcome)
-    → ((z : Bits) → g z ≡ andThen (one z) next) → 2 ^ 32 ≤ r → Checked s p r one → Checked s p r g
+    → ((z : Bits) → g z ≡ andThen (one z) next) → 2 ^ 32 ≤ r → CheckedFrom s p r one → CheckedFrom s p r g
 refused-then next e l c =
     record {
       goes = λ a. absurd (let z : ⊥ = omega arith in z);
@@ -127,14 +127,14 @@ refused-then next e l c =
 module _ {s : List ℕ} {k : ℕ} (form : streamOk s ≡ true) where
   -- no entry is left: the check answers 18 at the entry count
   pub one-missing : {r : ℕ} (takes : Token → Effect) (w p : ℕ) → k ≡ countIn s → r ≡ 2 ^ 32 * 18 + k
-      → Checked s k r (writeOne takes w p (leftAt s k))
+      → CheckedFrom s k r (writeOne takes w p (leftAt s k))
   one-missing {r} takes w p e a =
       let none = none-left s k (omega arith) in
       refuses-at 18 k form (omega arith) (omega arith) a (λ z. one-none takes w p z none ∙ ap (bad 18) (sym none))
 
   -- an entry that is judged with 0: the check goes on to the next one
-  pub one-judged : {number : ℕ} (takes : Token → Effect) (w p : ℕ) (t : There s k)
-      → Judged (takes (t .token)) number → number ≡ 0 → Checked s k (k + 1) (writeOne takes w p (leftAt s k))
+  pub one-judged : {number : ℕ} (takes : Token → Effect) (w p : ℕ) (t : EntryThere s k)
+      → Judged (takes (t .token)) number → number ≡ 0 → CheckedFrom s k (k + 1) (writeOne takes w p (leftAt s k))
   one-judged takes w p t (kept n e) o =
       goes-on (k + 1) form (omega arith) (let l = t .inside in omega arith)
       (λ z. (z, one-is takes w p (t .token) (leftAt s (k + 1)) z (t .left) ∙ rw e refl))
@@ -144,9 +144,9 @@ module _ {s : List ℕ} {k : ℕ} (form : streamOk s ≡ true) where
   one-judged takes w p t (refused n e) o = absurd (let z : ⊥ = omega arith in z)
 
   -- an entry that is judged with a refusal: the check answers its number at this entry
-  pub one-refused : {r number : ℕ} (takes : Token → Effect) (w p : ℕ) (t : There s k)
+  pub one-refused : {r number : ℕ} (takes : Token → Effect) (w p : ℕ) (t : EntryThere s k)
       → Judged (takes (t .token)) number → (number ≡ 0 → ⊥) → r ≡ 2 ^ 32 * number + k
-      → Checked s k r (writeOne takes w p (leftAt s k))
+      → CheckedFrom s k r (writeOne takes w p (leftAt s k))
   one-refused takes w p t (kept n e) o a = absurd (o n)
   one-refused takes w p t (set n b e) o a = absurd (o n)
   one-refused {r} {number} takes w p t (refused n e) o a =
@@ -157,7 +157,7 @@ module _ {s : List ℕ} {k : ℕ} (form : streamOk s ≡ true) where
 
   -- a null: the check goes on to the next entry
   pub opened-keeps : (start : ℕ) (inner : List Token → Bits → Outcome) → firstKind (leftAt s k) ≡ 0
-      → Checked s k (k + 1) (opened start inner (leftAt s k))
+      → CheckedFrom s k (k + 1) (opened start inner (leftAt s k))
   opened-keeps start inner e =
       let t = by-kind s k form (λ h. let z : ⊥ = omega arith in z) in
       let kind = kind-there t in
@@ -167,7 +167,7 @@ module _ {s : List ℕ} {k : ℕ} (form : streamOk s ≡ true) where
   -- the opening: what the check answers of the inside is its answer
   pub opened-goes : {r : ℕ} (start : ℕ) (inner : List Token → Bits → Outcome) → 1 ≤ start → start < 12
       → firstKind (leftAt s k) ≡ start
-      → Checked s (k + 1) r (inner (leftAt s (k + 1))) → Checked s k r (opened start inner (leftAt s k))
+      → CheckedFrom s (k + 1) r (inner (leftAt s (k + 1))) → CheckedFrom s k r (opened start inner (leftAt s k))
   opened-goes {r} start inner a b e c =
       let t = by-kind s k form (λ h. let z : ⊥ = omega arith in z) in
       let kind = kind-there t in
@@ -184,10 +184,10 @@ module _ {s : List ℕ} {k : ℕ} (form : streamOk s ≡ true) where
   -- neither null nor the opening, or no entry left: the check answers 18 here
   pub opened-refuses : {r : ℕ} (start : ℕ) (inner : List Token → Bits → Outcome) → k ≤ countIn s
       → (firstKind (leftAt s k) ≡ 0 → ⊥) → (firstKind (leftAt s k) ≡ start → ⊥) → r ≡ 2 ^ 32 * 18 + k
-      → Checked s k r (opened start inner (leftAt s k))
+      → CheckedFrom s k r (opened start inner (leftAt s k))
   opened-refuses {r} start inner l a b e = go (decLt k (countIn s))
     where
-      go : Dec (k < countIn s) → Checked s k r (opened start inner (leftAt s k))
+      go : Dec (k < countIn s) → CheckedFrom s k r (opened start inner (leftAt s k))
       go (yes h) =
           let t = there s k form h in
           let kind = kind-there t in
@@ -203,7 +203,7 @@ module _ {s : List ℕ} {k : ℕ} (form : streamOk s ≡ true) where
   module _ (one : ℕ → List Token → Bits → Outcome) (w : ℕ) where
     -- elements, and no entry is left: the check answers 18 at the entry count
     pub elements-missing : {r : ℕ} (n p : ℕ) → k ≡ countIn s → r ≡ 2 ^ 32 * 18 + k
-        → Checked s k r (elements n one w p (leftAt s k))
+        → CheckedFrom s k r (elements n one w p (leftAt s k))
     elements-missing n p e a =
         let none = none-left s k (omega arith) in
         refuses-at 18 k form (omega arith) (omega arith) a
@@ -211,7 +211,7 @@ module _ {s : List ℕ} {k : ℕ} (form : streamOk s ≡ true) where
 
     -- the array's close: the check goes on to the next entry
     pub elements-closes : (n p : ℕ) → firstKind (leftAt s k) ≡ 11
-        → Checked s k (k + 1) (elements n one w p (leftAt s k))
+        → CheckedFrom s k (k + 1) (elements n one w p (leftAt s k))
     elements-closes n p e =
         let t = by-kind s k form (λ h. let z : ⊥ = omega arith in z) in
         let kind = kind-there t in
@@ -219,15 +219,15 @@ module _ {s : List ℕ} {k : ℕ} (form : streamOk s ≡ true) where
         (λ z. (z, elements-close one w n p (t .token) (leftAt s (k + 1)) z (t .left) (sym kind ∙ e)))
 
     -- past the last place an entry that is no close: the check answers 20 here
-    pub elements-refuse : {r : ℕ} (p : ℕ) (t : There s k) → (firstKind (leftAt s k) ≡ 11 → ⊥) → r ≡ 2 ^ 32 * 20 + k
-        → Checked s k r (elements 0 one w p (leftAt s k))
+    pub elements-refuse : {r : ℕ} (p : ℕ) (t : EntryThere s k) → (firstKind (leftAt s k) ≡ 11 → ⊥) → r ≡ 2 ^ 32 * 20 + k
+        → CheckedFrom s k r (elements 0 one w p (leftAt s k))
     elements-refuse p t a e =
         let kind = kind-there t in
         refuses-at 20 k form (let l = t .inside in omega arith) (omega arith) e
         (λ z. elements-full one w p (t .token) (leftAt s (k + 1)) z (t .left) (λ q. a (kind ∙ q)))
 
     -- an entry that is no close is an element's, and the other elements come after it
-    pub elements-go : (n p : ℕ) (t : There s k) → (firstKind (leftAt s k) ≡ 11 → ⊥) → (z : Bits)
+    pub elements-go : (n p : ℕ) (t : EntryThere s k) → (firstKind (leftAt s k) ≡ 11 → ⊥) → (z : Bits)
         → elements (suc n) one w p (leftAt s k) z ≡ andThen (one p (leftAt s k) z) (elements n one w (p + w))
     elements-go n p t a z =
         let kind = kind-there t in
@@ -238,7 +238,7 @@ module _ {s : List ℕ} {k : ℕ} (form : streamOk s ≡ true) where
   module _ (one : Token → List Token → Bits → Outcome) where
     -- members, and no entry is left: the check answers 18 at the entry count
     pub members-missing : {r : ℕ} (most : ℕ) → k ≡ countIn s → r ≡ 2 ^ 32 * 18 + k
-        → Checked s k r (membersIn most one (leftAt s k))
+        → CheckedFrom s k r (membersIn most one (leftAt s k))
     members-missing most e a =
         let none = none-left s k (omega arith) in
         refuses-at 18 k form (omega arith) (omega arith) a
@@ -246,7 +246,7 @@ module _ {s : List ℕ} {k : ℕ} (form : streamOk s ≡ true) where
 
     -- the structure's close: the check goes on to the next entry
     pub members-closes : (most : ℕ) → firstKind (leftAt s k) ≡ 9
-        → Checked s k (k + 1) (membersIn (suc most) one (leftAt s k))
+        → CheckedFrom s k (k + 1) (membersIn (suc most) one (leftAt s k))
     members-closes most e =
         let t = by-kind s k form (λ h. let z : ⊥ = omega arith in z) in
         let kind = kind-there t in
@@ -254,16 +254,16 @@ module _ {s : List ℕ} {k : ℕ} (form : streamOk s ≡ true) where
         (λ z. (z, members-close one most (t .token) (leftAt s (k + 1)) z (t .left) (sym kind ∙ e)))
 
     -- neither the close nor a member number: the check answers 18 here
-    pub members-refuse : {r : ℕ} (most : ℕ) (t : There s k) → (firstKind (leftAt s k) ≡ 9 → ⊥)
+    pub members-refuse : {r : ℕ} (most : ℕ) (t : EntryThere s k) → (firstKind (leftAt s k) ≡ 9 → ⊥)
         → (firstKind (leftAt s k) ≡ 7 → ⊥) → r ≡ 2 ^ 32 * 18 + k
-        → Checked s k r (membersIn (suc most) one (leftAt s k))
+        → CheckedFrom s k r (membersIn (suc most) one (leftAt s k))
     members-refuse most t a b e =
         let kind = kind-there t in
         refuses-at 18 k form (let l = t .inside in omega arith) (omega arith) e
         (λ z. members-other one most (t .token) (leftAt s (k + 1)) z (t .left) (λ q. a (kind ∙ q)) (λ q. b (kind ∙ q)))
 
     -- an entry of kind 7 has the member that it names written, and then the other members
-    pub members-go : (most : ℕ) (t : There s k) → firstKind (leftAt s k) ≡ 7 → (z : Bits)
+    pub members-go : (most : ℕ) (t : EntryThere s k) → firstKind (leftAt s k) ≡ 7 → (z : Bits)
         → membersIn (suc most) one (leftAt s k) z
         ≡ andThen (one (t .token) (leftAt s (k + 1)) z) (membersIn most one)
     members-go most t a z =

@@ -17,7 +17,7 @@ use Rattle.types.specs.declared.refusals.refusal.Refusal.{Refusal}
 use Rattle.types.specs.declared.refusals.refusal.Refusal.the-variants.{ImageLength, NoSuchType, StreamMalformed}
 use Rattle.types.specs.declared.refusals.refusal.Refusal.the-variants.{EntryMisfit}
 use Rattle.types.specs.declared.tables.member.Ty.{Ty}
-use Rattle.values.specs.inside.writing.Passes.{Applied, Checked, accepted, leftAt}
+use Rattle.values.specs.inside.writing.Passes.{Applied, CheckedFrom, accepted, leftAt}
 use Rattle.values.specs.inside.writing.Written.{Entered}
 use Rattle.values.specs.reading.Leaf.{chars}
 use Rattle.values.specs.reading.Read.{imageFits}
@@ -78,18 +78,18 @@ module _ (types members : List ℕ) (t : Ty) (n : ℕ) (s image : List ℕ) (for
       }
 
   -- a refused entry
-  pub refused-entered : {r : ℕ} (x : Refusal) → Checked s 0 r entries → 2 ^ 32 ≤ r → numberOf x ≡ r / 2 ^ 32
+  pub refused-entered : {r : ℕ} (x : Refusal) → CheckedFrom s 0 r entries → 2 ^ 32 ≤ r → numberOf x ≡ r / 2 ^ 32
       → placeOf x ≡ r % 2 ^ 32 → Entered types members t n s image (Refused x) image
   refused-entered {r} x c l e f =
       let w = c .refuses l in
       at-bad x f (w .inside) (rw e (ap ended (w .gives (flat image))))
 
   -- whose number is 18 to 21
-  pub refused-number : {r : ℕ} → Checked s 0 r entries → 2 ^ 32 ≤ r → (18 ≤ r / 2 ^ 32) × (r / 2 ^ 32 ≤ 21)
+  pub refused-number : {r : ℕ} → CheckedFrom s 0 r entries → 2 ^ 32 ≤ r → (18 ≤ r / 2 ^ 32) × (r / 2 ^ 32 ≤ 21)
   refused-number {r} c l = bad-number tree 0 (leftAt s 0) (flat image) (c .refuses l .gives (flat image))
 
   -- an entry that is left over
-  pub left-over : {r place : ℕ} → Checked s 0 r entries → r < 2 ^ 32 → r < countIn s → place ≡ r % 2 ^ 32
+  pub left-over : {r place : ℕ} → CheckedFrom s 0 r entries → r < 2 ^ 32 → r < countIn s → place ≡ r % 2 ^ 32
       → Entered types members t n s image (Refused (EntryMisfit place)) image
   left-over {r} {place} c l m e =
       let w = c .goes l in
@@ -100,7 +100,7 @@ module _ (types members : List ℕ) (t : Ty) (n : ℕ) (s image : List ℕ) (for
       ∙ ap (bad 18) (sym (first .left)) in
       at-bad (EntryMisfit place) low (omega arith) over
 
-  module _ {r : ℕ} (c : Checked s 0 r entries) (l : r < 2 ^ 32) (all : countIn s ≤ r) where
+  module _ {r : ℕ} (c : CheckedFrom s 0 r entries) (l : r < 2 ^ 32) (all : countIn s ≤ r) where
     -- where the check went past the last entry, the entries are accepted over this image
     pub all-accepted : accepted (entries (flat image)) ≡ true
     all-accepted = ap accepted (c .goes l .gives (flat image) .1)

@@ -14,32 +14,32 @@ use Rattle.types.specs.declared.tables.member.Ty.the-variants.{Atomic, Struct}
 use Rattle.values.specs.cases.Tables.{chanDef, knownOf, string82Def}
 use Rattle.values.specs.reading.Leaf.{flag, int, str, signed, chars}
 use Rattle.values.specs.reading.Tree.{Tree, leaf, struct, none, branch, span, allBits, each, items, read}
-use Rattle.values.specs.reading.Trees.{Known, atomicsTree, structsTree, branchesFrom, structTree, treeWithin}
-use Rattle.values.specs.reading.Trees.{treeOf, treeOfValue}
+use Rattle.values.specs.reading.Trees.{KnownStruct, atomicsTree, structsTree, branchesFrom, structTree}
+use Rattle.values.specs.reading.Trees.{treeWithin, treeOf, treeOfValue}
 use Rattle.values.specs.stream.Stream.{Token, bool, number, text, member, mark, entryBytes, heads, bodies}
 use Rattle.values.specs.stream.Stream.{streamBytes}
 
 -- ---- what is asked of a value
 
 -- what the tables of UDT Chan, and of a string of capacity 82, say
-abbrev pub chan : ℕ → Known
+abbrev pub chan : ℕ → KnownStruct
 chan = knownOf chanDef
 
-abbrev pub string82 : ℕ → Known
+abbrev pub string82 : ℕ → KnownStruct
 string82 = knownOf string82Def
 
 -- a value's tree
-unfoldable pub tree : (ℕ → Known) → Ty → ℕ → Tree
+unfoldable pub tree : (ℕ → KnownStruct) → Ty → ℕ → Tree
 unfolding treeOfValue treeOf treeWithin structTree structsTree branchesFrom atomicsTree bitString sizeOf
 tree known t n = treeOfValue known t n
 
 -- the entries of an image of a value
-unfoldable pub entries : (ℕ → Known) → Ty → ℕ → List ℕ → List Token
+unfoldable pub entries : (ℕ → KnownStruct) → Ty → ℕ → List ℕ → List Token
 unfolding tree items read each span allBits signed chars val flat bitOf
 entries known t n image = read (items (tree known t n) 0) (flat image)
 
 -- and its stream
-unfoldable pub stream : (ℕ → Known) → Ty → ℕ → List ℕ → List ℕ
+unfoldable pub stream : (ℕ → KnownStruct) → Ty → ℕ → List ℕ → List ℕ
 unfolding entries streamBytes heads bodies entryBytes bytesOf
 stream known t n image = streamBytes (entries known t n image)
 
@@ -104,7 +104,7 @@ string-bytes = refl
 -- ---- bit strings
 
 -- whatever its bits are
-pub dword-entries : (known : ℕ → Known) (image : List ℕ) → length (entries known (Atomic DWord) 0 image) ≡ 34
+pub dword-entries : (known : ℕ → KnownStruct) (image : List ℕ) → length (entries known (Atomic DWord) 0 image) ≡ 34
 unfolding entries
 dword-entries known image = refl
 

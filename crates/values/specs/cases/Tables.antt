@@ -14,7 +14,7 @@ use Rattle.types.specs.tables.Registry.{memberRows, typeRows}
 use Rattle.types.specs.declared.atomics.atomic.Atomic.the-variants.{Int}
 use Rattle.types.specs.declared.layout.placing.Decl.{Decl}
 use Rattle.types.specs.declared.tables.member.StructKind.the-variants.{Udt, Str}
-use Rattle.values.specs.reading.Trees.{Known, knownIn, membersAt}
+use Rattle.values.specs.reading.Trees.{KnownStruct, knownIn, membersAt}
 
 -- Good BOOL, Live BOOL, Level INT
 abbrev chanDecls : List Decl
@@ -61,6 +61,6 @@ unfolding memberRows rowsOf memberRow hostName
 membersOf d = memberRows 0 (d ∷ [])
 
 -- what values ask of the type, read from its rows
-unfoldable pub knownOf : Def → ℕ → Known
+unfoldable pub knownOf : Def → ℕ → KnownStruct
 unfolding knownIn membersAt memberAt typeAt tyOf bitOf kindOf atomicAt typesOf membersOf chanDef string82Def
 knownOf d i = knownIn (typesOf d) (membersOf d) i

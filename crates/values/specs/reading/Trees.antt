@@ -20,7 +20,7 @@ use Rattle.values.specs.reading.Leaf.{flag, str, leafOf}
 use Rattle.values.specs.reading.Tree.{Tree, leaf, bits, array, struct, Branches, none, branch}
 
 -- what values ask of a structure; its members are all, the hidden ones among them
-pub record Known : Type 0 where
+pub record KnownStruct : Type 0 where
   pub kind : StructKind
   pub size : ℕ
   pub members : List Member
@@ -31,7 +31,7 @@ membersAt members row zero = []
 membersAt members row (suc n) = memberAt members row ∷ membersAt members (row + 1) n
 
 -- what the tables say of structure i
-unfoldable pub knownIn : List ℕ → List ℕ → ℕ → Known
+unfoldable pub knownIn : List ℕ → List ℕ → ℕ → KnownStruct
 knownIn types members i =
     record {
       kind = typeAt types i .kind;
@@ -83,20 +83,20 @@ module _ (rec : ℕ → Tree) where
       seen (m .hidden) j (firstBit m) (bitTree (m .bit) (valueTree (m .ty) (m .count))) (branchesFrom (suc j) ms)
 
   -- a string is a leaf
-  unfoldable pub structTree : Known → Tree
+  unfoldable pub structTree : KnownStruct → Tree
   structTree s =
       cond (isString (s .kind)) (leaf (str (secondCount (s .members))))
       (struct (8 * s .size) (branchesFrom 0 (s .members)))
 
 -- nested at most so deep
-unfoldable pub treeWithin : (ℕ → Known) → ℕ → ℕ → Tree
+unfoldable pub treeWithin : (ℕ → KnownStruct) → ℕ → ℕ → Tree
 treeWithin known zero i = leaf flag
 treeWithin known (suc f) i = structTree (treeWithin known f) (known i)
 
 -- structure i: there are at most 200
-unfoldable pub treeOf : (ℕ → Known) → ℕ → Tree
+unfoldable pub treeOf : (ℕ → KnownStruct) → ℕ → Tree
 treeOf known i = treeWithin known mostTypes i
 
 -- a value
-unfoldable pub treeOfValue : (ℕ → Known) → Ty → ℕ → Tree
+unfoldable pub treeOfValue : (ℕ → KnownStruct) → Ty → ℕ → Tree
 treeOfValue known t n = valueTree (treeOf known) t n

@@ -10,25 +10,25 @@ use Rattle.values.specs.stream.Entry.{isEntry, kindAt, payloadAt}
 use Rattle.values.specs.stream.Stream.{mostBytes}
 
 -- what an entry says of the texts
-pub data Step : Type 0 where
+pub data TextStep : Type 0 where
   -- where the next one must begin, counted from the bodies' start
-  At : ℕ → Step
+  At : ℕ → TextStep
   -- the stream is malformed
-  Broken : Step
+  Broken : TextStep
 
 -- a text must begin at the place where the one before it ended, and moves that place on
-abbrev pub textStep : ℕ → ℕ → ℕ → Step
+abbrev pub textStep : ℕ → ℕ → ℕ → TextStep
 textStep at long place = cond (eqb at place) (At (place + long)) Broken
 
 -- by the kind and the payload: no other entry moves the place
-abbrev pub entryStep : ℕ → ℕ → ℕ → Step
+abbrev pub entryStep : ℕ → ℕ → ℕ → TextStep
 entryStep kind x place = cond (eqb kind 6) (textStep (x % 2 ^ 32) (x / 2 ^ 32) place) (At place)
 
 -- of the twelve bytes at a place
-abbrev pub stepAt : List ℕ → ℕ → ℕ → Step
+abbrev pub stepAt : List ℕ → ℕ → ℕ → TextStep
 stepAt s at place = cond (isEntry s at) (entryStep (kindAt s at) (payloadAt s at) place) Broken
 
-abbrev pub onStep : Step → (ℕ → Bool) → Bool
+abbrev pub onStep : TextStep → (ℕ → Bool) → Bool
 onStep (At place) go = go place
 onStep Broken go = false
 

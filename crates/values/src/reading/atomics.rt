@@ -8,7 +8,7 @@ ghost use Rattle.words.specs.Bits.{bitOf, digit};
 ghost use Rattle.types.specs.atomics.Atomic.{sizeOf};
 ghost use Rattle.types.specs.layout.Placing.{times};
 ghost use Rattle.values.specs.inside.reading.Walk.{atomicsOut, bitToken, bitsOut, numbersOut, upTo};
-ghost use Rattle.values.specs.inside.stream.Laying.{Put};
+ghost use Rattle.values.specs.inside.stream.Laying.{EntriesPut};
 use crate::reading::runs::put_run;
 use crate::stream::entry::put_entry;
 use crate::stream::kinds;
@@ -26,7 +26,7 @@ fn bit_of(x: u8, k: u8) -> u64
 // The eight bits of a byte.
 fn put_eight(x: u8, out: &mut [u8], at: usize)
     requires { ⌜ at + 96 ≤ length (now out) ⌝ }
-    ensures { λ _. ⌜ Put (now (out .entry)) at (upTo (bitToken (x ∷ [])) 8) (now (out .exit)) (at + 96) ⌝ }
+    ensures { λ _. ⌜ EntriesPut (now (out .entry)) at (upTo (bitToken (x ∷ [])) 8) (now (out .exit)) (at + 96) ⌝ }
 {
     put_entry(out, at, kinds::BOOL, bit_of(x, 0));
     put_entry(out, at + 12, kinds::BOOL, bit_of(x, 1));
@@ -41,7 +41,7 @@ fn put_eight(x: u8, out: &mut [u8], at: usize)
 // All bits of some bytes as an array.
 fn put_bits(s: &[u8], out: &mut [u8], at: usize) -> usize
     requires { ⌜ at + 12 * length (bitsOut (now s) (8 * length (now s))) ≤ length (now out) ⌝ }
-    ensures { λ r. ⌜ Put (now (out .entry)) at (bitsOut (now (s .entry)) (8 * length (now (s .entry))))
+    ensures { λ r. ⌜ EntriesPut (now (out .entry)) at (bitsOut (now (s .entry)) (8 * length (now (s .entry))))
         (now (out .exit)) r ⌝ }
 {
     put_entry(out, at, kinds::ARRAY_OPEN, 0);
@@ -60,7 +60,7 @@ fn put_bits(s: &[u8], out: &mut [u8], at: usize) -> usize
 fn put_numbers(a: Atomic, n: usize, s: &[u8], out: &mut [u8], at: usize) -> usize
     requires { ⌜ (length (now s) ≡ sizeOf a * n)
         × (at + 12 * length (numbersOut a n (now s)) ≤ length (now out)) ⌝ }
-    ensures { λ r. ⌜ Put (now (out .entry)) at (numbersOut a n (now (s .entry))) (now (out .exit)) r ⌝ }
+    ensures { λ r. ⌜ EntriesPut (now (out .entry)) at (numbersOut a n (now (s .entry))) (now (out .exit)) r ⌝ }
 {
     put_entry(out, at, kinds::ARRAY_OPEN, 0);
     let p = put_run(a, n, s, out, at + 12);
@@ -72,7 +72,7 @@ fn put_numbers(a: Atomic, n: usize, s: &[u8], out: &mut [u8], at: usize) -> usiz
 pub fn put_atomics(a: Atomic, n: usize, s: &[u8], out: &mut [u8], at: usize) -> usize
     requires { ⌜ (length (now s) ≡ sizeOf a * times n)
         × (at + 12 * length (atomicsOut a n (now s)) ≤ length (now out)) ⌝ }
-    ensures { λ r. ⌜ Put (now (out .entry)) at (atomicsOut a n (now (s .entry))) (now (out .exit)) r ⌝ }
+    ensures { λ r. ⌜ EntriesPut (now (out .entry)) at (atomicsOut a n (now (s .entry))) (now (out .exit)) r ⌝ }
 {
     if is_bits(a) {
         return put_bits(s, out, at);

@@ -14,7 +14,7 @@ ghost use Rattle.values.specs.inside.reading.Read.{StreamWritten};
 ghost use Rattle.values.specs.inside.reading.Walk.{valueOut};
 ghost use Rattle.values.specs.inside.reading.Walkable.{ImagesOf, ValueImage, Walkable};
 ghost use Rattle.values.specs.inside.stream.Counting.{Counted, Texts};
-ghost use Rattle.values.specs.inside.stream.Laying.{Room, Wrote};
+ghost use Rattle.values.specs.inside.stream.Laying.{StreamRoom, TokensLaid};
 ghost use Rattle.values.specs.reading.Read.{Answered};
 ghost use Rattle.values.specs.stream.Stream.{mostBytes, bodies};
 use crate::reading::atomics::put_atomics;
@@ -141,9 +141,9 @@ fn read_structs(
     base: usize,
 ) -> Place
     requires { ⌜ Walkable (now types) (now members) × ImagesOf (now types) i (times n) (now image) ⌝ }
-    requires { ⌜ Room (length (now out)) base 4 0
+    requires { ⌜ StreamRoom (length (now out)) base 4 0
         (valueOut (now types) (now members) (Ty.Struct i) n (now image)) ⌝ }
-    ensures { λ r. ⌜ Wrote (now (out .entry)) base 4 0
+    ensures { λ r. ⌜ TokensLaid (now (out .entry)) base 4 0
         (valueOut (now (types .entry)) (now (members .entry)) (Ty.Struct i) n (now (image .entry))) (now (out .exit))
         r ⌝ }
 {
@@ -164,8 +164,8 @@ fn read_value(
     base: usize,
 ) -> Place
     requires { ⌜ Walkable (now types) (now members) × ValueImage (now types) ty n (now image) ⌝ }
-    requires { ⌜ Room (length (now out)) base 4 0 (valueOut (now types) (now members) ty n (now image)) ⌝ }
-    ensures { λ r. ⌜ Wrote (now (out .entry)) base 4 0
+    requires { ⌜ StreamRoom (length (now out)) base 4 0 (valueOut (now types) (now members) ty n (now image)) ⌝ }
+    ensures { λ r. ⌜ TokensLaid (now (out .entry)) base 4 0
         (valueOut (now (types .entry)) (now (members .entry)) ty n (now (image .entry))) (now (out .exit)) r ⌝ }
 {
     match ty {

@@ -5,7 +5,7 @@ ghost use lib.ListN.{length};
 ghost use Rattle.types.specs.atomics.Atomic.{sizeOf};
 ghost use Rattle.values.specs.inside.reading.Numbers.{NumberRun};
 ghost use Rattle.values.specs.inside.reading.Walk.{elementOut, upTo};
-ghost use Rattle.values.specs.inside.stream.Laying.{Put};
+ghost use Rattle.values.specs.inside.stream.Laying.{EntriesPut};
 use crate::reading::numbers::extend;
 use crate::reading::numbers::form_of;
 use crate::reading::numbers::truth;
@@ -23,8 +23,8 @@ use words::wide64;
 // BOOLs outside a structure: a byte each.
 fn put_truths(n: usize, s: &[u8], out: &mut [u8], at: usize) -> usize
     requires { ⌜ (n ≤ length (now s)) × (at + 12 * n ≤ length (now out)) ⌝ }
-    ensures { λ r. ⌜ Put (now (out .entry)) at (upTo (elementOut Atomic.Bool (now (s .entry))) n) (now (out .exit))
-        r ⌝ }
+    ensures { λ r. ⌜ EntriesPut (now (out .entry)) at (upTo (elementOut Atomic.Bool (now (s .entry))) n)
+        (now (out .exit)) r ⌝ }
 {
     let mut p = at;
     let mut i: usize = 0;
@@ -38,7 +38,7 @@ fn put_truths(n: usize, s: &[u8], out: &mut [u8], at: usize) -> usize
 
 fn put_ones(a: Atomic, n: usize, s: &[u8], out: &mut [u8], at: usize) -> usize
     requires { ⌜ NumberRun a 1 n (now s) × (at + 12 * n ≤ length (now out)) ⌝ }
-    ensures { λ r. ⌜ Put (now (out .entry)) at (upTo (elementOut a (now (s .entry))) n) (now (out .exit)) r ⌝ }
+    ensures { λ r. ⌜ EntriesPut (now (out .entry)) at (upTo (elementOut a (now (s .entry))) n) (now (out .exit)) r ⌝ }
 {
     let f = form_of(a);
     let mut p = at;
@@ -54,7 +54,7 @@ fn put_ones(a: Atomic, n: usize, s: &[u8], out: &mut [u8], at: usize) -> usize
 
 fn put_twos(a: Atomic, n: usize, s: &[u8], out: &mut [u8], at: usize) -> usize
     requires { ⌜ NumberRun a 2 n (now s) × (at + 12 * n ≤ length (now out)) ⌝ }
-    ensures { λ r. ⌜ Put (now (out .entry)) at (upTo (elementOut a (now (s .entry))) n) (now (out .exit)) r ⌝ }
+    ensures { λ r. ⌜ EntriesPut (now (out .entry)) at (upTo (elementOut a (now (s .entry))) n) (now (out .exit)) r ⌝ }
 {
     let f = form_of(a);
     let mut p = at;
@@ -70,7 +70,7 @@ fn put_twos(a: Atomic, n: usize, s: &[u8], out: &mut [u8], at: usize) -> usize
 
 fn put_fours(a: Atomic, n: usize, s: &[u8], out: &mut [u8], at: usize) -> usize
     requires { ⌜ NumberRun a 4 n (now s) × (at + 12 * n ≤ length (now out)) ⌝ }
-    ensures { λ r. ⌜ Put (now (out .entry)) at (upTo (elementOut a (now (s .entry))) n) (now (out .exit)) r ⌝ }
+    ensures { λ r. ⌜ EntriesPut (now (out .entry)) at (upTo (elementOut a (now (s .entry))) n) (now (out .exit)) r ⌝ }
 {
     let f = form_of(a);
     let mut p = at;
@@ -86,7 +86,7 @@ fn put_fours(a: Atomic, n: usize, s: &[u8], out: &mut [u8], at: usize) -> usize
 
 fn put_eights(a: Atomic, n: usize, s: &[u8], out: &mut [u8], at: usize) -> usize
     requires { ⌜ NumberRun a 8 n (now s) × (at + 12 * n ≤ length (now out)) ⌝ }
-    ensures { λ r. ⌜ Put (now (out .entry)) at (upTo (elementOut a (now (s .entry))) n) (now (out .exit)) r ⌝ }
+    ensures { λ r. ⌜ EntriesPut (now (out .entry)) at (upTo (elementOut a (now (s .entry))) n) (now (out .exit)) r ⌝ }
 {
     let f = form_of(a);
     let mut p = at;
@@ -103,7 +103,7 @@ fn put_eights(a: Atomic, n: usize, s: &[u8], out: &mut [u8], at: usize) -> usize
 // n atomics, an entry each; where the next entry goes.
 pub fn put_run(a: Atomic, n: usize, s: &[u8], out: &mut [u8], at: usize) -> usize
     requires { ⌜ (sizeOf a * n ≤ length (now s)) × (at + 12 * n ≤ length (now out)) ⌝ }
-    ensures { λ r. ⌜ Put (now (out .entry)) at (upTo (elementOut a (now (s .entry))) n) (now (out .exit)) r ⌝ }
+    ensures { λ r. ⌜ EntriesPut (now (out .entry)) at (upTo (elementOut a (now (s .entry))) n) (now (out .exit)) r ⌝ }
 {
     match a {
         Atomic::Bool => put_truths(n, s, out, at),

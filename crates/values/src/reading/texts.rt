@@ -3,7 +3,7 @@ ghost use mathlib.Core.Path.{_≡_};
 ghost use Prim.Native.Nat.{_+_, _*_, _≤_};
 ghost use lib.ListN.{length};
 ghost use Rattle.values.specs.inside.reading.Walk.{textOut};
-ghost use Rattle.values.specs.inside.stream.Laying.{Room, Wrote};
+ghost use Rattle.values.specs.inside.stream.Laying.{StreamRoom, TokensLaid};
 ghost use Rattle.values.specs.reading.Texts.{textLength};
 use crate::stream::entry::put_entry;
 use crate::stream::kinds;
@@ -34,8 +34,8 @@ pub fn put_text(
     text: usize,
 ) -> Place
     requires { ⌜ (4 + capacity ≤ length (now image))
-        × Room (length (now out)) base at text (textOut capacity (now image)) ⌝ }
-    ensures { λ r. ⌜ Wrote (now (out .entry)) base at text (textOut capacity (now (image .entry)))
+        × StreamRoom (length (now out)) base at text (textOut capacity (now image)) ⌝ }
+    ensures { λ r. ⌜ TokensLaid (now (out .entry)) base at text (textOut capacity (now (image .entry)))
         (now (out .exit)) r ⌝ }
 {
     let n = text_length(capacity, image);

@@ -6,7 +6,7 @@ ghost use lib.ListN.{length};
 ghost use Rattle.types.specs.tables.Lent.{memberAt};
 ghost use Rattle.values.specs.inside.reading.Walk.{elementsBy, leafOut, memberBy, membersBy, structOut};
 ghost use Rattle.values.specs.inside.reading.Walkable.{ImageOf, ImagesOf, NestedRow, RowOf, Walkable};
-ghost use Rattle.values.specs.inside.stream.Laying.{Put, Room, Wrote};
+ghost use Rattle.values.specs.inside.stream.Laying.{EntriesPut, StreamRoom, TokensLaid};
 use crate::reading::atomics::put_atomics;
 use crate::reading::numbers::truth_of;
 use crate::reading::rows::capacity_at;
@@ -41,7 +41,7 @@ fn read_leaf(
 ) -> usize
     requires { ⌜ RowOf (now types) (now members) i row × ImageOf (now types) i (now image) ⌝ }
     requires { ⌜ at + 12 * length (leafOut j (memberAt (now members) row) (now image)) ≤ length (now out) ⌝ }
-    ensures { λ r. ⌜ Put (now (out .entry)) at
+    ensures { λ r. ⌜ EntriesPut (now (out .entry)) at
         (leafOut j (memberAt (now (members .entry)) row) (now (image .entry))) (now (out .exit)) r ⌝ }
 {
     let m = member_row(members, row);
@@ -86,8 +86,8 @@ pub fn read_struct(
     text: usize,
 ) -> Place
     requires { ⌜ Walkable (now types) (now members) × ImageOf (now types) i (now image) ⌝ }
-    requires { ⌜ Room (length (now out)) base at text (structOut (now types) (now members) i (now image)) ⌝ }
-    ensures { λ r. ⌜ Wrote (now (out .entry)) base at text
+    requires { ⌜ StreamRoom (length (now out)) base at text (structOut (now types) (now members) i (now image)) ⌝ }
+    ensures { λ r. ⌜ TokensLaid (now (out .entry)) base at text
         (structOut (now (types .entry)) (now (members .entry)) i (now (image .entry))) (now (out .exit)) r ⌝ }
 {
     let d = type_row(types, i);
@@ -111,9 +111,9 @@ fn read_members(
     text: usize,
 ) -> Place
     requires { ⌜ Walkable (now types) (now members) × ImageOf (now types) i (now image) ⌝ }
-    requires { ⌜ Room (length (now out)) base at text
+    requires { ⌜ StreamRoom (length (now out)) base at text
         (membersBy (now types) (now members) (structOut (now types) (now members)) i (now image)) ⌝ }
-    ensures { λ r. ⌜ Wrote (now (out .entry)) base at text
+    ensures { λ r. ⌜ TokensLaid (now (out .entry)) base at text
         (membersBy (now (types .entry)) (now (members .entry)) (structOut (now (types .entry)) (now (members .entry))) i
         (now (image .entry))) (now (out .exit)) r ⌝ }
 {
@@ -159,10 +159,10 @@ fn read_nested(
 ) -> Place
     requires { ⌜ Walkable (now types) (now members) × (NestedRow (now types) (now members) i row
         × ImageOf (now types) i (now image)) ⌝ }
-    requires { ⌜ Room (length (now out)) base at text
+    requires { ⌜ StreamRoom (length (now out)) base at text
         (memberBy (now types) (now members) (structOut (now types) (now members)) j (memberAt (now members) row)
         (now image)) ⌝ }
-    ensures { λ r. ⌜ Wrote (now (out .entry)) base at text
+    ensures { λ r. ⌜ TokensLaid (now (out .entry)) base at text
         (memberBy (now (types .entry)) (now (members .entry)) (structOut (now (types .entry)) (now (members .entry))) j
         (memberAt (now (members .entry)) row) (now (image .entry))) (now (out .exit)) r ⌝ }
 {
@@ -219,9 +219,9 @@ pub fn read_elements(
     text: usize,
 ) -> Place
     requires { ⌜ Walkable (now types) (now members) × ImagesOf (now types) i n (now image) ⌝ }
-    requires { ⌜ Room (length (now out)) base at text
+    requires { ⌜ StreamRoom (length (now out)) base at text
         (elementsBy (now types) (now members) (structOut (now types) (now members)) i n (now image)) ⌝ }
-    ensures { λ r. ⌜ Wrote (now (out .entry)) base at text
+    ensures { λ r. ⌜ TokensLaid (now (out .entry)) base at text
         (elementsBy (now (types .entry)) (now (members .entry)) (structOut (now (types .entry)) (now (members .entry)))
         i n (now (image .entry))) (now (out .exit)) r ⌝ }
 {

@@ -10,9 +10,9 @@ ghost use Rattle.values.specs.stream.Entry.{EntryStored, entryAt, entryK
 ghost use Rattle.values.specs.stream.Stream.{entryBytes};
 use crate::reading::numbers::truth_of;
 use crate::stream::kinds;
-use crate::stream::tokens::high;
-use crate::stream::tokens::low;
+use words::high32;
 use words::load64;
+use words::low32;
 use words::store32;
 use words::store64;
 use words::wide8;
@@ -129,7 +129,7 @@ fn real_in(x: u64) -> Loaded
     ensures { λ r. ⌜ r ≡ lowIn Entry.Real x ⌝ }
 {
     if x < 0x1_0000_0000 {
-        return Loaded::Is(Entry::Real(low(x)));
+        return Loaded::Is(Entry::Real(low32(x)));
     }
     Loaded::Malformed
 }
@@ -138,7 +138,7 @@ fn member_in(x: u64) -> Loaded
     ensures { λ r. ⌜ r ≡ lowIn Entry.Member x ⌝ }
 {
     if x < 0x1_0000_0000 {
-        return Loaded::Is(Entry::Member(low(x)));
+        return Loaded::Is(Entry::Member(low32(x)));
     }
     Loaded::Malformed
 }
@@ -146,7 +146,7 @@ fn member_in(x: u64) -> Loaded
 fn text_in(x: u64) -> Loaded
     ensures { λ r. ⌜ r ≡ textEntry x ⌝ }
 {
-    Loaded::Is(Entry::Text(low(x), high(x)))
+    Loaded::Is(Entry::Text(low32(x), high32(x)))
 }
 
 // What a kind and a payload say.

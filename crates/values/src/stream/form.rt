@@ -7,9 +7,9 @@ ghost use Rattle.values.specs.inside.stream.Steps.{Moved, mostOf, stepOf
 ghost use Rattle.values.specs.stream.Form.{formed, streamOk};
 ghost use Rattle.values.specs.stream.Stream.{mostBytes};
 use crate::stream::kinds;
-use crate::stream::tokens::high;
-use crate::stream::tokens::low;
+use words::high32;
 use words::load32;
+use words::low32;
 use words::wide;
 use words::wide64;
 
@@ -61,8 +61,8 @@ fn other_place(head: u32, x: u64, place: usize) -> usize
         return NOWHERE;
     }
     if head == TEXT {
-        if wide(low(x)) == place {
-            return place + wide(high(x));
+        if wide(low32(x)) == place {
+            return place + wide(high32(x));
         }
         return NOWHERE;
     }

@@ -57,19 +57,6 @@ pub fn payload_of(s: &[u8], k: usize) -> u64
     load64(s, 8 + 12 * k)
 }
 
-// The two halves of a payload: a text has its place and its length there.
-pub fn low(x: u64) -> u32
-    ensures { λ r. ⌜ r ≡ x % 2 ^ 32 ⌝ }
-{
-    (x % 0x1_0000_0000) as u32
-}
-
-pub fn high(x: u64) -> u32
-    ensures { λ r. ⌜ r ≡ x / 2 ^ 32 ⌝ }
-{
-    (x / 0x1_0000_0000) as u32
-}
-
 // The same number: a usize has 64 bits.
 pub fn as_size(n: u64) -> usize
     ensures { λ r. ⌜ r ≡ n ⌝ }

@@ -6,7 +6,7 @@ ghost use Rattle.types.specs.tables.Lent.{memberAt};
 ghost use Rattle.types.specs.tables.Limits.{mostTypes, mostMembers};
 ghost use Rattle.types.specs.tables.Sizes.{sizesIn};
 ghost use Rattle.values.specs.inside.reading.Walkable.{NestedRow, Walkable};
-ghost use Rattle.values.specs.inside.writing.Passes.{Checked, WellFormed, leftAt};
+ghost use Rattle.values.specs.inside.writing.Passes.{CheckedFrom, WellFormed, leftAt};
 ghost use Rattle.values.specs.inside.writing.Rows.{branchesIn, memberTree, treeIn, visibleRow};
 ghost use Rattle.values.specs.reading.Tree.{array, struct};
 ghost use Rattle.values.specs.writing.Writing.{write};
@@ -62,7 +62,7 @@ pub fn check_struct(
 ) -> usize
     requires { ⌜ Walkable (now types) (now members) × (i < mostTypes) ⌝ }
     requires { ⌜ WellFormed (now s) n × (k ≤ n) ⌝ }
-    ensures { λ r. ⌜ ((p : ℕ) → Checked (now (s .entry)) k r
+    ensures { λ r. ⌜ ((p : ℕ) → CheckedFrom (now (s .entry)) k r
         (write (treeIn (now (types .entry)) (now (members .entry)) i) p (leftAt (now (s .entry)) k))) ⌝ }
 {
     let d = type_row(types, i);
@@ -85,7 +85,7 @@ fn check_members(
 ) -> usize
     requires { ⌜ Walkable (now types) (now members) × (i < mostTypes) ⌝ }
     requires { ⌜ WellFormed (now s) n × (k ≤ n) ⌝ }
-    ensures { λ r. ⌜ ((p : ℕ) → Checked (now (s .entry)) k r
+    ensures { λ r. ⌜ ((p : ℕ) → CheckedFrom (now (s .entry)) k r
         (write (struct (8 * sizesIn (now (types .entry)) i)
         (branchesIn (now (types .entry)) (now (members .entry)) i)) p (leftAt (now (s .entry)) k))) ⌝ }
 {
@@ -141,7 +141,7 @@ fn check_nested(
 ) -> usize
     requires { ⌜ Walkable (now types) (now members) × NestedRow (now types) (now members) i row ⌝ }
     requires { ⌜ WellFormed (now s) n × (k ≤ n) ⌝ }
-    ensures { λ r. ⌜ ((p : ℕ) → Checked (now (s .entry)) k r
+    ensures { λ r. ⌜ ((p : ℕ) → CheckedFrom (now (s .entry)) k r
         (write (memberTree (treeIn (now (types .entry)) (now (members .entry))) (memberAt (now (members .entry)) row)) p
         (leftAt (now (s .entry)) k))) ⌝ }
 {
@@ -173,7 +173,7 @@ pub fn check_elements(
 ) -> usize
     requires { ⌜ Walkable (now types) (now members) × (i < mostTypes) ⌝ }
     requires { ⌜ WellFormed (now s) n × (k ≤ n) ⌝ }
-    ensures { λ r. ⌜ ((p : ℕ) → Checked (now (s .entry)) k r
+    ensures { λ r. ⌜ ((p : ℕ) → CheckedFrom (now (s .entry)) k r
         (write (array count (treeIn (now (types .entry)) (now (members .entry)) i)) p (leftAt (now (s .entry)) k))) ⌝ }
 {
     let start = kind_at(s, n, k);

@@ -8,7 +8,7 @@ ghost use Rattle.words.specs.Bits.{Bits};
 ghost use Rattle.types.specs.atomics.Atomic.{bitString, sizeOf};
 ghost use Rattle.types.specs.tables.Lent.{memberAt};
 ghost use Rattle.values.specs.inside.writing.Effects.{atomicTakes};
-ghost use Rattle.values.specs.inside.writing.Passes.{Checked, WellFormed, leftAt};
+ghost use Rattle.values.specs.inside.writing.Passes.{CheckedFrom, WellFormed, leftAt};
 ghost use Rattle.values.specs.inside.writing.Rows.{LeafRow, memberTree, runIn};
 ghost use Rattle.values.specs.reading.Tree.{Tree};
 ghost use Rattle.values.specs.reading.Trees.{atomicsTree};
@@ -19,7 +19,6 @@ use crate::stream::kinds;
 use crate::stream::tokens::MISFIT;
 use crate::stream::tokens::PAST_LAST;
 use crate::stream::tokens::TOO_LONG;
-use crate::stream::tokens::high;
 use crate::stream::tokens::kind_at;
 use crate::stream::tokens::kind_of;
 use crate::stream::tokens::payload_of;
@@ -33,12 +32,13 @@ use types::Ty;
 use types::is_bits;
 use types::member_row;
 use types::size_of;
+use words::high32;
 use words::wide;
 
 // One atomic, or null.
 pub fn check_atomic(a: Atomic, s: &[u8], n: usize, k: usize) -> usize
     requires { ⌜ WellFormed (now s) n × (k ≤ n) ⌝ }
-    ensures { λ r. ⌜ ((w p : ℕ) → Checked (now (s .entry)) k r
+    ensures { λ r. ⌜ ((w p : ℕ) → CheckedFrom (now (s .entry)) k r
         (writeOne (orNull (atomicTakes a)) w p (leftAt (now (s .entry)) k))) ⌝ }
 {
     if n <= k {
@@ -54,7 +54,7 @@ pub fn check_atomic(a: Atomic, s: &[u8], n: usize, k: usize) -> usize
 // A text, or null.
 pub fn check_text(capacity: u32, s: &[u8], n: usize, k: usize) -> usize
     requires { ⌜ WellFormed (now s) n × (k ≤ n) ⌝ }
-    ensures { λ r. ⌜ ((w p : ℕ) → Checked (now (s .entry)) k r
+    ensures { λ r. ⌜ ((w p : ℕ) → CheckedFrom (now (s .entry)) k r
         (writeOne (orNull (asText capacity)) w p (leftAt (now (s .entry)) k))) ⌝ }
 {
     let kind = kind_at(s, n, k);
@@ -62,7 +62,7 @@ pub fn check_text(capacity: u32, s: &[u8], n: usize, k: usize) -> usize
         return k + 1;
     }
     if kind == kinds::TEXT {
-        let long = high(payload_of(s, k));
+        let long = high32(payload_of(s, k));
         if capacity < long {
             return refused(TOO_LONG, k);
         }
@@ -75,7 +75,7 @@ pub fn check_text(capacity: u32, s: &[u8], n: usize, k: usize) -> usize
 fn close_at(s: &[u8], n: usize, k: usize) -> usize
     requires { ⌜ WellFormed (now s) n × (k ≤ n) ⌝ }
     ensures { λ r. ⌜ ((m : ℕ) (one : ℕ → List Token → Bits → Outcome) (w p : ℕ) → (k < n → m ≡ 0)
-        → Checked (now (s .entry)) k r (elements m one w p (leftAt (now (s .entry)) k))) ⌝ }
+        → CheckedFrom (now (s .entry)) k r (elements m one w p (leftAt (now (s .entry)) k))) ⌝ }
 {
     if n <= k {
         return refused(MISFIT, k);
@@ -112,7 +112,7 @@ fn after_count(count: usize, n: usize, k: usize) -> usize
 // Bools for so many bytes, and the close.
 fn check_bools(bytes: usize, s: &[u8], n: usize, k: usize) -> usize
     requires { ⌜ WellFormed (now s) n × (k ≤ n) ⌝ }
-    ensures { λ r. ⌜ ((p : ℕ) → Checked (now (s .entry)) k r
+    ensures { λ r. ⌜ ((p : ℕ) → CheckedFrom (now (s .entry)) k r
         (boolsIn (8 * bytes) p (leftAt (now (s .entry)) k))) ⌝ }
 {
     let last = after_bytes(bytes, n, k);
@@ -133,7 +133,7 @@ fn check_bools(bytes: usize, s: &[u8], n: usize, k: usize) -> usize
 // Up to `count` atomics, nulls among them, and the close, which is no atomic.
 fn check_numbers(a: Atomic, count: usize, s: &[u8], n: usize, k: usize) -> usize
     requires { ⌜ WellFormed (now s) n × (k ≤ n) ⌝ }
-    ensures { λ r. ⌜ ((w p : ℕ) → Checked (now (s .entry)) k r
+    ensures { λ r. ⌜ ((w p : ℕ) → CheckedFrom (now (s .entry)) k r
         (elements count (writeOne (orNull (atomicTakes a)) w) w p (leftAt (now (s .entry)) k))) ⌝ }
 {
     let limits = limits_of(a);
@@ -157,7 +157,7 @@ fn check_numbers(a: Atomic, count: usize, s: &[u8], n: usize, k: usize) -> usize
 fn check_bits(a: Atomic, s: &[u8], n: usize, k: usize) -> usize
     requires { ⌜ WellFormed (now s) n × (k ≤ n) ⌝ }
     requires { ⌜ bitString a ≡ true ⌝ }
-    ensures { λ r. ⌜ ((p : ℕ) → Checked (now (s .entry)) k r
+    ensures { λ r. ⌜ ((p : ℕ) → CheckedFrom (now (s .entry)) k r
         (write (atomicsTree a 0) p (leftAt (now (s .entry)) k))) ⌝ }
 {
     let kind = kind_at(s, n, k);
@@ -171,7 +171,7 @@ fn check_bits(a: Atomic, s: &[u8], n: usize, k: usize) -> usize
 fn check_run(a: Atomic, count: usize, s: &[u8], n: usize, k: usize) -> usize
     requires { ⌜ WellFormed (now s) n × (k ≤ n) ⌝ }
     requires { ⌜ sizeOf a * count < 2 ^ 64 ⌝ }
-    ensures { λ r. ⌜ ((p : ℕ) → Checked (now (s .entry)) k r
+    ensures { λ r. ⌜ ((p : ℕ) → CheckedFrom (now (s .entry)) k r
         (runIn a count p (leftAt (now (s .entry)) k))) ⌝ }
 {
     let bits = is_bits(a);
@@ -189,7 +189,7 @@ fn check_run(a: Atomic, count: usize, s: &[u8], n: usize, k: usize) -> usize
 fn check_array(a: Atomic, count: usize, s: &[u8], n: usize, k: usize) -> usize
     requires { ⌜ WellFormed (now s) n × (k ≤ n) ⌝ }
     requires { ⌜ (sizeOf a * count < 2 ^ 64) × (0 < count) ⌝ }
-    ensures { λ r. ⌜ ((p : ℕ) → Checked (now (s .entry)) k r
+    ensures { λ r. ⌜ ((p : ℕ) → CheckedFrom (now (s .entry)) k r
         (write (atomicsTree a count) p (leftAt (now (s .entry)) k))) ⌝ }
 {
     let kind = kind_at(s, n, k);
@@ -206,7 +206,7 @@ fn check_array(a: Atomic, count: usize, s: &[u8], n: usize, k: usize) -> usize
 pub fn check_atomics(a: Atomic, count: usize, s: &[u8], n: usize, k: usize) -> usize
     requires { ⌜ WellFormed (now s) n × (k ≤ n) ⌝ }
     requires { ⌜ sizeOf a * count < 2 ^ 64 ⌝ }
-    ensures { λ r. ⌜ ((p : ℕ) → Checked (now (s .entry)) k r
+    ensures { λ r. ⌜ ((p : ℕ) → CheckedFrom (now (s .entry)) k r
         (write (atomicsTree a count) p (leftAt (now (s .entry)) k))) ⌝ }
 {
     if count == 0 {
@@ -222,7 +222,7 @@ pub fn check_atomics(a: Atomic, count: usize, s: &[u8], n: usize, k: usize) -> u
 pub fn check_leaf(members: &MemberTable, row: usize, s: &[u8], n: usize, k: usize) -> usize
     requires { ⌜ WellFormed (now s) n × (k ≤ n) ⌝ }
     requires { ⌜ LeafRow (now members) row ⌝ }
-    ensures { λ r. ⌜ ((trees : ℕ → Tree) (p : ℕ) → Checked (now (s .entry)) k r
+    ensures { λ r. ⌜ ((trees : ℕ → Tree) (p : ℕ) → CheckedFrom (now (s .entry)) k r
         (write (memberTree trees (memberAt (now (members .entry)) row)) p (leftAt (now (s .entry)) k))) ⌝ }
 {
     let m = member_row(members, row);

@@ -21,9 +21,7 @@ ghost use Rattle.values.specs.stream.Form.{streamOk};
 ghost use Rattle.values.specs.writing.Effects.{asText, orNull, taken};
 ghost use Rattle.values.specs.writing.Writing.{elements, write, writeOne};
 use crate::stream::kinds;
-use crate::stream::tokens::high;
 use crate::stream::tokens::kind_of;
-use crate::stream::tokens::low;
 use crate::stream::tokens::payload_of;
 use crate::writing::bools::put_bit;
 use crate::writing::bools::set_bools;
@@ -35,7 +33,9 @@ use types::is_bits;
 use types::member_row;
 use types::size_of;
 use words::copy;
+use words::high32;
 use words::load32;
+use words::low32;
 use words::store8;
 use words::store16;
 use words::store32;
@@ -60,7 +60,7 @@ fn put_low(image: &mut [u8], at: usize, size: usize, x: u64)
     ensures { λ _. ⌜ now (image .exit) ≡ sets (now (image .entry)) at (bytesOf size x) ⌝ }
 {
     if size == 4 {
-        store32(image, at, low(x));
+        store32(image, at, low32(x));
         return;
     }
     if size == 2 {
@@ -131,10 +131,10 @@ pub fn set_text(capacity: u32, s: &[u8], k: usize, image: &mut [u8], base: usize
         return k + 1;
     }
     let x = payload_of(s, k);
-    let long = wide(high(x));
-    let start = 4 + 12 * wide(load32(s, 0)) + wide(low(x));
+    let long = wide(high32(x));
+    let start = 4 + 12 * wide(load32(s, 0)) + wide(low32(x));
     let end = start + long;
-    store32(image, base, high(x));
+    store32(image, base, high32(x));
     copy(image, base + 4, &s[start..end]);
     clear(image, base + 4 + long, wide(capacity) - long);
     k + 1

@@ -10,7 +10,7 @@ ghost use Rattle.types.specs.refusals.Refusal.{numberOf, placeOf};
 ghost use Rattle.types.specs.tables.Kept.{KeptRows};
 ghost use Rattle.types.specs.tables.Sizes.{sizeIn, sizesIn};
 ghost use Rattle.values.specs.inside.reading.Walkable.{ValueImage, Walkable};
-ghost use Rattle.values.specs.inside.writing.Passes.{Applied, Checked, WellFormed, accepted, leftAt};
+ghost use Rattle.values.specs.inside.writing.Passes.{Applied, CheckedFrom, WellFormed, accepted, leftAt};
 ghost use Rattle.values.specs.inside.writing.Written.{Entered};
 ghost use Rattle.values.specs.reading.Trees.{knownIn, treeOfValue};
 ghost use Rattle.values.specs.stream.Form.{streamOk};
@@ -55,7 +55,7 @@ fn check_value(
     requires { ⌜ Walkable (now types) (now members) × (TyFits ty
         × (sizeIn (sizesIn (now types)) ty * times n < 2 ^ 64)) ⌝ }
     requires { ⌜ WellFormed (now s) entries ⌝ }
-    ensures { λ r. ⌜ Checked (now (s .entry)) 0 r
+    ensures { λ r. ⌜ CheckedFrom (now (s .entry)) 0 r
         (writeIn (treeOfValue (knownIn (now (types .entry)) (now (members .entry))) ty n) 0
         (leftAt (now (s .entry)) 0)) ⌝ }
 {

@@ -1,7 +1,8 @@
 -- `cases::agrees` meets its contract.
 use borrow.Author.Needs.{needs}
 use mathlib.Core.Path.{_∙_}
-use Rattle.cases.proofs.ExpectedLaws.{told, rest-lent, agrees-empty, agrees-short, agrees-bytes, agrees-refused}
+use Rattle.words.proofs.Lists.{rest-lent}
+use Rattle.cases.proofs.ExpectedLaws.{told, agrees-empty, agrees-short, agrees-bytes, agrees-refused}
 use Rattle.cases.proofs.ExpectedLaws.{agrees-exactly, agrees-unknown}
 use Rattle.cases.proofs.expected.agrees.Statement.{statement}
 use Rattle.cases.proofs.expected.agrees.Tie as tie

@@ -8,10 +8,11 @@ use mathlib.Core.Path.{_≡_, refl, sym, ap, _∙_}
 use mathlib.Core.Bool.{Bool, true, false, cond, not, _&&_, _||_}
 use mathlib.Core.List.{List, [], _∷_, map}
 use borrow.Author.Count.{below-more}
-use borrow.Author.Tests.{eq-eqb, ne-eqb, eqb-true, eqb-false}
+use borrow.Author.Tests.{eq-eqb, ne-eqb}
 use lib.Dec.{eqb}
 use lib.ListN.{length, getD, set, drop, length-set, drop-of-length-le}
-use lib.Seq.{drop-cons, getD-set-same, getD-set-other}
+use lib.Seq.{drop-cons}
+use Rattle.words.proofs.Lists.{mark-set, mark-kept}
 use Rattle.types.specs.adding.Checks.{entryOf, entriesFrom, among, checked}
 use Rattle.types.specs.book.Names.{lowerOf, sameName, goodName}
 use Rattle.types.specs.inside.adding.Checks.{memberName, EntriesInside, namesBefore, markFrom, markOf, Marked}
@@ -122,23 +123,12 @@ marks-more {seen} {names} {j} m n =
       marked = below-more (λ (k : ℕ). getD seen (markOf (names k)) 0 ≡ 0 → ⊥) j (m .marked) n;
     }
 
--- a mark that was set, and the others after it
-set-here : (seen : List ℕ) (m : ℕ) → m < length seen → getD (set seen m 1) m 0 ≡ 0 → ⊥
-set-here seen m l e =
-    let z : _≡_ {A = ℕ} 1 0 = sym (getD-set-same seen m 1 0 l) ∙ e in
-    omega arith
-
-set-kept : (seen : List ℕ) (m i : ℕ) → m < length seen → (getD seen i 0 ≡ 0 → ⊥) → (b : Bool) → eqb i m ≡ b
-    → getD (set seen m 1) i 0 ≡ 0 → ⊥
-set-kept seen m i l n true q e = set-here seen m l (rw (eqb-true i m q) at e)
-set-kept seen m i l n false q e = n (sym (getD-set-other seen m i 1 0 (eqb-false i m q)) ∙ e)
-
 marks-set : {seen : List ℕ} {names : ℕ → List ℕ} {j : ℕ} (m : ℕ) → m < 16384 → Marks seen names j
     → Marks (set seen m 1) names j
 marks-set {seen} {names} m l k =
     record {
       long = length-set seen m 1 ∙ k .long;
-      marked = λ i h. set-kept seen m (markOf (names i)) (rw (k .long) l) (k .marked i h) _ refl;
+      marked = λ i h. mark-kept seen m (markOf (names i)) (rw (k .long) l) (k .marked i h) _ refl;
     }
 
 module _ (book : List ℕ) (at j : ℕ) {seen s : List ℕ} {m : ℕ} (e : s ≡ memberName book at j)
@@ -152,7 +142,7 @@ module _ (book : List ℕ) (at j : ℕ) {seen s : List ℕ} {m : ℕ} (e : s ≡
       record {
         is = sym (unseen (memberName book at) seen (memberName book at j) j (k .marked) (rw mark-here at z));
         marks = marks-more (marks-set m (p .small) k)
-            (rw (← mark-here) (set-here seen m (rw (k .long) (p .small))));
+            (rw (← mark-here) (mark-set seen m (rw (k .long) (p .small))));
       }
 
   -- a member's name whose mark was set is looked up among those before, and the marks stay

@@ -8,7 +8,7 @@ use mathlib.Core.List.{List, [], _∷_}
 use lib.ListN.{length, length-append}
 use lib.Seq.{sets}
 use Rattle.types.specs.inside.book.Decls.{declAt, declsFrom, Found}
-use Rattle.types.specs.inside.layout.Passes.{BoolsCounted, OneIf, HostPut, Put, BitHostLong, HostsLong}
+use Rattle.types.specs.inside.layout.Passes.{BoolsCounted, OneIf, HostPut, PartsPut, BitHostLong, HostsLong}
 use Rattle.types.specs.layout.HostNames.{bitHostName}
 use Rattle.types.specs.layout.Placing.{isBool}
 use Rattle.types.specs.layout.Structs.{named, namesOf, rowsOf, bools, bitHostAt, hostParts}
@@ -19,7 +19,7 @@ use Rattle.types.proofs.book.DeclLaws.{decls-cons, decls-none}
 use Rattle.types.proofs.layout.StoreLaws.{one-name, names-append, rows-then, names-then}
 
 -- what counting keeps
-pub record Counting (types book tys : List ℕ) (at n count j : ℕ) : Type 0 where
+pub record CountingBools (types book tys : List ℕ) (at n count j : ℕ) : Type 0 where
   pub found : Found book tys at n
   pub few : n ≤ 131072
   pub done : j ≤ n
@@ -27,11 +27,12 @@ pub record Counting (types book tys : List ℕ) (at n count j : ℕ) : Type 0 wh
   pub same : bools (declsFrom types book tys at 0 n) ≡ count + bools (declsFrom types book tys at j (n - j))
 
 -- before the first member the count is 0
-pub counts : (types book tys : List ℕ) (at n : ℕ) → Found book tys at n → n ≤ 131072 → Counting types book tys at n 0 0
+pub counts : (types book tys : List ℕ) (at n : ℕ) → Found book tys at n → n ≤ 131072
+    → CountingBools types book tys at n 0 0
 counts types book tys at n f l =
     record { found = f; few = l; done = omega arith; most = omega arith; same = rw (sub-zero, zero-add) }
 
-module _ {types book tys : List ℕ} {at n count j : ℕ} (c : Counting types book tys at n count j) where
+module _ {types book tys : List ℕ} {at n count j : ℕ} (c : CountingBools types book tys at n count j) where
   -- after the last member the count is that of all BOOLs
   pub counted : n ≤ j → BoolsCounted n (declsFrom types book tys at 0 n) count
   unfolding bools
@@ -44,7 +45,7 @@ module _ {types book tys : List ℕ} {at n count j : ℕ} (c : Counting types bo
   -- the j-th member adds one to the count where it is a BOOL, else nothing
   pub count-on : j < n → (d : Decl) (b : Bool) → d ≡ declAt types book tys at j → b ≡ isBool (d .ty) → {r : ℕ}
       → OneIf b r
-      → Counting types book tys at n (count + r) (j + 1)
+      → CountingBools types book tys at n (count + r) (j + 1)
   unfolding bools
   count-on l d b e f {r} o =
       let g : r ≡ cond (isBool (declAt types book tys at j .ty)) 1 0 =
@@ -97,7 +98,7 @@ hosts-start h row place m t r b =
 
 module _ {h row place at i : ℕ} {m₀ t₀ m t : List ℕ} (s : Hosting h row place m₀ t₀ m t at i) where
   -- after the last host all of them are stored
-  pub hosts-done : h ≤ i → Put (hostParts 0 h) row place m₀ t₀ m t at
+  pub hosts-done : h ≤ i → PartsPut (hostParts 0 h) row place m₀ t₀ m t at
   unfolding namesOf rowsOf
   hosts-done l =
       let e = hosts-none h i l in
@@ -143,7 +144,7 @@ pub two-put : (a b : Part) (row place : ℕ) {m₀ t₀ m₁ t₁ m t : List ℕ
     → m₁ ≡ sets m₀ (8 * row) (rowsOf place (a ∷ [])) → t₁ ≡ sets t₀ place (namesOf (a ∷ []))
     → (at : ℕ) → at ≡ place + length (namesOf (a ∷ []))
     → m ≡ sets m₁ (8 * (row + 1)) (rowsOf at (b ∷ [])) → t ≡ sets t₁ at (namesOf (b ∷ []))
-    → Put (a ∷ b ∷ []) row place m₀ t₀ m t r
+    → PartsPut (a ∷ b ∷ []) row place m₀ t₀ m t r
 two-put a b row place {m₀} {t₀} n p q at e u v =
     record {
       next = n;

@@ -7,7 +7,7 @@ use mathlib.Core.List.{List, _++_}
 use lib.ListN.{length, length-append}
 use lib.Seq.{sets}
 use Rattle.types.specs.inside.book.Decls.{declsFrom}
-use Rattle.types.specs.inside.layout.Passes.{partsFrom, aoiParts, Put, Storable, StorableAoi}
+use Rattle.types.specs.inside.layout.Passes.{partsFrom, aoiParts, PartsPut, Storable, StorableAoi}
 use Rattle.types.specs.layout.HostNames.{hostName}
 use Rattle.types.specs.layout.Structs.{namesOf, rowsOf, namedIn, hostParts, enableParts, aoiStart}
 use Rattle.types.specs.tables.Defs.{Part}
@@ -53,8 +53,8 @@ module _ {types book tys type : List ℕ} {at n h row place : ℕ} (s : Storable
           names = omega (arith, e, names-room);
         }
 
-    module _ {m₀ t₀ m₁ t₁ m₂ t₂ : List ℕ} {p₁ p₂ : ℕ} (a : Put (hostParts 0 h) row place m₀ t₀ m₁ t₁ p₁)
-        (b : Put enableParts (row + h) p₁ m₁ t₁ m₂ t₂ p₂) where
+    module _ {m₀ t₀ m₁ t₁ m₂ t₂ : List ℕ} {p₁ p₂ : ℕ} (a : PartsPut (hostParts 0 h) row place m₀ t₀ m₁ t₁ p₁)
+        (b : PartsPut enableParts (row + h) p₁ m₁ t₁ m₂ t₂ p₂) where
       -- the declared members' names begin 17 bytes after the hosts' names
       pub third : p₂ ≡ place + length (namesOf (hostParts 0 h)) + 17
       unfolding namesOf

@@ -1,14 +1,14 @@
 -- Laws of the layouts that no book declares (document 01, "Layout", String and Predefined): a string's parts, status
 -- bits and a control type's parts stored one after the other.
 use Prim.Native.Nat.{ℕ, suc, _+_, _-_, _*_, _<_, _≤_}
-use native.Mathlib.Nat.{add-zero, sub-zero, add-sub-cancel-left}
+use native.Mathlib.Nat.{add-zero, sub-zero}
 use native.Mathlib.Omega.{arith}
 use mathlib.Core.Path.{_≡_, refl, sym, ap, _∙_}
 use mathlib.Core.List.{List, [], _∷_}
-use lib.ListN.{length, take, drop, length-take, length-drop}
+use lib.ListN.{length, take, drop}
 use lib.Seq.{sets}
 use Rattle.words.specs.Words.{part}
-use Rattle.words.proofs.Lists.{length-part}
+use Rattle.words.proofs.Lists.{length-part, length-between}
 use Rattle.types.specs.inside.layout.Structs.{pairs}
 use Rattle.types.specs.layout.Structs.{named, namesOf, rowsOf, dintAt, dataOf, stringParts, ctlAt, statusAt}
 use Rattle.types.specs.layout.Structs.{statusParts, controlParts}
@@ -55,15 +55,6 @@ string-names t at c = sym (names-on t at lenName (dintAt 0) 3 (named dataName (d
 
 -- ---- status bits
 
--- the part of the names that is lent for the i-th
-pub lent-pair : (s : List ℕ) (i : ℕ) → take (2 * i + 2 - 2 * i) (drop (2 * i) s) ≡ part s (2 * i) 2
-unfolding part
-lent-pair s i = rw (add-sub-cancel-left (2 * i) 2)
-
--- that part has two bytes
-pub pair-long : (s : List ℕ) (i : ℕ) → 2 * i + 2 ≤ length s → length (take (2 * i + 2 - 2 * i) (drop (2 * i) s)) ≡ 2
-pair-long s i h = ap length (lent-pair s i) ∙ length-part s (2 * i) 2 h
-
 pairs-cons : (s : List ℕ) (n i : ℕ) → i < n → pairs s i (n - i) ≡ part s (2 * i) 2 ∷ pairs s (i + 1) (n - (i + 1))
 unfolding pairs
 pairs-cons s n i l =
@@ -77,7 +68,7 @@ pairs-none s n i l =
     rw e
 
 -- what is kept from one status bit to the next: all stand once those that are left are stored after the others
-pub record Putting (bits m₀ t₀ : List ℕ) (row place n : ℕ) (m t : List ℕ) (i : ℕ) : Type 0 where
+pub record PuttingBits (bits m₀ t₀ : List ℕ) (row place n : ℕ) (m t : List ℕ) (i : ℕ) : Type 0 where
   pub done : i ≤ n
   pub rows : sets m₀ (8 * row) (rowsOf place (statusParts 0 (pairs bits 0 n)))
       ≡ sets m (8 * (row + i)) (rowsOf (place + 2 * i) (statusParts i (pairs bits i (n - i))))
@@ -85,7 +76,7 @@ pub record Putting (bits m₀ t₀ : List ℕ) (row place n : ℕ) (m t : List �
       ≡ sets t (place + 2 * i) (namesOf (statusParts i (pairs bits i (n - i))))
 
 -- it is so before the first status bit
-pub bits-start : (bits m t : List ℕ) (row place : ℕ) {n : ℕ} → Putting bits m t row place n m t 0
+pub bits-start : (bits m t : List ℕ) (row place : ℕ) {n : ℕ} → PuttingBits bits m t row place n m t 0
 bits-start bits m t row place {n} =
     record {
       done = omega arith;
@@ -93,7 +84,7 @@ bits-start bits m t row place {n} =
       names = rw (add-zero, sub-zero);
     }
 
-module _ {bits m₀ t₀ m t : List ℕ} {row place n i : ℕ} (s : Putting bits m₀ t₀ row place n m t i) where
+module _ {bits m₀ t₀ m t : List ℕ} {row place n i : ℕ} (s : PuttingBits bits m₀ t₀ row place n m t i) where
   -- after the last status bit the rows of all are stored
   pub bits-rows : n ≤ i → m ≡ sets m₀ (8 * row) (rowsOf place (statusParts 0 (pairs bits 0 n)))
   unfolding statusParts rowsOf
@@ -116,7 +107,7 @@ module _ {bits m₀ t₀ m t : List ℕ} {row place n i : ℕ} (s : Putting bits
     pub bits-on : {m′ t′ : List ℕ}
         → m′ ≡ sets m (8 * (row + i)) (rowsOf (place + 2 * i) (named (part bits (2 * i) 2) (statusAt i) ∷ []))
         → t′ ≡ sets t (place + 2 * i) (namesOf (named (part bits (2 * i) 2) (statusAt i) ∷ []))
-        → Putting bits m₀ t₀ row place n m′ t′ (i + 1)
+        → PuttingBits bits m₀ t₀ row place n m′ t′ (i + 1)
     bits-on v w =
         let name = part bits (2 * i) 2 in
         let e : row + (i + 1) ≡ row + i + 1 = omega arith in
@@ -132,14 +123,6 @@ module _ {bits m₀ t₀ m t : List ℕ} {row place n i : ℕ} (s : Putting bits
 
 abbrev pub ctlName : List ℕ
 ctlName = 67 ∷ 84 ∷ 76 ∷ []
-
--- the parts of the words' names that are lent
-pub first-long : (s : List ℕ) → length s ≡ 6 → length (take 3 s) ≡ 3
-first-long s l = simp length-take (omega arith)
-
--- the second word's name has three bytes
-pub second-long : (s : List ℕ) → length s ≡ 6 → length (take 3 (drop 3 s)) ≡ 3
-second-long s l = simp (length-take, length-drop) (omega arith)
 
 module _ (words : List ℕ) (l : length words ≡ 6) (bits : List (List ℕ)) (t : List ℕ) where
   abbrev one : List ℕ
@@ -165,8 +148,8 @@ module _ (words : List ℕ) (l : length words ≡ 6) (bits : List (List ℕ)) (t
       let h : at + 9 ≡ at + 3 + 3 + 3 = omega arith in
       rw (e, f, g, h)
       (sym (rows-on t row at ctlName ctlAt 3 _ refl
-      ∙ rows-on _ (row + 1) (at + 3) one (dintAt 4) 3 _ (first-long words l)
-      ∙ rows-on _ (row + 1 + 1) (at + 3 + 3) two (dintAt 8) 3 _ (second-long words l)))
+      ∙ rows-on _ (row + 1) (at + 3) one (dintAt 4) 3 _ (length-between words 0 3 (omega arith))
+      ∙ rows-on _ (row + 1 + 1) (at + 3 + 3) two (dintAt 8) 3 _ (length-between words 3 3 (omega arith))))
 
   -- the names of CTL, of the two words and of the status bits, one after the other, are a control type's
   pub control-names : (at : ℕ)
@@ -182,5 +165,5 @@ module _ (words : List ℕ) (l : length words ≡ 6) (bits : List (List ℕ)) (t
       let h : at + 9 ≡ at + 3 + 3 + 3 = omega arith in
       rw (g, h)
       (sym (names-on t at ctlName ctlAt 3 _ refl
-      ∙ names-on _ (at + 3) one (dintAt 4) 3 _ (first-long words l)
-      ∙ names-on _ (at + 3 + 3) two (dintAt 8) 3 _ (second-long words l)))
+      ∙ names-on _ (at + 3) one (dintAt 4) 3 _ (length-between words 0 3 (omega arith))
+      ∙ names-on _ (at + 3 + 3) two (dintAt 8) 3 _ (length-between words 3 3 (omega arith))))

@@ -33,14 +33,14 @@ use Rattle.types.proofs.layout.StoreLaws.{names-append, rows-then, name
 -- ---- one step, by the ways that placing can go
 
 -- how many rows and bytes a step takes, and what is left after it
-pub record Moved (row at row′ at′ : ℕ) (one all rest : List Part) : Type 0 where
+pub record StoreMoved (row at row′ at′ : ℕ) (one all rest : List Part) : Type 0 where
   pub rows : row′ ≡ row + length one
   pub place : at′ ≡ at + length (namesOf one)
   pub parts : all ≡ one ++ rest
 
 moves : (p : Placed) (host name : List ℕ) (k : ℕ) → k ≡ length name → (rest : Cursor → List Part) (row at : ℕ)
     {c′ : Cursor} {row′ at′ : ℕ} → thenNext p (length host) k row at ≡ Next c′ row′ at′
-    → Moved row at row′ at′ (thenParts p host name (λ c. [])) (thenParts p host name rest) (rest c′)
+    → StoreMoved row at row′ at′ (thenParts p host name (λ c. [])) (thenParts p host name rest) (rest c′)
 unfolding namesOf
 moves (Hosted h m c) host name k l rest row at {c′} {row′} {at′} q =
     let e : c ≡ c′ = cc in
@@ -215,7 +215,7 @@ module _ {types book tys type m₀ t₀ m t : List ℕ} {at n row₀ place₀ ro
       names-stopped q w = rw (nothing q) at w ∙ sym (rw (stopped q) at (s .names))
 
       moved : {c′ : Cursor} {row′ place′ : ℕ} → one ≡ Next c′ row′ place′
-          → Moved row place row′ place′ (oneParts book type c d)
+          → StoreMoved row place row′ place′ (oneParts book type c d)
           (partsFrom (namedIn book) (hostName type) c (declsFrom types book tys at j (n - j))) (rest c′)
       unfolding storedOne oneParts
       moved q =

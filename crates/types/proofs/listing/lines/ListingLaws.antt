@@ -1,18 +1,16 @@
--- Laws of the lines that the program `layout` prints (document 01, end of "Reference cases"): digits stored from the
--- last one on, fields put one after the other, and how long a line can be.
-use Prim.Native.Nat.{ℕ, zero, suc, _+_, _-_, _/_, _^_, _≤_, _<_}
-use native.Mathlib.Nat.{pow-suc}
+-- Laws of the lines that the program `layout` prints (document 01, end of "Reference cases"): fields put one after
+-- the other, and how long a line can be.
+use Prim.Native.Nat.{ℕ, _+_, _-_, _≤_, _<_}
 use native.Mathlib.Omega.{arith}
 use mathlib.Core.Path.{_≡_, refl, sym, ap, _∙_}
 use mathlib.Core.Bool.{Bool, true, false}
-use mathlib.Core.List.{List, [], _∷_, _++_, append-assoc, append-nil}
-use lib.ListN.{length, set, take, drop, replicate, length-append, length-drop, length-set}
-use lib.Seq.{set-split, drop-at, length-take-le, length-sets, take-all}
-use Rattle.words.proofs.Lists.{sets-append}
+use mathlib.Core.List.{List, [], _∷_, _++_}
+use lib.ListN.{length, length-append}
+use lib.Seq.{length-sets}
+use Rattle.words.proofs.Lists.{sets-append, drop-set, part-most}
 use Rattle.types.specs.atomics.Atomic.{nameOf}
 use Rattle.types.specs.inside.listing.Lines.{Short, StructNamed, TypeNamed, Listable, FieldFits, FieldPut, Lined}
-use Rattle.types.specs.inside.listing.Lines.{Spelt}
-use Rattle.types.specs.layout.HostNames.{digitsIn, digits}
+use Rattle.types.specs.layout.HostNames.{digits}
 use Rattle.types.specs.listing.Lines.{ended, line, typeWord, typeNumbers, typeLine, seen, bitText, memberPlace}
 use Rattle.types.specs.listing.Lines.{memberLine, refusedWord, refusedLine, printedType, structNames}
 use Rattle.types.specs.tables.Defs.{nameIn}
@@ -21,7 +19,6 @@ use Rattle.types.specs.declared.atomics.atomic.Atomic.{Atomic as AtomicT
 use Rattle.types.specs.declared.atomics.atomic.Atomic.the-variants.{Bool as BOOL, SInt, Int, DInt, LInt, USInt}
 use Rattle.types.specs.declared.atomics.atomic.Atomic.the-variants.{UInt, UDInt, ULInt, Real, LReal, Byte, Word}
 use Rattle.types.specs.declared.atomics.atomic.Atomic.the-variants.{DWord, LWord}
-use Rattle.types.specs.declared.listing.lines.Decimal.{Decimal}
 use Rattle.types.specs.declared.tables.member.Bit.{Bit}
 use Rattle.types.specs.declared.tables.member.Bit.the-variants.{None, At}
 use Rattle.types.specs.declared.tables.member.Member.{Member}
@@ -29,69 +26,7 @@ use Rattle.types.specs.declared.tables.member.Span.{Span}
 use Rattle.types.specs.declared.tables.member.StructDef.{StructDef}
 use Rattle.types.specs.declared.tables.member.Ty.{Ty}
 use Rattle.types.specs.declared.tables.member.Ty.the-variants.{Atomic, Struct}
-use Rattle.types.proofs.layout.DigitLaws.{digitOf, more, one, digits-most}
-use Rattle.types.proofs.templates.TemplateLaws.{name-long}
-
--- ---- a number's digits, stored from the last one on
-
--- of the digits of x, those of y are left for the places up to `from`
-pub record Spelling (x : ℕ) (bytes : List ℕ) (from y : ℕ) : Type 0 where
-  pub long : length bytes ≡ 20
-  pub inside : from < 20
-  pub small : y < 10 ^ suc from
-  pub left : digits x ≡ digitsIn (suc from) y ++ drop (suc from) bytes
-
--- before the first digit is stored all digits of a number of 64 bits are left, for twenty places
-pub spell-first : (x : ℕ) → x < 2 ^ 64 → Spelling x (replicate 20 0) 19 x
-unfolding digits
-spell-first x h =
-    record {
-      long = refl;
-      inside = omega arith;
-      small = omega arith;
-      left = sym (append-nil (digitsIn 20 x));
-    }
-
-stored : (l : List ℕ) (i v : ℕ) → i < length l → drop i (set l i v) ≡ v ∷ drop (suc i) l
-stored l i v h = rw (set-split l i v h) (drop-at (take i l) _ i (length-take-le i l (omega arith)))
-
-module _ {x from y v : ℕ} {bytes : List ℕ} (w : Spelling x bytes from y) (e : v ≡ digitOf y) where
-  -- where 10 or more is left, there is a place before this one
-  pub spell-more : 10 ≤ y → 1 ≤ from
-  spell-more h = at-least from (w .small)
-    where
-      at-least : (n : ℕ) → y < 10 ^ suc n → 1 ≤ n
-      at-least zero k = omega arith
-      at-least (suc n) k = omega arith
-
-  -- where 10 or more is left, its last digit is stored, and a tenth of it is left for the place before
-  pub spell-on : 10 ≤ y → Spelling x (set bytes from v) (from - 1) (y / 10)
-  spell-on h =
-      let n : suc (from - 1) ≡ from = omega (arith, spell-more h) in
-      record {
-        long = length-set bytes from v ∙ w .long;
-        inside = omega (arith, w .inside);
-        small = rw n (smaller (w .small));
-        left = w .left ∙ rw (n, stored bytes from v (omega (arith, w .long, w .inside)), e, more from y h)
-            (append-assoc (digitsIn from (y / 10)) _ _);
-      }
-    where
-      smaller : y < 10 ^ suc from → y / 10 < 10 ^ from
-      smaller k = omega (arith, pow-suc 10 from)
-
-  -- where less than 10 is left, it is the first digit, and all of them stand from here on
-  pub spell-done : y < 10 → Spelt x (record { bytes = set bytes from v; from = from })
-  spell-done h =
-      record {
-        is = rw (stored bytes from v (omega (arith, w .long, w .inside)), e) (sym (w .left ∙ rw (one from y h)));
-        inside = omega (arith, w .inside);
-        long = length-set bytes from v ∙ w .long;
-      }
-
--- the digits are the part of the bytes from `from` on
-pub spelt-part : {x : ℕ} {d : Decimal} → Spelt x d → take (20 - d .from) (drop (d .from) (d .bytes)) ≡ digits x
-spelt-part {x} {d} s =
-    take-all (20 - d .from) (drop (d .from) (d .bytes)) (simp length-drop (omega (arith, s .long))) ∙ s .is
+use Rattle.types.proofs.layout.DigitLaws.{digits-most}
 
 -- ---- bytes put one after the other
 
@@ -126,28 +61,29 @@ digits-20 x = digits-most 20 x
 -- ---- the fields of a line, one after the other
 
 -- of a whole that is put at a place of the buffer first, a line of the fields fs is left for a place of the buffer now
-pub record Left (whole : List ℕ) (start : ℕ) (first : List ℕ) (fs : List (List ℕ)) (at : ℕ) (now : List ℕ)
+pub record FieldsLeft (whole : List ℕ) (start : ℕ) (first : List ℕ) (fs : List (List ℕ)) (at : ℕ) (now : List ℕ)
     : Type 0 where
   pub fits : FieldFits (line fs) at now
   pub then : (r : ℕ) (last : List ℕ) → FieldPut (line fs) at now r last → FieldPut whole start first r last
 
 pub left-all : {at : ℕ} {out : List ℕ} (fs : List (List ℕ)) → FieldFits (line fs) at out
-    → Left (line fs) at out fs at out
+    → FieldsLeft (line fs) at out fs at out
 left-all fs h = record { fits = h; then = λ r last a. a }
 
 module _ {whole : List ℕ} {start : ℕ} {first f : List ℕ} {at : ℕ} {now : List ℕ} where
-  module _ {g : List ℕ} {fs : List (List ℕ)} (l : Left whole start first (f ∷ g ∷ fs) at now) where
+  module _ {g : List ℕ} {fs : List (List ℕ)} (l : FieldsLeft whole start first (f ∷ g ∷ fs) at now) where
     -- the next field fits
     pub left-room : FieldFits (ended f 32) at now
     unfolding line
     left-room = fits-first (ended f 32) (line (g ∷ fs)) (l .fits)
 
     -- the next field was put
-    pub left-on : {r : ℕ} {next : List ℕ} → FieldPut (ended f 32) at now r next → Left whole start first (g ∷ fs) r next
+    pub left-on : {r : ℕ} {next : List ℕ} → FieldPut (ended f 32) at now r next
+        → FieldsLeft whole start first (g ∷ fs) r next
     unfolding line
     left-on a = record { fits = fits-then (l .fits) a; then = λ r last b. l .then r last (added-both a b) }
 
-  module _ (l : Left whole start first (f ∷ []) at now) where
+  module _ (l : FieldsLeft whole start first (f ∷ []) at now) where
     -- the last field fits
     pub last-room : FieldFits (ended f 10) at now
     unfolding line
@@ -162,7 +98,8 @@ module _ {whole : List ℕ} {start : ℕ} {first f : List ℕ} {at : ℕ} {now :
 pub numbers-left : (d : StructDef) (bits : ℕ) {id size count long bytes at : ℕ} {out : List ℕ} → id ≡ d .id
     → size ≡ d .size → count ≡ d .count → long ≡ bytes
     → FieldFits (line (typeNumbers (d .id) (d .size) (d .count) bytes bits)) at out
-    → Left (line (typeNumbers (d .id) (d .size) (d .count) bytes bits)) at out (typeNumbers id size count long bits)
+    → FieldsLeft (line (typeNumbers (d .id) (d .size) (d .count) bytes bits)) at out
+    (typeNumbers id size count long bits)
     at out
 numbers-left d bits {bytes = bytes} p q r s h =
     rw (p, q, r, s) (left-all (typeNumbers (d .id) (d .size) (d .count) bytes bits) h)
@@ -170,7 +107,7 @@ numbers-left d bits {bytes = bytes} p q r s h =
 -- all of a member's count, offset, bit and name is left, as the code has the count and the offset
 pub place-left : (m : Member) (name : List ℕ) {count offset at : ℕ} {out : List ℕ} → count ≡ m .count
     → offset ≡ m .offset → FieldFits (line (memberPlace m name)) at out
-    → Left (line (memberPlace m name)) at out (digits count ∷ digits offset ∷ bitText (m .bit) ∷ name ∷ []) at out
+    → FieldsLeft (line (memberPlace m name)) at out (digits count ∷ digits offset ∷ bitText (m .bit) ∷ name ∷ []) at out
 place-left m name p q h = rw (p, q) (left-all (memberPlace m name) h)
 
 -- ---- lines of 512 bytes
@@ -202,7 +139,7 @@ atomic-5 DWord = omega arith
 atomic-5 LWord = omega arith
 
 short-long : (names : List ℕ) {s : Span} → Short s → length (nameIn names s) ≤ 200
-short-long names {s} h = omega (arith, name-long names (s .at) (s .long), h .most)
+short-long names {s} h = omega (arith, part-most names (s .at) (s .long), h .most)
 
 type-long : (types names : List ℕ) (t : Ty) → TypeNamed types t → length (printedType (structNames types names) t) ≤ 200
 type-long types names (Atomic a) h = omega (arith, atomic-5 a)
@@ -215,7 +152,8 @@ module _ (names : List ℕ) (d : StructDef) (bytes bits : ℕ) where
   typeFields = typeWord ∷ nameIn names (d .name) ∷ typeNumbers (d .id) (d .size) (d .count) bytes bits
 
   -- a type's line with a short name fits into 512 bytes, and all of it is left
-  pub type-left : {out : List ℕ} → Short (d .name) → 512 ≤ length out → Left (line typeFields) 0 out typeFields 0 out
+  pub type-left : {out : List ℕ} → Short (d .name) → 512 ≤ length out
+      → FieldsLeft (line typeFields) 0 out typeFields 0 out
   unfolding line
   type-left h k =
       left-all typeFields record {
@@ -232,7 +170,7 @@ module _ (names : List ℕ) (d : StructDef) (bytes bits : ℕ) where
       }
 
   -- the fields of a type put one after the other are its line
-  pub type-lined : {r : ℕ} {out left : List ℕ} → Left (line typeFields) 0 out typeFields 0 out
+  pub type-lined : {r : ℕ} {out left : List ℕ} → FieldsLeft (line typeFields) 0 out typeFields 0 out
       → FieldPut (line typeFields) 0 out r left
       → Lined (typeLine (nameIn names (d .name)) (d .id) (d .size) (d .count) bytes bits) out r left
   unfolding typeLine
@@ -247,7 +185,7 @@ module _ (types names : List ℕ) (number : ℕ) (m : Member) (name : Span) wher
       ∷ memberPlace m (nameIn names name)
 
   pub member-left : {out : List ℕ} → TypeNamed types (m .ty) → Short name → 512 ≤ length out
-      → Left (line memberFields) 0 out memberFields 0 out
+      → FieldsLeft (line memberFields) 0 out memberFields 0 out
   unfolding line
   member-left t h k =
       left-all memberFields record {
@@ -265,7 +203,7 @@ module _ (types names : List ℕ) (number : ℕ) (m : Member) (name : Span) wher
       }
 
   -- the fields of a member put one after the other are its line
-  pub member-lined : {r : ℕ} {out left : List ℕ} → Left (line memberFields) 0 out memberFields 0 out
+  pub member-lined : {r : ℕ} {out left : List ℕ} → FieldsLeft (line memberFields) 0 out memberFields 0 out
       → FieldPut (line memberFields) 0 out r left
       → Lined (memberLine number (printedType (structNames types names) (m .ty)) m (nameIn names name)) out r left
   unfolding memberLine
@@ -278,7 +216,7 @@ module _ (number place : ℕ) where
   refusedFields = refusedWord ∷ digits number ∷ digits place ∷ []
 
   -- a refusal's line fits into 512 bytes, and all of it is left
-  pub refused-left : {out : List ℕ} → 512 ≤ length out → Left (line refusedFields) 0 out refusedFields 0 out
+  pub refused-left : {out : List ℕ} → 512 ≤ length out → FieldsLeft (line refusedFields) 0 out refusedFields 0 out
   unfolding line
   refused-left k =
       left-all refusedFields record {
@@ -286,7 +224,7 @@ module _ (number place : ℕ) where
       }
 
   -- the fields of a refusal put one after the other are its line
-  pub refused-lined : {r : ℕ} {out left : List ℕ} → Left (line refusedFields) 0 out refusedFields 0 out
+  pub refused-lined : {r : ℕ} {out left : List ℕ} → FieldsLeft (line refusedFields) 0 out refusedFields 0 out
       → FieldPut (line refusedFields) 0 out r left
       → Lined (refusedLine number place) out r left
   unfolding refusedLine
@@ -324,5 +262,5 @@ module _ {types members : List ℕ} {d e : StructDef} {first k : ℕ} (q : d ≡
   -- all of its line is left
   pub row-left : (names : List ℕ) {m : Member} {name : Span} {out : List ℕ} → m ≡ memberAt members (first + k)
       → name ≡ nameAt members (first + k) → 512 ≤ length out
-      → Left (line (memberFields types names k m name)) 0 out (memberFields types names k m name) 0 out
+      → FieldsLeft (line (memberFields types names k m name)) 0 out (memberFields types names k m name) 0 out
   row-left names {m} {name} a b g = member-left types names k m name (row-named a) (row-short b) g

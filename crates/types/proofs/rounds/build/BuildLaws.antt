@@ -10,7 +10,7 @@ use Rattle.words.specs.Words.{Bytes}
 use Rattle.types.specs.atomics.Lookup.{rowNames}
 use Rattle.types.specs.book.Contents.{bookOk}
 use Rattle.types.specs.inside.rounds.Build.{FirstWaits, Cleared, RunIn, waits}
-use Rattle.types.specs.inside.rounds.OneRound.{roundIn, Reached, RoundIn, RoundMade, Goes}
+use Rattle.types.specs.inside.rounds.OneRound.{roundIn, Reached, RoundIn, RoundMade, RoundGoes}
 use Rattle.types.specs.inside.rounds.Turns.{Tries}
 use Rattle.types.specs.inside.tables.Registry.{Stands}
 use Rattle.types.specs.layout.Predefined.{predefinedIds, predefined}
@@ -118,7 +118,7 @@ module _ {book tys₀ f₀ k₀ r₀ t m n tys f k r : List ℕ} {start : List D
 
     -- a round that refused no type
     module _ (u′ : Used) (left′ : ℕ) (e : x ≡ Went u′ left′) where
-      goes : Goes book T (roundIn book (g .outer .ds) (waits f 0 T)) t′ m′ n′ f′ k′ r′ u′ left′
+      goes : RoundGoes book T (roundIn book (g .outer .ds) (waits f 0 T)) t′ m′ n′ f′ k′ r′ u′ left′
       goes =
           let o = g .outer in
           (rw e at h) .each (o .ds) (o .reached) (o .stands)

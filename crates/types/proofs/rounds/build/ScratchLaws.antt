@@ -1,15 +1,16 @@
 -- Laws of the scratch of a build (document 01, "Order of building"): how long it must be for a book, and that a local
 -- one of zeros will do.
-use Prim.Native.Nat.{ℕ, zero, suc, _<_, _≤_}
+use Prim.Native.Nat.{ℕ, _<_, _≤_}
 use native.Mathlib.Omega.{arith}
-use mathlib.Core.Path.{_≡_, refl, sym, _∙_}
+use mathlib.Core.Path.{_≡_, sym, _∙_}
 use mathlib.Core.Bool.{true, true≢false}
 use mathlib.Core.List.{List}
 use borrow.Author.Tests.{leb-true}
 use lib.Dec.{leb}
-use lib.ListN.{length, getD, replicate, length-replicate}
+use lib.ListN.{length, replicate, length-replicate}
 use Rattle.words.specs.Words.{Bytes}
 use Rattle.words.proofs.WordLaws.{word-below}
+use Rattle.words.proofs.Lists.{zero-at}
 use Rattle.types.specs.book.Contents.{typesIn, membersIn, bookOk}
 use Rattle.types.specs.inside.rounds.Build.{AtMost, Scratch}
 use Rattle.types.proofs.book.BookLaws.{book-short}
@@ -39,11 +40,6 @@ few-all {book} h =
 
 -- ---- local scratch
 
-unset : (n k : ℕ) → _≡_ {A = ℕ} (getD (replicate n 0) k 0) 0
-unset zero k = refl
-unset (suc n) zero = refl
-unset (suc n) (suc k) = unset n k
-
 -- m zeros and three times t zeros are a scratch for a book of at most t types and m members
 pub scratch-local : {book : List ℕ} (t m : ℕ) → AtMost book t m
     → Scratch book (replicate m 0) (replicate t 0) (replicate t 0) (replicate t 0)
@@ -51,8 +47,8 @@ scratch-local {book} t m a =
     record {
       room = λ q. rw (length-replicate {A = ℕ} m 0) (a .members q);
       flags = λ q. rw (length-replicate {A = ℕ} t 0) (a .types q);
-      unset = unset t;
+      unset = zero-at t;
       members = λ q. rw (length-replicate {A = ℕ} t 0) (a .types q);
       rows = λ q. rw (length-replicate {A = ℕ} t 0) (a .types q);
-      untried = unset t;
+      untried = zero-at t;
     }

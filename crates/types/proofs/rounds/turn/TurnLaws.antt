@@ -58,12 +58,12 @@ all-found known (s ∷ ss) l = go (typeAmong known s) l (all-found known ss)
 -- ---- each word is that of the type that was found
 
 -- the type of a name that is known
-pub record Known (known : List (List ℕ)) (s : List ℕ) : Type 0 where
+pub record KnownName (known : List (List ℕ)) (s : List ℕ) : Type 0 where
   pub ty : Ty
   pub is : typeAmong known s ≡ Is ty
 
 known-one : (known : List (List ℕ)) (s : List ℕ) (f : FoundTy) (b : Bool) → typeAmong known s ≡ f
-    → (isFound f && b) ≡ true → Known known s
+    → (isFound f && b) ≡ true → KnownName known s
 known-one known s (Is ty) b e q = record { ty = ty; is = e }
 known-one known s Nothing b e q = absurd (true≢false (sym q))
 
@@ -75,13 +75,13 @@ module _ (known : List (List ℕ)) (f : ℕ → List ℕ) where
   -- the first word, and a later one
   abbrev WordAt : ℕ → ℕ → ℕ → Type 0
   WordAt j n k =
-      (w : Known known (f (j + k))) × (getD (foundWords known (listFrom f j n)) k 0 ≡ tyWord (w .ty))
+      (w : KnownName known (f (j + k))) × (getD (foundWords known (listFrom f j n)) k 0 ≡ tyWord (w .ty))
 
-  first-word : (j n : ℕ) → Known known (f j) → WordAt j (suc n) 0
+  first-word : (j n : ℕ) → KnownName known (f j) → WordAt j (suc n) 0
   unfolding listFrom foundWords
   first-word j n w = let e : j + 0 ≡ j = omega arith in rw e (w, rw (w .is))
 
-  later-word : (j n k : ℕ) → Known known (f j) → WordAt (j + 1) n k → WordAt j (suc n) (suc k)
+  later-word : (j n k : ℕ) → KnownName known (f j) → WordAt (j + 1) n k → WordAt j (suc n) (suc k)
   unfolding listFrom foundWords
   later-word j n k w r = let e : j + suc k ≡ j + 1 + k = omega arith in rw e (r .0, rw (w .is) (r .1))
 
@@ -115,10 +115,10 @@ module _ (types names book tys : List ℕ) (u : Used) (at n : ℕ) where
 
   module _ (a : allKnown hasName (view .names) uses ≡ true) (l : n ≤ length tys) where
     word-at : (k : ℕ) → k < n
-        → (w : Known (view .names) (typeName book at k)) × (tyOf (getD scratch k 0) ≡ w .ty)
+        → (w : KnownName (view .names) (typeName book at k)) × (tyOf (getD scratch k 0) ≡ w .ty)
     word-at k h =
         let long = words-long (view .names) (typeName book at) 0 n a in
-        let r : (w : Known (view .names) (typeName book at k))
+        let r : (w : KnownName (view .names) (typeName book at k))
         × (getD (foundWords (view .names) uses) k 0 ≡ tyWord (w .ty))
         = rw zero-add at (words-at (view .names) (typeName book at) 0 n a k h) in
         let s : getD scratch k 0 ≡ getD (foundWords (view .names) uses) k 0
@@ -157,7 +157,7 @@ module _ (types names book tys : List ℕ) (u : Used) (at n : ℕ) where
     decls-from j zero h = refl
     decls-from j (suc m) h = go (word-at j (omega arith)) (decls-from (j + 1) m (omega arith))
       where
-        go : ((w : Known (view .names) (typeName book at j)) × (tyOf (getD scratch j 0) ≡ w .ty))
+        go : ((w : KnownName (view .names) (typeName book at j)) × (tyOf (getD scratch j 0) ≡ w .ty))
             → declsFrom types book scratch at (j + 1) m ≡ declsOf view book (entriesFrom book at (j + 1) m)
             → _≡_ {A = List Decl}
             (declared (sizesIn types) (tyOf (getD scratch j 0)) (entryOf book at j)

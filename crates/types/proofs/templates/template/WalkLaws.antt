@@ -6,17 +6,18 @@ use mathlib.Core.Path.{_≡_, refl, ap, _∙_}
 use mathlib.Core.Bool.{Bool, true, false, cond}
 use mathlib.Core.List.{List, [], _∷_, _++_, append-nil}
 use lib.ListN.{length, length-append}
+use Rattle.words.proofs.Lists.{part-most}
 use Rattle.types.specs.inside.tables.Defs.{Readable}
 use Rattle.types.specs.inside.templates.Pieces.{infosIn, shownIn, namesIn, frontIn}
-use Rattle.types.specs.inside.templates.Sink.{Room, Emitted}
+use Rattle.types.specs.inside.templates.Sink.{SinkRoom, Emitted}
 use Rattle.types.specs.tables.Defs.{nameIn, partsAt, defOf}
 use Rattle.types.specs.tables.TypeWord.{idsIn}
 use Rattle.types.specs.templates.Template.{userId, padding, memberIds, frontOf, templateOf, templateIn}
 use Rattle.types.specs.declared.tables.member.StructDef.{StructDef}
 use Rattle.types.specs.declared.templates.sink.Sink.{Sink}
-use Rattle.types.proofs.templates.SinkLaws.{Left, left-all, left-room, left-on}
-use Rattle.types.proofs.templates.TemplateLaws.{infos-any, parts-long, infos-long, names-long, name-long}
-use Rattle.types.proofs.templates.TemplateLaws.{shown-long, padding-long, ids-long}
+use Rattle.types.proofs.templates.SinkLaws.{PiecesLeft, left-all, left-room, left-on}
+use Rattle.types.proofs.templates.TemplateLaws.{infos-any, parts-long, infos-long, names-long, shown-long}
+use Rattle.types.proofs.templates.TemplateLaws.{padding-long, ids-long}
 
 module _ (types members names : List ℕ) (d : StructDef) where
   -- ---- the pieces of a template
@@ -36,14 +37,14 @@ module _ (types members names : List ℕ) (d : StructDef) where
   template-is = rw (parts-long members names (d .first) (d .count))
 
   -- a sink that can take the template can take the part that every template has
-  pub front-room : {k : Sink} {out : List ℕ} → Room (templateIn types members names d) k out
-      → Room (frontIn types members names d) k out
+  pub front-room : {k : Sink} {out : List ℕ} → SinkRoom (templateIn types members names d) k out
+      → SinkRoom (frontIn types members names d) k out
   front-room h = left-room _ (tail (userId (d .id))) template-is (left-all h)
 
   -- a user's type: the padding and the member ids are left
   pub front-user : {user : Bool} {k m : Sink} {out left : List ℕ} → user ≡ userId (d .id) → user ≡ true → k .at ≡ 0
-      → Room (templateIn types members names d) k out → Emitted (frontIn types members names d) k out m left
-      → Left (templateIn types members names d) k out (padding (m .at) ++ memberIds 0 (d .count)) m left
+      → SinkRoom (templateIn types members names d) k out → Emitted (frontIn types members names d) k out m left
+      → PiecesLeft (templateIn types members names d) k out (padding (m .at) ++ memberIds 0 (d .count)) m left
   front-user {user} {k} {m} p q z h e =
       let at : m .at ≡ length (frontIn types members names d) = omega (arith, e .at) in
       left-on _ (template-is ∙ rw (← p, q, at) (unfold tail in refl)) (left-all h) e
@@ -78,7 +79,7 @@ module _ (types members names : List ℕ) (d : StructDef) where
         infos-are,
         names-are,
         shown-long (d .kind) (d .id) (nameIn names (d .name)),
-        name-long names (d .name .at) (d .name .long),
+        part-most names (d .name .at) (d .name .long),
         tail-small (userId (d .id)),
       )))
 
@@ -86,7 +87,7 @@ module _ (types members names : List ℕ) (d : StructDef) where
 
 -- a sink at its start that does not write can take any bytes up to 2^31
 pub quiet-room : {s out : List ℕ} {fold : ℕ} → length s ≤ 2 ^ 31
-    → Room s (record { at = 0; fold = fold; writes = false }) out
+    → SinkRoom s (record { at = 0; fold = fold; writes = false }) out
 quiet-room {s} {out} {fold} h =
     record {
       small = omega arith;
@@ -97,5 +98,5 @@ quiet-room {s} {out} {fold} h =
 
 -- a sink at its start that writes can take up to 2^31 bytes that the buffer has room for
 pub writing-room : {s out : List ℕ} {fold : ℕ} → length s ≤ 2 ^ 31 → length s ≤ length out
-    → Room s (record { at = 0; fold = fold; writes = true }) out
+    → SinkRoom s (record { at = 0; fold = fold; writes = true }) out
 writing-room {s} {out} {fold} h l = record { small = omega arith; room = λ w. omega arith }

@@ -27,18 +27,18 @@ whole-bits types m e f p q h = record { is = rw (e, f, p, q); small = rw (p, q) 
 -- ---- the rows
 
 -- the bits of the rows before row i of n, and of those from it on, are the bits of all
-pub record Counting (types members : List ℕ) (first n bits i : ℕ) : Type 0 where
+pub record CountingBits (types members : List ℕ) (first n bits i : ℕ) : Type 0 where
   pub inside : i ≤ n
   pub small : bits ≤ i * 2 ^ 31
   pub rest : (names : List ℕ) → visibleBits (sizesIn types) (partsAt members names first n)
       ≡ bits + visibleBits (sizesIn types) (partsAt members names (first + i) (n - i))
 
 -- before the first row no bits are counted, and those of all rows are left
-pub count-first : (types members : List ℕ) (first n : ℕ) → Counting types members first n 0 0
+pub count-first : (types members : List ℕ) (first n : ℕ) → CountingBits types members first n 0 0
 count-first types members first n =
     record { inside = omega arith; small = omega arith; rest = λ names. rw (add-zero, sub-zero) (omega arith) }
 
-module _ {types members : List ℕ} {first n bits i : ℕ} (w : Counting types members first n bits i) where
+module _ {types members : List ℕ} {first n bits i : ℕ} (w : CountingBits types members first n bits i) where
   count-step : {more : ℕ} → i < n → SeenBits types (memberAt members (first + i)) more → (names : List ℕ)
       → bits + visibleBits (sizesIn types) (partsAt members names (first + i) (n - i))
       ≡ bits + more + visibleBits (sizesIn types) (partsAt members names (first + (i + 1)) (n - (i + 1)))
@@ -47,7 +47,7 @@ module _ {types members : List ℕ} {first n bits i : ℕ} (w : Counting types m
 
   -- the bits of the next row are counted, and those of the rows after it are left
   pub count-on : {more : ℕ} → i < n → SeenBits types (memberAt members (first + i)) more
-      → Counting types members first n (bits + more) (i + 1)
+      → CountingBits types members first n (bits + more) (i + 1)
   count-on h s =
       record {
         inside = omega arith;

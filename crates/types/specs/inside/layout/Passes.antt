@@ -157,7 +157,7 @@ pub record HostPut (i row at : ℕ) (m₀ t₀ m t : List ℕ) (r : ℕ) : Type 
   pub names : t ≡ sets t₀ at (namesOf (named (bitHostName i) (bitHostAt i) ∷ []))
 
 -- some parts are stored from a row and a place on, and the place after their names is answered
-pub record Put (ps : List Part) (row place : ℕ) (m₀ t₀ m t : List ℕ) (r : ℕ) : Type 0 where
+pub record PartsPut (ps : List Part) (row place : ℕ) (m₀ t₀ m t : List ℕ) (r : ℕ) : Type 0 where
   pub next : r ≡ place + length (namesOf ps)
   pub rows : m ≡ sets m₀ (8 * row) (rowsOf place ps)
   pub names : t ≡ sets t₀ place (namesOf ps)

@@ -3,13 +3,11 @@
 use Prim.Native.Nat.{ℕ, _+_, _<_, _≤_}
 use mathlib.Core.List.{List}
 use mathlib.Core.Path.{_≡_}
-use lib.ListN.{length, drop}
+use lib.ListN.{length}
 use lib.Seq.{sets}
 use Rattle.types.specs.inside.templates.Waste.{Countable}
-use Rattle.types.specs.layout.HostNames.{digits}
 use Rattle.types.specs.tables.Lent.{memberAt, nameAt, typeAt}
 use Rattle.types.specs.tables.Limits.{mostTypes, mostNames}
-use Rattle.types.specs.declared.listing.lines.Decimal.{Decimal}
 use Rattle.types.specs.declared.tables.member.Span.{Span}
 use Rattle.types.specs.declared.tables.member.StructDef.{StructDef}
 use Rattle.types.specs.declared.tables.member.Ty.{Ty}
@@ -50,9 +48,3 @@ pub record Lined (s out : List ℕ) (r : ℕ) (left : List ℕ) : Type 0 where
   pub long : r ≡ length s
   pub room : length s ≤ length out
   pub bytes : left ≡ sets out 0 s
-
--- a number's digits, as code has them
-pub record Spelt (x : ℕ) (r : Decimal) : Type 0 where
-  pub is : drop (r .from) (r .bytes) ≡ digits x
-  pub inside : r .from ≤ 20
-  pub long : length (r .bytes) ≡ 20

@@ -46,7 +46,7 @@ pub record RoundIn (book : List ℕ) (t : ℕ) (u : Used) (left : ℕ)
   pub tries : Tries book (rowNames types names (u .types)) stuck tried
 
 -- what a round leaves that refused no type: the tables of the registry after it, flags of the types that still wait
-pub record Goes (book : List ℕ) (t : ℕ) (o : Out (List Def) Why) (types members names done stuck tried : List ℕ)
+pub record RoundGoes (book : List ℕ) (t : ℕ) (o : Out (List Def) Why) (types members names done stuck tried : List ℕ)
     (u : Used) (left : ℕ) : Type 0 where
   pub defs : List Def
   pub is : o ≡ went defs (waits done 0 t)
@@ -58,7 +58,7 @@ pub record Goes (book : List ℕ) (t : ℕ) (o : Out (List Def) Why) (types memb
 module _ (book : List ℕ) (t : ℕ) (o : Out (List Def) Why) (types members names done stuck tried : List ℕ) where
   abbrev pub Leaves : Round → Type 0
   Leaves (Refused x) = o ≡ stop (whyOf x)
-  Leaves (Went u left) = Goes book t o types members names done stuck tried u left
+  Leaves (Went u left) = RoundGoes book t o types members names done stuck tried u left
 
 -- so for any registry that stood in the tables before, and the flags of that time
 pub record RoundMade (book : List ℕ) (t : ℕ) (u : Used) (types₀ members₀ names₀ done₀ : List ℕ)

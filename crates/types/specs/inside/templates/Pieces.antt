@@ -5,7 +5,7 @@ use mathlib.Core.List.{List, []}
 use mathlib.Core.Path.{_≡_}
 use lib.ListN.{length}
 use Rattle.types.specs.inside.tables.Defs.{Readable}
-use Rattle.types.specs.inside.templates.Sink.{Room}
+use Rattle.types.specs.inside.templates.Sink.{SinkRoom}
 use Rattle.types.specs.tables.Defs.{nameIn, partsAt, defOf}
 use Rattle.types.specs.tables.Limits.{mostNames}
 use Rattle.types.specs.tables.TypeWord.{idsIn}
@@ -39,7 +39,7 @@ frontIn types members names d = frontOf (idsIn types) (defOf members names d)
 pub record Emittable (members names : List ℕ) (d : StructDef) (s : List ℕ) (k : Sink) (out : List ℕ) : Type 0 where
   pub rows : Readable members d
   pub table : length names ≡ mostNames
-  pub room : Room s k out
+  pub room : SinkRoom s k out
 
 -- a sink that took the bytes s from the start on
 pub record EmittedAll (s : List ℕ) (r : Sink) : Type 0 where

@@ -10,7 +10,7 @@ use Rattle.types.specs.templates.Handle.{foldFrom}
 use Rattle.types.specs.declared.templates.sink.Sink.{Sink}
 
 -- a sink at a buffer can take these bytes
-pub record Room (s : List ℕ) (k : Sink) (out : List ℕ) : Type 0 where
+pub record SinkRoom (s : List ℕ) (k : Sink) (out : List ℕ) : Type 0 where
   pub small : k .at + length s ≤ 2 ^ 31
   pub room : k .writes ≡ true → k .at + length s ≤ length out
 

@@ -2,7 +2,6 @@
 -- are as they are, and a string.
 use Prim.Native.Nat.{ℕ, zero, suc, _+_, _-_, _*_, _/_, _≤_, _<_, min}
 use native.Mathlib.Nat.{add-zero, mul-one, suc-mul}
-use native.Mathlib.Decide.{decLt}
 use native.Mathlib.Omega.{arith}
 use mathlib.Core.Path.{_≡_, refl, sym, ap, ap₂, _∙_, fun-ext}
 use mathlib.Core.Bool.{Bool, true, false, cond, _&&_}
@@ -13,14 +12,15 @@ use lib.Seq.{sets, length-sets}
 use borrow.Author.Tests.{lt-ltb, le-ltb}
 use Rattle.words.specs.Bits.{Bits, bitOf, digit, flat, from, inside, stamp, val}
 use Rattle.words.specs.Words.{Bytes, bytesOf, wordAt}
-use Rattle.words.proofs.BitLaws.{Lies, among, beside, byte-val, flat-set, lies, word-val}
+use Rattle.words.proofs.BitLaws.{BitLies, among, beside, byte-val, flat-set, lies, word-val}
 use Rattle.words.proofs.StampLaws.{flat-word}
+use Rattle.words.proofs.ArithLaws.{after, before}
 use Rattle.types.specs.atomics.Atomic.{bitString, sizeOf}
 use Rattle.types.specs.layout.Placing.{times}
 use Rattle.types.specs.declared.atomics.atomic.Atomic.{Atomic}
 use Rattle.types.specs.declared.atomics.atomic.Atomic.the-variants as atomic
 use Rattle.values.specs.inside.normal_image.InPlace.{cleared, eachMade, made}
-use Rattle.values.specs.inside.normal_image.Placed.{Placed}
+use Rattle.values.specs.inside.normal_image.Placed.{TreePlaced}
 use Rattle.values.specs.inside.reading.Numbers.{formOf}
 use Rattle.values.specs.normal_image.Normal.{norm, normal}
 use Rattle.values.specs.reading.Leaf.{Leaf, flag, byte, str, width, isTrue, clipped, leafOf}
@@ -33,20 +33,6 @@ use Rattle.values.proofs.writing.ClearLaws.{zeros-cleared}
 
 -- ---- a bit beside some others is after them, or before them
 
-after : (p n k : ℕ) → p ≤ k → (p ≤ k → k < p + n → ⊥) → p + n ≤ k
-after p n k a f = go (decLt k (p + n))
-  where
-    go : Dec (k < p + n) → p + n ≤ k
-    go (yes l) = absurd (f a l)
-    go (no l) = omega (arith, l)
-
-before : (p n k : ℕ) → (p ≤ k → k < p + n → ⊥) → k < p + n → k < p
-before p n k f b = go (decLt k p)
-  where
-    go : Dec (k < p) → k < p
-    go (yes l) = l
-    go (no l) = absurd (f (omega (arith, l)) b)
-
 -- ---- atomics that are as they are
 
 -- a tree whose normal bits are the image's
@@ -55,7 +41,7 @@ kept : (t : Tree) (p : ℕ) (x : Bits) → ((k : ℕ) → p ≤ k → k < p + sp
 unfolding made
 kept t p x h = fun-ext (λ k. go k (lies p (span t) k))
   where
-    go : (k : ℕ) → Lies p (span t) k → cond (inside p (span t) k) (normal (items t p) x k) (x k) ≡ x k
+    go : (k : ℕ) → BitLies p (span t) k → cond (inside p (span t) k) (normal (items t p) x k) (x k) ≡ x k
     go k (among a b e) = rw e (h k a b)
     go k (beside f e) = rw e refl
 
@@ -67,7 +53,7 @@ module _ (l : Leaf) (same : (b : Bits) (k : ℕ) → norm l b k ≡ b k) where
   each-kept zero p x k a b = absurd (let z : ⊥ = omega arith in z)
   each-kept (suc n) p x k a b = go (lies p (width l) k) (λ c d. each-kept n (p + width l) x k c d)
     where
-      go : Lies p (width l) k
+      go : BitLies p (width l) k
           → (p + width l ≤ k → k < p + width l + n * width l
           → normal (each n (λ q. at q l ∷ []) (width l) (p + width l)) x k ≡ x k)
           → cond (inside p (width l) k) (norm l (from p x) (k - p))
@@ -82,7 +68,7 @@ module _ (l : Leaf) (same : (b : Bits) (k : ℕ) → norm l b k ≡ b k) where
   unfolding items span normal
   leaf-kept full p x = kept (leaf l) p x (λ k a b. go k a (lies p (width l) k) (rw full at b))
     where
-      go : (k : ℕ) → p ≤ k → Lies p (width l) k → k < p + width l
+      go : (k : ℕ) → p ≤ k → BitLies p (width l) k → k < p + width l
           → cond (inside p (width l) k) (norm l (from p x) (k - p)) false ≡ x k
       go k a (among u v e) b = let j : p + (k - p) ≡ k = omega arith in rw e (same (from p x) (k - p) ∙ ap x j)
       go k a (beside f e) b = absurd (f a b)
@@ -159,7 +145,7 @@ byte-made image i {x} {y} l e small d =
     same : y ≡ digit (isTrue (val 8 (from (8 * i) (flat image))))
     same = d ∙ ap (λ v. digit (isTrue v)) (e ∙ sym (byte-val image i (omega arith)))
 
-    go : (k : ℕ) → Lies (8 * i) 8 k
+    go : (k : ℕ) → BitLies (8 * i) 8 k
         → cond (inside (8 * i) 8 k) (bitOf y (k - 8 * i)) (flat image k)
         ≡ cond (inside (8 * i) 8 k)
         (cond (inside (8 * i) 8 k) (bitOf (digit (isTrue (val 8 (from (8 * i) (flat image))))) (k - 8 * i)) false)
@@ -237,7 +223,7 @@ bools-made a e n m p x d = rw (kind-one a e, d) (go (many n))
     go : Many n
         → eachMade (times n) (made (leaf byte)) 8 p x ≡ made (cond (eqb n 0) (leaf byte) (array n (leaf byte))) p x
     go (one b t) = rw (b, t) refl
-    go (some b t) = rw (b, t) (unfold span Placed in array-made n (leaf byte) p x tt)
+    go (some b t) = rw (b, t) (unfold span TreePlaced in array-made n (leaf byte) p x tt)
 
 -- ---- a string
 
@@ -270,7 +256,7 @@ module _ (capacity base n : ℕ) (image : List ℕ) where
 
   -- a bit of the text
   text-inner : n ≤ capacity → (k : ℕ) → inside (8 * base) (32 + 32 * ((capacity + 3) / 4)) k ≡ true
-      → Lies (8 * base) (32 + 8 * capacity) k → inside (8 * (base + 4 + n)) (8 * (data-room - n)) k ≡ false
+      → BitLies (8 * base) (32 + 8 * capacity) k → inside (8 * (base + 4 + n)) (8 * (data-room - n)) k ≡ false
       → inside (8 * base) 32 k ≡ false → 8 * base + 32 ≤ k → k < 8 * (base + 4 + n) → stored k ≡ told k
   unfolding stamp
   text-inner h k e (among v m w) g r low high =
@@ -281,8 +267,8 @@ module _ (capacity base n : ℕ) (image : List ℕ) where
 
   -- a bit outside, in LEN, among the zeros, or in the text
   text-bit : n ≤ capacity → (k : ℕ)
-      → Lies (8 * base) (32 + 32 * ((capacity + 3) / 4)) k → Lies (8 * base) (32 + 8 * capacity) k
-      → Lies (8 * (base + 4 + n)) (8 * (data-room - n)) k → Lies (8 * base) 32 k
+      → BitLies (8 * base) (32 + 32 * ((capacity + 3) / 4)) k → BitLies (8 * base) (32 + 8 * capacity) k
+      → BitLies (8 * (base + 4 + n)) (8 * (data-room - n)) k → BitLies (8 * base) 32 k
       → stored k ≡ told k
   unfolding stamp
   text-bit h k (beside f e) w (among a b g) d = absurd (f (omega arith) (omega arith))

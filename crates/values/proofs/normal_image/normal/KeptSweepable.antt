@@ -15,7 +15,7 @@ use Rattle.types.specs.declared.tables.member.Member.{Member}
 use Rattle.types.specs.declared.tables.member.Ty.{Ty}
 use Rattle.types.specs.declared.tables.member.Ty.the-variants as ty
 use Rattle.values.specs.inside.normal_image.InPlace.{isPlain, pastTree}
-use Rattle.values.specs.inside.normal_image.Placed.{Disjoint, If, Placed, Stairs, Sweepable}
+use Rattle.values.specs.inside.normal_image.Placed.{Disjoint, If, TreePlaced, Stairs, Sweepable}
 use Rattle.values.specs.inside.writing.Rows.{memberTree, treeIn}
 use Rattle.values.specs.reading.Trees.{membersAt}
 use Rattle.values.proofs.normal_image.DisjointLaws.{member-placed}
@@ -26,17 +26,17 @@ use Rattle.values.proofs.reading.SpanLaws.{bit-span, sound-all, sound-b
 -- ---- rows that rise
 
 -- every plain one of the parts begins at or after bit c
-unfoldable From : ℕ → List Part → Type 0
-From c [] = Unit {0}
-From c (p ∷ ps) = (Plain (p .member) → c ≤ firstBit (p .member)) × From c ps
+unfoldable PlainFrom : ℕ → List Part → Type 0
+PlainFrom c [] = Unit {0}
+PlainFrom c (p ∷ ps) = (Plain (p .member) → c ≤ firstBit (p .member)) × PlainFrom c ps
 
-from-start : (ps : List Part) → From 0 ps
-unfolding From
+from-start : (ps : List Part) → PlainFrom 0 ps
+unfolding PlainFrom
 from-start [] = tt
 from-start (p ∷ ps) = (λ v. omega arith, from-start ps)
 
-from-past : (sizes : ℕ → ℕ) (m : Member) (ps : List Part) → Plain m → Rising sizes m ps → From (pastBit sizes m) ps
-unfolding From Rising
+from-past : (sizes : ℕ → ℕ) (m : Member) (ps : List Part) → Plain m → Rising sizes m ps → PlainFrom (pastBit sizes m) ps
+unfolding PlainFrom Rising
 from-past sizes m [] v r = tt
 from-past sizes m (p ∷ ps) v (r, rs) = (r v, from-past sizes m ps v rs)
 
@@ -52,15 +52,15 @@ module _ {types members : List ℕ} (k : KeptRows types members) where
 
   module _ (i : ℕ) (low : i < mostTypes) where
     -- the plain ones of some rows, from bit c on
-    rows-stairs : (row n c : ℕ) → c ≤ 8 * sizesIn types i → From c (partsAt members (k .names) row n)
+    rows-stairs : (row n c : ℕ) → c ≤ 8 * sizesIn types i → PlainFrom c (partsAt members (k .names) row n)
         → Laid (sizesIn types) i (sizesIn types i) (partsAt members (k .names) row n)
         → Stairs (treeIn types members) (8 * sizesIn types i) (membersAt members row n) c
-    unfolding From Laid partsAt partAt membersAt Stairs
+    unfolding PlainFrom Laid partsAt partAt membersAt Stairs
     rows-stairs row zero c l f d = l
     rows-stairs row (suc n) c l (f, fs) (d, ds) =
         go (isPlain m) refl (rows-stairs (row + 1) n c l fs ds)
         (λ v. rows-stairs (row + 1) n (pastTree (treeIn types members) m) (omega (arith, past, d .inside))
-        (subst (λ (b : ℕ). From b (partsAt members (k .names) (row + 1) n)) (sym past)
+        (subst (λ (b : ℕ). PlainFrom b (partsAt members (k .names) (row + 1) n)) (sym past)
         (from-past (sizesIn types) m (partsAt members (k .names) (row + 1) n) v (d .rising))) ds)
       where
         m : Member
@@ -77,7 +77,7 @@ module _ {types members : List ℕ} (k : KeptRows types members) where
             → (Plain m → Stairs (treeIn types members) (8 * sizesIn types i) (membersAt members (row + 1) n)
             (pastTree (treeIn types members) m))
             → If b
-            ((c ≤ firstBit m) × (Placed (memberTree (treeIn types members) m)
+            ((c ≤ firstBit m) × (TreePlaced (memberTree (treeIn types members) m)
             × Stairs (treeIn types members) (8 * sizesIn types i) (membersAt members (row + 1) n)
             (pastTree (treeIn types members) m)))
             (Stairs (treeIn types members) (8 * sizesIn types i) (membersAt members (row + 1) n) c)

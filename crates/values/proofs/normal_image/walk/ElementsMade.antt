@@ -41,7 +41,7 @@ elements-none {types} {members} {i} count s low z n p x =
     all = ap (count *_) one ∙ mul-zero count
 
 -- the elements before element e are made normal, and so many are left
-pub record Elements (types members : List ℕ) (i count : ℕ) (image : List ℕ) (base size e : ℕ) (now : List ℕ)
+pub record ElementsNormal (types members : List ℕ) (i count : ℕ) (image : List ℕ) (base size e : ℕ) (now : List ℕ)
     : Type 0 where
   pub long : size ≡ sizesIn types i
   pub left : ℕ
@@ -52,7 +52,7 @@ pub record Elements (types members : List ℕ) (i count : ℕ) (image : List ℕ
 
 -- before the first element all are still to be made normal
 pub elements-start : {types members : List ℕ} {i count : ℕ} {image : List ℕ} {base size : ℕ} → size ≡ sizesIn types i
-    → Elements types members i count image base size 0 image
+    → ElementsNormal types members i count image base size 0 image
 elements-start {types} {members} {i} {count} {image} {base} {size} z =
     let e : 8 * (base + size * 0) ≡ 8 * base = omega arith in
     record {
@@ -65,7 +65,7 @@ elements-start {types} {members} {i} {count} {image} {base} {size} z =
 
 module _ {types members : List ℕ} {i count : ℕ} {image : List ℕ} {base size e : ℕ} {now : List ℕ}
     (sweepable : Sweepable types members) (here : AllHere types i count base image)
-    (v : Elements types members i count image base size e now) where
+    (v : ElementsNormal types members i count image base size e now) where
   abbrev tree : Tree
   tree = treeIn types members i
 
@@ -102,13 +102,13 @@ module _ {types members : List ℕ} {i count : ℕ} {image : List ℕ} {base siz
 
     -- and the element made normal is one less to do
     pub element-made : (new : List ℕ) → flat new ≡ made tree place (flat now) → length new ≡ length now
-        → Elements types members i count image base size (e + 1) new
+        → ElementsNormal types members i count image base size (e + 1) new
     unfolding eachMade
     element-made new h same = go (v .left) (v .all) (v .bits)
       where
         go : (left : ℕ) → e + left ≡ count
             → elementsMade left tree place (flat now) ≡ elementsMade count tree (8 * base) (flat image)
-            → Elements types members i count image base size (e + 1) new
+            → ElementsNormal types members i count image base size (e + 1) new
         go zero a b = absurd (let x : ⊥ = omega arith in x)
         go (suc left) a b =
             record {

@@ -3,11 +3,11 @@
 use Prim.Native.Nat.{ℕ, zero, suc, _+_, _-_, _<_}
 use native.Mathlib.Nat.{zero-add}
 use native.Mathlib.Omega.{arith}
-use mathlib.Core.Path.{_≡_, refl, ap, _∙_}
-use mathlib.Core.Bool.{Bool, true, false, cond, _||_}
+use mathlib.Core.Path.{_≡_, refl, _∙_}
+use mathlib.Core.Bool.{Bool, true, false, cond}
 use mathlib.Core.List.{List, [], _∷_}
-use Rattle.words.specs.Bits.{Bits, from, inside, stamp}
-use Rattle.words.proofs.BitLaws.{Lies, among, beside, lies}
+use Rattle.words.specs.Bits.{Bits, from, stamp}
+use Rattle.words.proofs.StampLaws.{one-back}
 use Rattle.types.specs.layout.Laid.{firstBit}
 use Rattle.types.specs.tables.Lent.{memberAt}
 use Rattle.types.specs.declared.tables.member.Member.{Member}
@@ -23,24 +23,9 @@ flagItems p [] = []
 flagItems p (m ∷ ms) = cond (isFlag m) (at (p + firstBit m) flag ∷ flagItems p ms) (flagItems p ms)
 
 -- the bits from number j on are those that x has in the BOOLs' places
-unfoldable pub Same : Bits → Bits → ℕ → ℕ → List Member → Type 0
-Same b x p j [] = Unit {0}
-Same b x p j (m ∷ ms) = (isFlag m ≡ true → b j ≡ x (p + firstBit m)) × Same b x p (j + 1) ms
-
--- one bit put back, and whatever holds after it
-one-back : (b x : Bits) (q j : ℕ) (y : Bits) (k : ℕ) (h : Bool) → b j ≡ x q
-    → cond h (x k) (stamp q 1 (from j b) y k) ≡ cond (inside q 1 k || h) (x k) (y k)
-unfolding stamp
-one-back b x q j y k h e = go (lies q 1 k) h
-  where
-    go : Lies q 1 k → (h : Bool)
-        → cond h (x k) (cond (inside q 1 k) (b (j + (k - q))) (y k)) ≡ cond (inside q 1 k || h) (x k) (y k)
-    go (among l m i) true = rw i refl
-    go (among l m i) false =
-        let f : j + (k - q) ≡ j = omega arith in
-        let g : q ≡ k = omega arith in
-        rw i (ap b f ∙ e ∙ ap x g)
-    go (beside f i) h = rw i refl
+unfoldable pub SameFlags : Bits → Bits → ℕ → ℕ → List Member → Type 0
+SameFlags b x p j [] = Unit {0}
+SameFlags b x p j (m ∷ ms) = (isFlag m ≡ true → b j ≡ x (p + firstBit m)) × SameFlags b x p (j + 1) ms
 
 -- a member that may be a visible BOOL
 back-step : (b x : Bits) (q j : ℕ) (is : List Item) (y : Bits) (k : ℕ) (c : Bool) → (c ≡ true → b j ≡ x q)
@@ -51,9 +36,9 @@ back-step b x q j is y k true e = one-back b x q j y k (held is k) (e refl)
 back-step b x q j is y k false e = refl
 
 -- with the BOOLs put back, each bit that one of them holds is as it was, and every other stands
-pub flagged-is : (b x : Bits) (p j : ℕ) (ms : List Member) → Same b x p j ms → (y : Bits) (k : ℕ)
+pub flagged-is : (b x : Bits) (p j : ℕ) (ms : List Member) → SameFlags b x p j ms → (y : Bits) (k : ℕ)
     → flagged b p j ms y k ≡ cond (held (flagItems p ms) k) (x k) (y k)
-unfolding flagged flagItems Same held
+unfolding flagged flagItems SameFlags held
 flagged-is b x p j [] s y k = refl
 flagged-is b x p j (m ∷ ms) s y k =
     let e : j + 1 ≡ suc j = omega arith in
@@ -64,8 +49,8 @@ flagged-is b x p j (m ∷ ms) s y k =
 same-from : (b x : Bits) (p : ℕ) (members : List ℕ) (first n j : ℕ)
     → ((k : ℕ) → k < n → isFlag (memberAt members (first + k)) ≡ true
     → b (j + k) ≡ x (p + firstBit (memberAt members (first + k))))
-    → Same b x p j (membersAt members first n)
-unfolding Same membersAt
+    → SameFlags b x p j (membersAt members first n)
+unfolding SameFlags membersAt
 same-from b x p members first zero j h = tt
 same-from b x p members first (suc n) j h =
     let g : first + 0 ≡ first = omega arith in
@@ -81,5 +66,5 @@ same-from b x p members first (suc n) j h =
 pub same-rows : (b x : Bits) (p : ℕ) (members : List ℕ) (first n : ℕ)
     → ((k : ℕ) → k < n → isFlag (memberAt members (first + k)) ≡ true
     → b k ≡ x (p + firstBit (memberAt members (first + k))))
-    → Same b x p 0 (membersAt members first n)
+    → SameFlags b x p 0 (membersAt members first n)
 same-rows b x p members first n h = same-from b x p members first n 0 (λ k l f. rw zero-add (h k l f))

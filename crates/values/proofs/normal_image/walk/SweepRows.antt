@@ -16,8 +16,8 @@ use Rattle.types.specs.declared.tables.member.Member.{Member}
 use Rattle.types.specs.declared.tables.member.StructDef.{StructDef}
 use Rattle.values.specs.inside.normal_image.InPlace.{OnwardTo, PlainRow, cleared, isPlain, onward, pastTree}
 use Rattle.values.specs.inside.normal_image.InPlace.{swept}
-use Rattle.values.specs.inside.normal_image.Placed.{Placed, Stairs, Sweepable}
-use Rattle.values.specs.inside.reading.Walkable.{WalkableType, Within}
+use Rattle.values.specs.inside.normal_image.Placed.{TreePlaced, Stairs, Sweepable}
+use Rattle.values.specs.inside.reading.Walkable.{WalkableType, MemberWithin}
 use Rattle.values.specs.inside.writing.Rows.{Here, memberTree, treeIn}
 use Rattle.values.specs.reading.Tree.{Tree}
 use Rattle.values.specs.reading.Trees.{membersAt}
@@ -32,7 +32,7 @@ module _ (trees : ℕ → Tree) (size c : ℕ) (m : Member) (ms : List Member) w
   stairs-past e s = rw e at s
 
   stairs-on : isPlain m ≡ true → Stairs trees size (m ∷ ms) c
-      → (c ≤ firstBit m) × (Placed (memberTree trees m) × Stairs trees size ms (pastTree trees m))
+      → (c ≤ firstBit m) × (TreePlaced (memberTree trees m) × Stairs trees size ms (pastTree trees m))
   unfolding Stairs
   stairs-on e s = rw e at s
 
@@ -158,7 +158,7 @@ module _ {types members : List ℕ} {i : ℕ} {image : List ℕ} {base first cou
     -- a plain one
     module _ (e : isPlain (memberAt members (first + k)) ≡ true) where
       after : (8 * c ≤ firstBit (memberAt members (first + k)))
-          × (Placed (memberTree (treeIn types members) (memberAt members (first + k)))
+          × (TreePlaced (memberTree (treeIn types members) (memberAt members (first + k)))
           × Stairs (treeIn types members) (8 * sizesIn types i) (membersAt members (first + (k + 1)) more)
           (pastTree (treeIn types members) (memberAt members (first + k))))
       after =
@@ -174,7 +174,7 @@ module _ {types members : List ℕ} {i : ℕ} {image : List ℕ} {base first cou
             after = after .0;
           }
         where
-          within : Within types i (sizesIn types i) (memberAt members (first + k))
+          within : MemberWithin types i (sizesIn types i) (memberAt members (first + k))
           within = rw (v .first-is) (type-is .each k (omega (arith, l, v .count-is)))
 
       -- is made normal

@@ -7,13 +7,13 @@ use mathlib.Core.Path.{_≡_, refl, sym, _∙_}
 use mathlib.Core.Bool.{Bool, true, false, cond, true≢false}
 use mathlib.Core.List.{List, [], _∷_, _++_}
 use Rattle.words.specs.Bits.{Bits, inside, stamp}
-use Rattle.words.proofs.BitLaws.{Lies, among, beside, lies}
+use Rattle.words.proofs.BitLaws.{BitLies, among, beside, lies}
 use Rattle.words.proofs.StampLaws.{yes-inside, not-inside}
 use Rattle.words.proofs.TestLaws.{not-true}
 use Rattle.types.specs.layout.Laid.{firstBit}
 use Rattle.types.specs.declared.tables.member.Member.{Member}
 use Rattle.values.specs.inside.normal_image.InPlace.{cleared, isPlain, onward, pastTree, swept}
-use Rattle.values.specs.inside.normal_image.Placed.{If, Placed, Stairs}
+use Rattle.values.specs.inside.normal_image.Placed.{If, TreePlaced, Stairs}
 use Rattle.values.specs.inside.writing.Rows.{memberTree}
 use Rattle.values.specs.normal_image.Normal.{held, normal}
 use Rattle.values.specs.reading.Tree.{Item, Tree, items, span}
@@ -50,7 +50,7 @@ module _ (trees : ℕ → Tree) (size : ℕ) where
   stairs-end (m ∷ ms) c h = go (isPlain m) h (stairs-end ms (pastTree trees m)) (stairs-end ms c)
     where
       go : (b : Bool)
-          → If b ((c ≤ firstBit m) × (Placed (memberTree trees m) × Stairs trees size ms (pastTree trees m)))
+          → If b ((c ≤ firstBit m) × (TreePlaced (memberTree trees m) × Stairs trees size ms (pastTree trees m)))
           (Stairs trees size ms c)
           → (Stairs trees size ms (pastTree trees m) → pastTree trees m ≤ size) → (Stairs trees size ms c → c ≤ size)
           → c ≤ size
@@ -68,7 +68,7 @@ module _ (trees : ℕ → Tree) (size : ℕ) where
       rest = plainItems trees p ms
 
       go : (b : Bool)
-          → If b ((c ≤ firstBit m) × (Placed (memberTree trees m) × Stairs trees size ms (pastTree trees m)))
+          → If b ((c ≤ firstBit m) × (TreePlaced (memberTree trees m) × Stairs trees size ms (pastTree trees m)))
           (Stairs trees size ms c)
           → (Stairs trees size ms (pastTree trees m) → (k : ℕ) → held rest k ≡ true → p + pastTree trees m ≤ k)
           → (Stairs trees size ms c → (k : ℕ) → held rest k ≡ true → p + c ≤ k)
@@ -83,7 +83,8 @@ module _ (trees : ℕ → Tree) (size : ℕ) where
 -- ---- one plain member, then those after it
 
 module _ (trees : ℕ → Tree) (p size : ℕ) (m : Member) (ms : List Member) (c : ℕ)
-    (after : c ≤ firstBit m) (placed : Placed (memberTree trees m)) (stairs : Stairs trees size ms (pastTree trees m))
+    (after : c ≤ firstBit m) (placed : TreePlaced (memberTree trees m))
+    (stairs : Stairs trees size ms (pastTree trees m))
     (x : Bits) where
   abbrev tree : Tree
   tree = memberTree trees m
@@ -168,7 +169,7 @@ module _ (trees : ℕ → Tree) (p size : ℕ) (m : Member) (ms : List Member) (
       whole : p + c ≤ k → k < p + size → inside (p + c) (size - c) k ≡ true
       whole u v = yes-inside (p + c) (size - c) k u (omega (arith, top))
 
-      go : Lies (p + past) (size - past) k → Dec (k < p + c) → Dec (k < first)
+      go : BitLies (p + past) (size - past) k → Dec (k < p + c) → Dec (k < first)
           → cond (inside (p + past) (size - past) k) (normal (plainItems trees p ms) new k) (new k)
           ≡ cond (inside (p + c) (size - c) k) (normal all x k) (x k)
       go (among u v e) d f = rw (e, whole (omega arith) (omega (arith, top))) (step-after k u)
@@ -206,7 +207,8 @@ swept-is trees p size (m ∷ ms) c h x k =
     new = onward trees p m c x
 
     go : (b : Bool)
-        → If b ((c ≤ firstBit m) × (Placed (memberTree trees m) × Stairs trees size ms past)) (Stairs trees size ms c)
+        → If b ((c ≤ firstBit m) × (TreePlaced (memberTree trees m) × Stairs trees size ms past))
+        (Stairs trees size ms c)
         → (Stairs trees size ms past → swept trees p size ms past new k
         ≡ cond (inside (p + past) (size - past) k) (normal rest new k) (new k))
         → (Stairs trees size ms c → swept trees p size ms c x k

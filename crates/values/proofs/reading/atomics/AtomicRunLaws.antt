@@ -15,7 +15,7 @@ use Rattle.types.specs.layout.Placing.{times}
 use Rattle.types.specs.declared.atomics.atomic.Atomic.{Atomic}
 use Rattle.types.proofs.Face.{times-one, times-same}
 use Rattle.values.specs.inside.reading.Walk.{upTo, bitsOut, numberOut, elementOut, numbersOut, atomicsOut}
-use Rattle.values.specs.inside.stream.Laying.{Put}
+use Rattle.values.specs.inside.stream.Laying.{EntriesPut}
 use Rattle.values.specs.stream.Stream.{bodies, entryBytes}
 use Rattle.values.proofs.reading.LeafLaws.{textless-emit}
 use Rattle.values.proofs.reading.UpLaws.{up-ones, up-bodies, wrap-length}
@@ -37,8 +37,8 @@ module _ (a : Atomic) (n : ℕ) (s : List ℕ) where
 
   -- the open bracket, the elements and the close bracket are put: the array
   pub numbers-put : {out first new last : List ℕ} {at p : ℕ} → first ≡ sets out at (entryBytes 10 0)
-      → Put first (at + 12) (upTo (elementOut a s) n) new p → last ≡ sets new p (entryBytes 11 0)
-      → Put out at (numbersOut a n s) last (p + 12)
+      → EntriesPut first (at + 12) (upTo (elementOut a s) n) new p → last ≡ sets new p (entryBytes 11 0)
+      → EntriesPut out at (numbersOut a n s) last (p + 12)
   unfolding numbersOut
   numbers-put d v e = put-wrap 10 11 elements-plain d v e
 

@@ -1,41 +1,26 @@
 -- Runs of bits (document 01, "Reading": all bits, lowest first): the digit of a byte's bit, the eight bits of a byte,
 -- and the bits of some bytes, one byte after the other.
-use Prim.Native.Nat.{ℕ, zero, suc, _+_, _*_, _/_, _%_, _^_, _<_, _≤_}
-use native.Mathlib.Nat.{add-zero, zero-add}
+use Prim.Native.Nat.{ℕ, suc, _+_, _*_, _<_, _≤_}
+use native.Mathlib.Nat.{add-zero}
 use native.Mathlib.Omega.{arith}
 use mathlib.Core.Path.{_≡_, refl, sym, ap, _∙_}
 use mathlib.Core.Bool.{Bool}
 use mathlib.Core.List.{List, [], _∷_, _++_}
-use lib.Dec.{eqb}
 use lib.ListN.{length, getD}
 use lib.Seq.{sets, length-sets}
 use Rattle.words.specs.Bits.{bitOf, digit, flat}
-use Rattle.words.proofs.BitLaws.{flat-at}
+use Rattle.words.proofs.BitLaws.{flat-at, one-byte}
 use Rattle.values.specs.inside.reading.Walk.{upTo, bitToken, bitsOut}
-use Rattle.values.specs.inside.stream.Laying.{Put}
+use Rattle.values.specs.inside.stream.Laying.{EntriesPut}
 use Rattle.values.specs.stream.Stream.{Token, bool, entryBytes, bodies}
 use Rattle.values.proofs.reading.UpLaws.{up-ext, up-split, up-ones, up-bodies, wrap-length}
 use Rattle.values.proofs.stream.PutLaws.{put-length, put-none, put-one, put-then, put-as, put-wrap}
 
 -- ---- the bits of a byte
 
-digit-of : (r : ℕ) → r < 2 → r ≡ digit (eqb r 1)
-digit-of zero h = refl
-digit-of (suc zero) h = refl
-digit-of (suc (suc r)) h = absurd (omega arith)
-
--- a number divided by 2^k, modulo 2, is the digit of its bit k
-pub bit-digit : (x k : ℕ) → x / 2 ^ k % 2 ≡ digit (bitOf x k)
-unfolding bitOf
-bit-digit x k = digit-of (x / 2 ^ k % 2) (omega arith)
-
--- bit k of a list of one byte
-one-byte : (x k : ℕ) → k < 8 → flat (x ∷ []) k ≡ bitOf x k
-one-byte x k h = ap (flat (x ∷ [])) (sym (zero-add k)) ∙ flat-at (x ∷ []) 0 k h
-
 -- the lowest k bits of a byte are put
 pub record LowBits (x : ℕ) (out : List ℕ) (at k : ℕ) (new : List ℕ) : Type 0 where
-  pub put : Put out at (upTo (bitToken (x ∷ [])) k) new (at + 12 * k)
+  pub put : EntriesPut out at (upTo (bitToken (x ∷ [])) k) new (at + 12 * k)
   pub long : length new ≡ length out
 
 bits-plain : (s : List ℕ) (n : ℕ) → bodies (upTo (bitToken s) n) ≡ []
@@ -90,7 +75,7 @@ pub record FirstBytes (s first : List ℕ) (at : ℕ) (out : List ℕ) (p i : �
   pub inside : i ≤ length s
   pub next : p ≡ at + 96 * i
   pub long : length out ≡ length first
-  pub put : Put first at (upTo (bitToken s) (8 * i)) out p
+  pub put : EntriesPut first at (upTo (bitToken s) (8 * i)) out p
 
 -- before the first byte nothing is put
 pub no-byte : (s out : List ℕ) (at : ℕ) → FirstBytes s out at out at 0
@@ -99,7 +84,7 @@ no-byte s out at =
 
 -- the eight bits of the next byte are put: one byte more
 pub byte-more : {s first out new : List ℕ} {at p i : ℕ} → FirstBytes s first at out p i → i < length s
-    → Put out p (upTo (bitToken (getD s i 0 ∷ [])) 8) new (p + 96) → FirstBytes s first at new (p + 96) (i + 1)
+    → EntriesPut out p (upTo (bitToken (getD s i 0 ∷ [])) 8) new (p + 96) → FirstBytes s first at new (p + 96) (i + 1)
 byte-more {s} {first} {out} {new} {at} {p} {i} w h v =
     record {
       inside = omega arith;
@@ -116,7 +101,7 @@ bits-long s n = wrap-length 10 11 (upTo (bitToken s) n) ∙ omega (arith, bits-l
 -- the open bracket, the bits of all bytes and the close bracket are put: the array
 pub bits-put : {s out first new last : List ℕ} {at p i : ℕ} → first ≡ sets out at (entryBytes 10 0)
     → FirstBytes s first (at + 12) new p i → length s ≤ i → last ≡ sets new p (entryBytes 11 0)
-    → Put out at (bitsOut s (8 * length s)) last (p + 12)
+    → EntriesPut out at (bitsOut s (8 * length s)) last (p + 12)
 unfolding bitsOut
 bits-put {s} {i = i} d w h e =
     let n : i ≡ length s = omega (arith, w .inside) in

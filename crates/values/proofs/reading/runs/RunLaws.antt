@@ -15,7 +15,7 @@ use Rattle.types.specs.declared.atomics.atomic.Atomic.{Atomic}
 use Rattle.types.specs.declared.atomics.atomic.Atomic.the-variants as atomic
 use Rattle.values.specs.inside.reading.Numbers.{extended, formOf, NumberRun}
 use Rattle.values.specs.inside.reading.Walk.{elementOut, upTo}
-use Rattle.values.specs.inside.stream.Laying.{Put}
+use Rattle.values.specs.inside.stream.Laying.{EntriesPut}
 use Rattle.values.specs.reading.Leaf.{isTrue}
 use Rattle.values.specs.stream.Stream.{Token, bool, number, kindOf, payloadOf, bodyOf, entryBytes, bodies}
 use Rattle.values.specs.declared.reading.numbers.Form.{Form}
@@ -38,20 +38,20 @@ unfolding upTo
 ones-more g i = rw add-one
 
 -- so far: the entries of the first i of n elements are put, from a place on
-pub record Running (g : ℕ → Token) (n : ℕ) (first : List ℕ) (at : ℕ) (out : List ℕ) (p i : ℕ) : Type 0 where
+pub record NumbersRun (g : ℕ → Token) (n : ℕ) (first : List ℕ) (at : ℕ) (out : List ℕ) (p i : ℕ) : Type 0 where
   pub inside : i ≤ n
   pub room : at + 12 * n ≤ length first
   pub plain : bodies (ones g i) ≡ []
-  pub put : Put first at (ones g i) out p
+  pub put : EntriesPut first at (ones g i) out p
 
 -- before the first element nothing is put, and all have room
 pub run-start : {g : ℕ → Token} {n at : ℕ} {first : List ℕ} → at + 12 * n ≤ length first
-    → Running g n first at first at 0
+    → NumbersRun g n first at first at 0
 unfolding upTo
 run-start {at = at} {first = first} h =
     record { inside = omega arith; room = h; plain = unfold bodies in refl; put = put-none first at }
 
-module _ {g : ℕ → Token} {n at p i : ℕ} {first out : List ℕ} (w : Running g n first at out p i) where
+module _ {g : ℕ → Token} {n at p i : ℕ} {first out : List ℕ} (w : NumbersRun g n first at out p i) where
   -- the next entry has room
   pub run-room : i < n → p + 12 ≤ length out
   run-room h =
@@ -62,7 +62,7 @@ module _ {g : ℕ → Token} {n at p i : ℕ} {first out : List ℕ} (w : Runnin
   -- it is put
   pub run-on : {new : List ℕ} {kind payload : ℕ} → i < n → bodyOf (g i) ≡ [] → kindOf (g i) ≡ kind
       → payloadOf 0 (g i) ≡ payload → new ≡ sets out p (entryBytes kind payload)
-      → Running g n first at new (p + 12) (i + 1)
+      → NumbersRun g n first at new (p + 12) (i + 1)
   run-on {new} h b k x e =
       record {
         inside = omega arith;
@@ -72,7 +72,7 @@ module _ {g : ℕ → Token} {n at p i : ℕ} {first out : List ℕ} (w : Runnin
       }
 
   -- all are put
-  run-done : (h : ℕ → List Token) → n ≤ i → ((k : ℕ) → k < n → h k ≡ g k ∷ []) → Put first at (upTo h n) out p
+  run-done : (h : ℕ → List Token) → n ≤ i → ((k : ℕ) → k < n → h k ≡ g k ∷ []) → EntriesPut first at (upTo h n) out p
   run-done h l e =
       let m : i ≡ n = let a = w .inside in omega arith in
       rw (up-ext h (λ k. g k ∷ []) n e, ← m) (w .put)
@@ -89,8 +89,8 @@ formed f w s k = number (f .kind) (extended f (wordAt w s (w * k)))
 
 -- the next number is put, widened by its form
 pub numbers-on : (f : Form) (w : ℕ) (s : List ℕ) {n at p i x y : ℕ} {first out new : List ℕ}
-    → Running (formed f w s) n first at out p i → i < n → x ≡ wordAt w s (w * i) → y ≡ extended f x
-    → new ≡ sets out p (entryBytes (f .kind) y) → Running (formed f w s) n first at new (p + 12) (i + 1)
+    → NumbersRun (formed f w s) n first at out p i → i < n → x ≡ wordAt w s (w * i) → y ≡ extended f x
+    → new ≡ sets out p (entryBytes (f .kind) y) → NumbersRun (formed f w s) n first at new (p + 12) (i + 1)
 numbers-on f w s r h a b e = run-on r h refl refl (sym (b ∙ ap (extended f) a)) e
 
 module _ {a : Atomic} {f : Form} {w n : ℕ} {s : List ℕ} (e : f ≡ formOf a) (r : NumberRun a w n s) (b : Bytes s) where
@@ -99,8 +99,8 @@ module _ {a : Atomic} {f : Form} {w n : ℕ} {s : List ℕ} (e : f ≡ formOf a)
   number-fits at h = rw (h, e, ← r .size) (fill-fits a s at b)
 
   -- all numbers are put: the elements of the array
-  pub numbers-done : {at p i : ℕ} {first out : List ℕ} → Running (formed f w s) n first at out p i → n ≤ i
-      → Put first at (upTo (elementOut a s) n) out p
+  pub numbers-done : {at p i : ℕ} {first out : List ℕ} → NumbersRun (formed f w s) n first at out p i → n ≤ i
+      → EntriesPut first at (upTo (elementOut a s) n) out p
   numbers-done v l =
       run-done v (elementOut a s) l
       (λ k m. ap (λ (t : Token). t ∷ []) (number-form a s (sizeOf a * k) b (r .number)) ∙ rw (e, r .size))
@@ -112,8 +112,8 @@ abbrev pub truths : List ℕ → ℕ → Token
 truths s k = bool (isTrue (getD s k 0))
 
 -- all BOOLs are put: the elements of the array
-pub truths-done : (s : List ℕ) {n at p i : ℕ} {first out : List ℕ} → Bytes s → Running (truths s) n first at out p i
-    → n ≤ i → Put first at (upTo (elementOut atomic.Bool s) n) out p
+pub truths-done : (s : List ℕ) {n at p i : ℕ} {first out : List ℕ} → Bytes s → NumbersRun (truths s) n first at out p i
+    → n ≤ i → EntriesPut first at (upTo (elementOut atomic.Bool s) n) out p
 unfolding sizeOf
 truths-done s b v l =
     run-done v (elementOut atomic.Bool s) l
@@ -141,5 +141,5 @@ truths-given n s e h = let l : 1 * n ≤ length s = rw e at h in omega arith
 
 -- elements put as BOOLs are those of an atomic that is BOOL
 pub truths-put : {a : Atomic} (n : ℕ) (s : List ℕ) {at r : ℕ} {out new : List ℕ} → a ≡ atomic.Bool
-    → Put out at (upTo (elementOut atomic.Bool s) n) new r → Put out at (upTo (elementOut a s) n) new r
+    → EntriesPut out at (upTo (elementOut atomic.Bool s) n) new r → EntriesPut out at (upTo (elementOut a s) n) new r
 truths-put n s e w = rw e w

@@ -1,24 +1,18 @@
 -- Texts (document 01, "Value stream": place and length in the entry, the bytes among the bodies; "Reading": min(LEN,
 -- capacity) bytes of DATA).
 use Prim.Native.Nat.{ℕ, _+_, _-_, _*_, _^_, _≤_}
-use native.Mathlib.Nat.{zero-add}
 use native.Mathlib.Omega.{arith}
-use mathlib.Core.Path.{_≡_, sym, ap, ap₂, _∙_, fun-ext}
+use mathlib.Core.Path.{_≡_, sym, ap, ap₂, _∙_}
 use mathlib.Core.List.{List, [], _++_, append-nil}
 use lib.ListN.{length, take, drop}
 use lib.Seq.{sets}
-use Rattle.words.specs.Bits.{flat, val}
-use Rattle.words.specs.Words.{Bytes, part, wordAt}
-use Rattle.words.proofs.BitLaws.{word-val}
+use Rattle.words.specs.Words.{part}
+use Rattle.words.proofs.BitLaws.{first-word}
 use Rattle.words.proofs.Lists.{length-part}
 use Rattle.values.specs.inside.reading.Walk.{textOut}
-use Rattle.values.specs.inside.stream.Laying.{laidIn, Room, Wrote}
+use Rattle.values.specs.inside.stream.Laying.{laidIn, StreamRoom, TokensLaid}
 use Rattle.values.specs.reading.Texts.{textLength, textIn}
 use Rattle.values.specs.stream.Stream.{entryBytes, heads, bodies}
-
--- LEN as u32 is the number of the first 32 bits
-pub len-is : (image : List ℕ) → Bytes image → {n : ℕ} → n ≡ wordAt 4 image 0 → n ≡ val 32 (flat image)
-len-is image b e = e ∙ word-val 4 image 0 b ∙ ap (val 32) (fun-ext (λ k. ap (flat image) (zero-add k)))
 
 module _ (capacity : ℕ) (image : List ℕ) (inside : 4 + capacity ≤ length image) where
   -- the text is as long as its length says
@@ -36,7 +30,7 @@ module _ (capacity : ℕ) (image : List ℕ) (inside : 4 + capacity ≤ length i
       ap (λ (k : ℕ). take k (drop 4 image)) f
 
   -- where a string's entry and text have room, the text ends inside the buffer
-  pub text-room : {long base at text : ℕ} → Room long base at text (textOut capacity image)
+  pub text-room : {long base at text : ℕ} → StreamRoom long base at text (textOut capacity image)
       → base + text + textLength capacity image ≤ long
   text-room r = omega (arith, r .texts, bodies-long)
 
@@ -44,7 +38,7 @@ module _ (capacity : ℕ) (image : List ℕ) (inside : 4 + capacity ≤ length i
   pub text-wrote : {out mid new : List ℕ} {base at text n : ℕ} → n ≡ textLength capacity image
       → mid ≡ sets out at (entryBytes 6 (text + 2 ^ 32 * n))
       → new ≡ sets mid (base + text) (take (4 + n - 4) (drop 4 image))
-      → Wrote out base at text (textOut capacity image) new (record { at = at + 12; text = text + n })
+      → TokensLaid out base at text (textOut capacity image) new (record { at = at + 12; text = text + n })
   unfolding laidIn heads bodies
   text-wrote {out} {mid} {new} {base} {at} {text} {n} h d e =
       let t : List ℕ = textIn capacity image in

@@ -17,18 +17,18 @@ use Rattle.types.specs.declared.tables.member.Ty.the-variants as ty
 use Rattle.values.specs.inside.reading.Walk.{upTo, wrap, textOut, isNested, leafOut, elementBy, elementsBy}
 use Rattle.values.specs.inside.reading.Walk.{memberBy, rowBy, membersBy, structBy, structOut}
 use Rattle.values.specs.inside.reading.Walkable.{IsString, Walkable, RowOf, NestedRow, ImageOf, ImagesOf}
-use Rattle.values.specs.inside.stream.Laying.{Put, Room, Wrote}
+use Rattle.values.specs.inside.stream.Laying.{EntriesPut, StreamRoom, TokensLaid}
 use Rattle.values.specs.reading.Texts.{capacityAt}
 use Rattle.values.specs.reading.Trees.{isString}
 use Rattle.values.specs.stream.Stream.{Token, member, entryBytes}
 use Rattle.values.specs.declared.stream.place.Place.{Place}
 use Rattle.values.proofs.reading.LeafLaws.{textless-leaf}
 use Rattle.values.proofs.reading.MemberLaws.{nested-shown, never-atomic, nested-earlier, member-leaf, row-of}
-use Rattle.values.proofs.reading.PartLaws.{lent, element-fits, element-image, element-is, Held, one-image}
+use Rattle.values.proofs.reading.PartLaws.{lent, element-fits, element-image, element-is, HeldRow, one-image}
 use Rattle.values.proofs.reading.PartLaws.{one-is, some-images, some-is}
 use Rattle.values.proofs.reading.WalkLaws.{struct-out}
 use Rattle.values.proofs.stream.LayingLaws.{room-one, room-all, room-as, wrote-as, value-room, value-wrote}
-use Rattle.values.proofs.stream.LayingLaws.{Running, run-start, run-room, run-turn, run-end}
+use Rattle.values.proofs.stream.LayingLaws.{EntriesRun, run-start, run-room, run-turn, run-end}
 use Rattle.values.proofs.stream.PutLaws.{put-wrote}
 
 -- ---- a structure, where d was read from its row
@@ -73,7 +73,7 @@ module _ {types members : List ℕ} (w : Walkable types members) {i : ℕ} {imag
 
 -- the open bracket has room
 pub members-room : (types members : List ℕ) (rec : ℕ → List ℕ → List Token) (i : ℕ) (image : List ℕ)
-    {long base at text : ℕ} → Room long base at text (membersBy types members rec i image) → at + 12 ≤ long
+    {long base at text : ℕ} → StreamRoom long base at text (membersBy types members rec i image) → at + 12 ≤ long
 unfolding membersBy
 members-room types members rec i image r = room-one r .0
 
@@ -84,20 +84,20 @@ unfolding membersBy
 rows-are types members rec i image is f c = rw (c, f, is)
 
 -- the rows before row j are written
-pub record Rows (types members : List ℕ) (i : ℕ) (image : List ℕ) (first n : ℕ) (out : List ℕ) (base at text j : ℕ)
+pub record RowsRead (types members : List ℕ) (i : ℕ) (image : List ℕ) (first n : ℕ) (out : List ℕ) (base at text j : ℕ)
     (new : List ℕ) (p t : ℕ) : Type 0 where
-  pub run : Running (rowBy types members (structOut types members) first image) n 9 out base at text j new p t
+  pub run : EntriesRun (rowBy types members (structOut types members) first image) n 9 out base at text j new p t
   pub walk : Walkable types members
   pub whole : ImageOf types i image
   pub rows : (k : ℕ) → k < n → RowOf types members i (first + k)
 
 module _ {types members image : List ℕ} {i first n : ℕ} {d : StructDef} (is : d ≡ typeAt types i) (f : first ≡ d .first)
     (c : n ≡ d .count) (out : List ℕ) {mid : List ℕ} {base at text : ℕ}
-    (room : Room (length out) base at text (membersBy types members (structOut types members) i image))
+    (room : StreamRoom (length out) base at text (membersBy types members (structOut types members) i image))
     (put : mid ≡ sets out at (entryBytes 8 0)) where
   -- the open bracket is put, and no row is written yet
   pub rows-start : Walkable types members → ImageOf types i image
-      → Rows types members i image first n mid base (at + 12) text 0 mid (at + 12) text
+      → RowsRead types members i image first n mid base (at + 12) text 0 mid (at + 12) text
   rows-start w whole =
       let e = rows-are types members (structOut types members) i image is f c in
       record {
@@ -110,37 +110,39 @@ module _ {types members image : List ℕ} {i first n : ℕ} {d : StructDef} (is 
 
   -- all rows are written and the close bracket is put: the structure's members
   pub rows-end : {j p t : ℕ} {new last : List ℕ}
-      → Rows types members i image first n mid base (at + 12) text j new p t → n ≤ j
+      → RowsRead types members i image first n mid base (at + 12) text j new p t → n ≤ j
       → last ≡ sets new p (entryBytes 9 0)
-      → Wrote out base at text (membersBy types members (structOut types members) i image) last
+      → TokensLaid out base at text (membersBy types members (structOut types members) i image) last
       (record { at = p + 12; text = t })
   rows-end w h v =
       let e = rows-are types members (structOut types members) i image is f c in
       wrote-as e (run-end (room-as e room) put (w .run) h v)
 
 module _ {types members image out new : List ℕ} {i first n base at text j p t : ℕ}
-    (w : Rows types members i image first n out base at text j new p t) (h : j < n) {b : Bool}
+    (w : RowsRead types members i image first n out base at text j new p t) (h : j < n) {b : Bool}
     (test : b ≡ isNested (memberAt members (first + j))) where
   on : {last : List ℕ} {r : Place}
-      → Wrote new base p t (memberBy types members (structOut types members) j (memberAt members (first + j)) image)
+      → TokensLaid new base p t
+      (memberBy types members (structOut types members) j (memberAt members (first + j)) image)
       last r
-      → Rows types members i image first n out base at text (j + 1) last (r .at) (r .text)
+      → RowsRead types members i image first n out base at text (j + 1) last (r .at) (r .text)
   on v = record { run = run-turn (w .run) h v; walk = w .walk; whole = w .whole; rows = w .rows }
 
   -- row j is a structure, or an array of structures
   module _ (nested : b ≡ true) where
     -- a nested row in its turn: the tables, the row and the image are right, and it has room
     pub nested-asks : (Walkable types members × (NestedRow types members i (first + j) × ImageOf types i image))
-        × Room (length new) base p t
+        × StreamRoom (length new) base p t
         (memberBy types members (structOut types members) j (memberAt members (first + j)) image)
     nested-asks =
         ((w .walk, (record { row-of = w .rows j h; nested = sym test ∙ nested }, w .whole)), run-room (w .run) h)
 
     -- a nested row is written: one row more
     pub nested-on : {last : List ℕ} {r : Place}
-        → Wrote new base p t (memberBy types members (structOut types members) j (memberAt members (first + j)) image)
+        → TokensLaid new base p t
+        (memberBy types members (structOut types members) j (memberAt members (first + j)) image)
         last r
-        → Rows types members i image first n out base at text (j + 1) last (r .at) (r .text)
+        → RowsRead types members i image first n out base at text (j + 1) last (r .at) (r .text)
     nested-on v = on v
 
   -- it is neither
@@ -156,8 +158,8 @@ module _ {types members image out new : List ℕ} {i first n base at text j p t 
     leaf-asks = ((w .rows j h, w .whole), room-all (room-as row-leaf (run-room (w .run) h)))
 
     -- a row that is no structure is put: one row more
-    pub leaf-on : {last : List ℕ} {r : ℕ} → Put new p (leafOut j (memberAt members (first + j)) image) last r
-        → Rows types members i image first n out base at text (j + 1) last r t
+    pub leaf-on : {last : List ℕ} {r : ℕ} → EntriesPut new p (leafOut j (memberAt members (first + j)) image) last r
+        → RowsRead types members i image first n out base at text (j + 1) last r t
     leaf-on v = on (wrote-as row-leaf (put-wrote base t (textless-leaf j image _) v))
 
 -- ---- a structure, or an array of structures, in a row, where m was read from it
@@ -176,7 +178,7 @@ module _ {types members : List ℕ} {i row : ℕ} {m : Member} (nested : NestedR
 
   -- a nested row holds the structure that was read from it, with its start, count and size
   pub held-row : {image : List ℕ} {s start n size : ℕ} → ImageOf types i image → m .ty ≡ ty.Struct s
-      → start ≡ m .offset → n ≡ m .count → size ≡ sizesIn types s → Held types members i row image s start n size
+      → start ≡ m .offset → n ≡ m .count → size ≡ sizesIn types s → HeldRow types members i row image s start n size
   held-row whole e s c z =
       record {
         nested = nested;
@@ -189,7 +191,7 @@ module _ {types members : List ℕ} {i row : ℕ} {m : Member} (nested : NestedR
 
 -- its number has room
 pub nested-room : (types members : List ℕ) (rec : ℕ → List ℕ → List Token) (j : ℕ) (x : Member) (image : List ℕ)
-    {long base at text : ℕ} → isNested x ≡ true → Room long base at text (memberBy types members rec j x image)
+    {long base at text : ℕ} → isNested x ≡ true → StreamRoom long base at text (memberBy types members rec j x image)
     → at + 12 ≤ long
 unfolding memberBy
 nested-room types members rec j x image e r = room-one (rw (nested-shown x e) at r) .0
@@ -197,9 +199,9 @@ nested-room types members rec j x image e r = room-one (rw (nested-shown x e) at
 -- its number is put
 pub record Nesting (types members : List ℕ) (i row j : ℕ) (image out : List ℕ) (base at text : ℕ) (mid : List ℕ)
     (s start n size : ℕ) : Type 0 where
-  pub held : Held types members i row image s start n size
+  pub held : HeldRow types members i row image s start n size
   pub walk : Walkable types members
-  pub room : Room (length out) base at text
+  pub room : StreamRoom (length out) base at text
       (memberBy types members (structOut types members) j (memberAt members row) image)
   pub put : mid ≡ sets out at (entryBytes 7 j)
 
@@ -212,13 +214,14 @@ module _ {types members : List ℕ} {i row j : ℕ} {image out : List ℕ} {base
 
     -- one structure in a row: its bytes are an image of it, and it has room after the number
     pub one-asks : (Walkable types members × ImageOf types s (lent image start (start + size)))
-        × Room (length mid) base (at + 12) text (structOut types members s (lent image start (start + size)))
+        × StreamRoom (length mid) base (at + 12) text (structOut types members s (lent image start (start + size)))
     one-asks = ((w .walk, one-image (w .held) none), value-room out (room-as one (w .room)) (w .put))
 
     -- one structure in a row: the number and then the structure are written, the whole member
     pub one-wrote : {new : List ℕ} {r : Place}
-        → Wrote mid base (at + 12) text (structOut types members s (lent image start (start + size))) new r
-        → Wrote out base at text (memberBy types members (structOut types members) j (memberAt members row) image) new r
+        → TokensLaid mid base (at + 12) text (structOut types members s (lent image start (start + size))) new r
+        → TokensLaid out base at text
+        (memberBy types members (structOut types members) j (memberAt members row) image) new r
     one-wrote v = wrote-as one (value-wrote out (room-as one (w .room)) (w .put) v)
 
   module _ (many : n ≡ 0 → ⊥) where
@@ -228,53 +231,55 @@ module _ {types members : List ℕ} {i row j : ℕ} {image out : List ℕ} {base
 
     -- an array of structures in a row: its bytes are an image of them, and it has room after the number
     pub some-asks : (Walkable types members × ImagesOf types s n (lent image start (start + size * n)))
-        × Room (length mid) base (at + 12) text
+        × StreamRoom (length mid) base (at + 12) text
         (elementsBy types members (structOut types members) s n (lent image start (start + size * n)))
     some-asks = ((w .walk, some-images (w .held) many), value-room out (room-as some (w .room)) (w .put))
 
     -- an array of structures in a row: the number and then the array are written, the whole member
     pub some-wrote : {new : List ℕ} {r : Place}
-        → Wrote mid base (at + 12) text
+        → TokensLaid mid base (at + 12) text
         (elementsBy types members (structOut types members) s n (lent image start (start + size * n))) new r
-        → Wrote out base at text (memberBy types members (structOut types members) j (memberAt members row) image) new r
+        → TokensLaid out base at text
+        (memberBy types members (structOut types members) j (memberAt members row) image) new r
     some-wrote v = wrote-as some (value-wrote out (room-as some (w .room)) (w .put) v)
 
 -- ---- an array of structures
 
 -- the elements before element k are written
-pub record Elements (types members : List ℕ) (i n : ℕ) (image : List ℕ) (size : ℕ) (out : List ℕ) (base at text k : ℕ)
+pub record ElementsRead (types members : List ℕ) (i n : ℕ) (image : List ℕ) (size : ℕ) (out : List ℕ)
+    (base at text k : ℕ)
     (new : List ℕ) (p t : ℕ) : Type 0 where
-  pub run : Running (elementBy types members (structOut types members) i image) n 11 out base at text k new p t
+  pub run : EntriesRun (elementBy types members (structOut types members) i image) n 11 out base at text k new p t
   pub walk : Walkable types members
   pub whole : ImagesOf types i n image
   pub long : size ≡ sizesIn types i
 
 -- the open bracket has room
 pub elements-room : (types members : List ℕ) (rec : ℕ → List ℕ → List Token) (i n : ℕ) (image : List ℕ)
-    {long base at text : ℕ} → Room long base at text (elementsBy types members rec i n image) → at + 12 ≤ long
+    {long base at text : ℕ} → StreamRoom long base at text (elementsBy types members rec i n image) → at + 12 ≤ long
 unfolding elementsBy
 elements-room types members rec i n image r = room-one r .0
 
 module _ {types members image : List ℕ} {i n : ℕ} (out : List ℕ) {mid : List ℕ} {base at text : ℕ}
-    (room : Room (length out) base at text (elementsBy types members (structOut types members) i n image))
+    (room : StreamRoom (length out) base at text (elementsBy types members (structOut types members) i n image))
     (put : mid ≡ sets out at (entryBytes 10 0)) where
   -- the open bracket is put, and no element is written yet
   pub elements-start : {size : ℕ} → Walkable types members → ImagesOf types i n image → size ≡ sizesIn types i
-      → Elements types members i n image size mid base (at + 12) text 0 mid (at + 12) text
+      → ElementsRead types members i n image size mid base (at + 12) text 0 mid (at + 12) text
   unfolding elementsBy
   elements-start w whole z = record { run = run-start out room put; walk = w; whole = whole; long = z }
 
   -- all elements are written and the close bracket is put: the array
   pub elements-end : {size k p t : ℕ} {new last : List ℕ}
-      → Elements types members i n image size mid base (at + 12) text k new p t → n ≤ k
+      → ElementsRead types members i n image size mid base (at + 12) text k new p t → n ≤ k
       → last ≡ sets new p (entryBytes 11 0)
-      → Wrote out base at text (elementsBy types members (structOut types members) i n image) last
+      → TokensLaid out base at text (elementsBy types members (structOut types members) i n image) last
       (record { at = p + 12; text = t })
   unfolding elementsBy
   elements-end w h e = run-end room put (w .run) h e
 
 module _ {types members image out new : List ℕ} {i n size base at text k p t : ℕ}
-    (w : Elements types members i n image size out base at text k new p t) (h : k < n) where
+    (w : ElementsRead types members i n image size out base at text k new p t) (h : k < n) where
   -- the next element lies in the image
   pub element-inside : size * k + size ≤ length image
   element-inside = element-fits (w .whole) (w .long) k h
@@ -285,12 +290,12 @@ module _ {types members image out new : List ℕ} {i n size base at text k p t :
 
   -- the next element: its bytes are an image of its structure, and it has room
   pub element-asks : (Walkable types members × ImageOf types i (lent image (size * k) (size * k + size)))
-      × Room (length new) base p t (structOut types members i (lent image (size * k) (size * k + size)))
+      × StreamRoom (length new) base p t (structOut types members i (lent image (size * k) (size * k + size)))
   element-asks = ((w .walk, element-image (w .whole) (w .long) k h), room-as element (run-room (w .run) h))
 
   -- the next element is written: one element more
   pub element-on : {last : List ℕ} {r : Place}
-      → Wrote new base p t (structOut types members i (lent image (size * k) (size * k + size))) last r
-      → Elements types members i n image size out base at text (k + 1) last (r .at) (r .text)
+      → TokensLaid new base p t (structOut types members i (lent image (size * k) (size * k + size))) last r
+      → ElementsRead types members i n image size out base at text (k + 1) last (r .at) (r .text)
   element-on v =
       record { run = run-turn (w .run) h (wrote-as element v); walk = w .walk; whole = w .whole; long = w .long }

@@ -71,7 +71,8 @@ module _ (g : List ℕ → ℕ → List Token) where
 -- ---- the rows of a structure
 
 -- j of the n rows of structure i are counted, on from a number
-pub record Rows (types members : List ℕ) (i from most first n : ℕ) (before after : Bool) (sum j : ℕ) : Type 0 where
+pub record RowsCounted (types members : List ℕ) (i from most first n : ℕ) (before after : Bool)
+    (sum j : ℕ) : Type 0 where
   pub walk : Walkable types members
   pub low : i < mostTypes
   pub bound : most ≤ mostBytes
@@ -85,7 +86,7 @@ pub record Rows (types members : List ℕ) (i from most first n : ℕ) (before a
 -- before the first row the two brackets are counted
 pub rows-none : {types members : List ℕ} {i from most first n : ℕ} {b : Bool} → Walkable types members → i < mostTypes
     → most ≤ mostBytes → first ≡ typeAt types i .first → n ≡ typeAt types i .count
-    → Rows types members i from most first n b b (from + 2) 0
+    → RowsCounted types members i from most first n b b (from + 2) 0
 unfolding upTo bodies
 rows-none w l m p q =
     record {
@@ -99,7 +100,7 @@ rows-none w l m p q =
     }
 
 module _ {types members : List ℕ} {i from most first n : ℕ} {b t : Bool} {sum j : ℕ}
-    (w : Rows types members i from most first n b t sum j) where
+    (w : RowsCounted types members i from most first n b t sum j) where
   -- the next row is one of the structure's
   pub next-row : j < n → RowOf types members i (first + j)
   next-row h = row-of (w .walk) (w .low) (w .first-is) (w .count-is) h
@@ -110,7 +111,7 @@ module _ {types members : List ℕ} {i from most first n : ℕ} {b t : Bool} {su
   -- one more row
   pub rows-nested : {more : ℕ} {u : Bool} → j < n → sum ≤ most
       → Counted most sum (memberBy types members (structOut types members) j (memberAt members (first + j))) t u more
-      → Rows types members i from most first n b u more (j + 1)
+      → RowsCounted types members i from most first n b u more (j + 1)
   rows-nested h fits v =
       record {
         walk = w .walk;
@@ -125,7 +126,7 @@ module _ {types members : List ℕ} {i from most first n : ℕ} {b t : Bool} {su
   -- one that is no structure
   pub rows-leaf : {more : ℕ} → j < n → sum ≤ most → isNested (memberAt members (first + j)) ≡ false
       → TextFree (leafOut j (memberAt members (first + j))) more
-      → Rows types members i from most first n b t (sum + more) (j + 1)
+      → RowsCounted types members i from most first n b t (sum + more) (j + 1)
   rows-leaf h fits e p =
       rows-nested h fits
       (plain-counted (plain-same p (λ image.

@@ -17,21 +17,14 @@ use Rattle.values.specs.stream.Form.{streamOk}
 use Rattle.values.specs.stream.Stream.{Token}
 use Rattle.values.specs.writing.Writing.{Outcome, opened, elements, write}
 use Rattle.values.proofs.reading.SpanLaws.{tree-span}
-use Rattle.values.proofs.stream.LeftLaws.{There}
+use Rattle.values.proofs.stream.LeftLaws.{EntryThere}
 use Rattle.values.proofs.writing.ApplyLaws.{Setting, accepted-as, accepted-first, applied-as, setting-from}
 use Rattle.values.proofs.writing.ApplyLaws.{setting-on, setting-then, opened-there, opened-kept, opened-set}
-use Rattle.values.proofs.writing.ApplyLaws.{elements-there, elements-closed, elements-end, elements-step}
+use Rattle.values.proofs.writing.ApplyLaws.{elements-there, elements-closed, elements-end}
+use Rattle.values.proofs.writing.OutcomeLaws.{inArray, array-opens}
+use Rattle.values.proofs.writing.StepLaws.{elements-go}
 
 -- ---- an array of structures
-
--- what is inside an array, after its opening
-abbrev elementsAfter : ℕ → Tree → ℕ → List Token → Bits → Outcome
-elementsAfter n tree p ts z = elements n (write tree) (span tree) p ts z
-
-array-opens : (n : ℕ) (tree : Tree) (p : ℕ) (ts : List Token) (z : Bits)
-    → write (array n tree) p ts z ≡ opened 10 (elementsAfter n tree p) ts z
-unfolding write
-array-opens n tree p ts z = refl
 
 -- the elements of an array are to be set from an entry on
 pub record ElementsAsked (types members : List ℕ) (i count : ℕ) (s : List ℕ) (k : ℕ) (image : List ℕ) (base : ℕ)
@@ -44,14 +37,14 @@ pub record ElementsAsked (types members : List ℕ) (i count : ℕ) (s : List �
 module _ {types members : List ℕ} {i count : ℕ} {s : List ℕ} {k : ℕ} {image : List ℕ} {base : ℕ}
     (w : ElementsAsked types members i count s k image base) where
   abbrev inner : List Token → Bits → Outcome
-  inner = elementsAfter count (treeIn types members i) (8 * base)
+  inner = inArray count (treeIn types members i) (8 * base)
 
   opens : write (array count (treeIn types members i)) (8 * base) (leftAt s k) (flat image)
       ≡ opened 10 inner (leftAt s k) (flat image)
   opens = array-opens count (treeIn types members i) (8 * base) (leftAt s k) (flat image)
 
   -- an accepted array has its entry
-  pub array-there : There s k
+  pub array-there : EntryThere s k
   array-there = opened-there (w .form) 10 inner (flat image) (accepted-as opens (w .set))
 
   -- null for the whole array keeps what stands
@@ -67,28 +60,28 @@ module _ {types members : List ℕ} {i count : ℕ} {s : List ℕ} {k : ℕ} {im
       (opened-set (w .form) 10 inner array-there n (accepted-as opens (w .set)))
 
 -- the elements before element e are set, up to entry p; so many are left
-pub record Elements (types members : List ℕ) (i count : ℕ) (s : List ℕ) (k : ℕ) (image : List ℕ) (base size p e : ℕ)
+pub record ElementsSet (types members : List ℕ) (i count : ℕ) (s : List ℕ) (k : ℕ) (image : List ℕ) (base size p e : ℕ)
     (now : List ℕ) : Type 0 where
   pub asked : ElementsAsked types members i count s k image base
   pub long : size ≡ sizesIn types i
   pub left : ℕ
   pub all : e + left ≡ count
   pub setting : Setting s k image (write (array count (treeIn types members i)) (8 * base) (leftAt s k)) p now
-      (elementsAfter left (treeIn types members i) (8 * (base + size * e)) (leftAt s p))
+      (inArray left (treeIn types members i) (8 * (base + size * e)) (leftAt s p))
 
 -- the next entry is an element's
-pub record Element (types members : List ℕ) (i count : ℕ) (s : List ℕ) (k : ℕ) (image : List ℕ) (base size p e : ℕ)
+pub record ElementNext (types members : List ℕ) (i count : ℕ) (s : List ℕ) (k : ℕ) (image : List ℕ) (base size p e : ℕ)
     (now : List ℕ) : Type 0 where
   pub here : Here types i (base + size * e) now
   pub set : accepted (write (treeIn types members i) (8 * (base + size * e)) (leftAt s p) (flat now)) ≡ true
   pub on : (r : ℕ) (new : List ℕ)
       → Applied s p r now new (write (treeIn types members i) (8 * (base + size * e)) (leftAt s p))
-      → Elements types members i count s k image base size r (e + 1) new
+      → ElementsSet types members i count s k image base size r (e + 1) new
 
 -- after the opening no element is set yet
 pub elements-start : {types members : List ℕ} {i count : ℕ} {s : List ℕ} {k : ℕ} {image : List ℕ} {base size : ℕ}
     → ElementsAsked types members i count s k image base → (firstKind (leftAt s k) ≡ 0 → ⊥) → size ≡ sizesIn types i
-    → Elements types members i count s k image base size (k + 1) 0 image
+    → ElementsSet types members i count s k image base size (k + 1) 0 image
 elements-start {types} {members} {i} {count} {s} {k} {image} {base} {size} w n z =
     let e : 8 * base ≡ 8 * (base + size * 0) = omega arith in
     record {
@@ -98,11 +91,11 @@ elements-start {types} {members} {i} {count} {s} {k} {image} {base} {size} w n z
       all = omega arith;
       setting = subst
           (λ (q : ℕ). Setting s k image (write (array count (treeIn types members i)) (8 * base) (leftAt s k)) (k + 1)
-          image (elementsAfter count (treeIn types members i) q (leftAt s (k + 1)))) e (array-set w n);
+          image (inArray count (treeIn types members i) q (leftAt s (k + 1)))) e (array-set w n);
     }
 
 module _ {types members : List ℕ} {i count : ℕ} {s : List ℕ} {k : ℕ} {image : List ℕ} {base size p e : ℕ}
-    {now : List ℕ} (v : Elements types members i count s k image base size p e now) where
+    {now : List ℕ} (v : ElementsSet types members i count s k image base size p e now) where
   abbrev tree : Tree
   tree = treeIn types members i
 
@@ -110,7 +103,7 @@ module _ {types members : List ℕ} {i count : ℕ} {s : List ℕ} {k : ℕ} {im
   place = 8 * (base + size * e)
 
   -- the next entry of the accepted elements is there
-  pub element-there : There s p
+  pub element-there : EntryThere s p
   element-there =
       elements-there (v .asked .form) (v .left) (write tree) (span tree) place (flat now) (v .setting .taken)
 
@@ -143,16 +136,16 @@ module _ {types members : List ℕ} {i count : ℕ} {s : List ℕ} {k : ℕ} {im
         omega (arith, tree-span types members (v .asked .walk) i (v .asked .here .low), v .long)
 
     -- where a place is left, an entry that is no close is an element's
-    pub element : (firstKind (leftAt s p) ≡ 11 → ⊥) → Element types members i count s k image base size p e now
+    pub element : (firstKind (leftAt s p) ≡ 11 → ⊥) → ElementNext types members i count s k image base size p e now
     element n = go (v .left) (v .all) (v .setting)
       where
         go : (left : ℕ) → e + left ≡ count
             → Setting s k image (write (array count tree) (8 * base) (leftAt s k)) p now
-            (elementsAfter left tree place (leftAt s p))
-            → Element types members i count s k image base size p e now
+            (inArray left tree place (leftAt s p))
+            → ElementNext types members i count s k image base size p e now
         go zero a t = absurd (let x : ⊥ = omega arith in x)
         go (suc left) a t =
-            let step = elements-step (v .asked .form) (write tree) (span tree) element-there left place (flat now) n in
+            let step = elements-go (v .asked .form) (write tree) (span tree) left place element-there n (flat now) in
             record {
               here = record {
                 low = v .asked .here .low;
@@ -170,7 +163,7 @@ module _ {types members : List ℕ} {i count : ℕ} {s : List ℕ} {k : ℕ} {im
                     setting =
                         subst
                         (λ (q : ℕ). Setting s k image (write (array count tree) (8 * base) (leftAt s k)) r new
-                        (elementsAfter left tree q (leftAt s r))) next-place
+                        (inArray left tree q (leftAt s r))) next-place
                         (setting-on t
                         (setting-then (elements left (write tree) (span tree) (place + span tree)) step (t .taken) d));
                   };

@@ -16,20 +16,21 @@ use Rattle.values.specs.inside.reading.Walk.{isNested}
 use Rattle.values.specs.inside.reading.Walkable.{NestedRow, RowOf, Walkable}
 use Rattle.values.specs.inside.writing.Passes.{Applied, accepted, firstKind, leftAt}
 use Rattle.values.specs.inside.writing.Rows.{Here, LeafRow, MemberHere, branchesIn, memberTree, treeIn}
-use Rattle.values.specs.reading.Tree.{Branches, struct}
+use Rattle.values.specs.reading.Tree.{struct}
 use Rattle.values.specs.stream.Form.{countIn, streamOk}
 use Rattle.values.specs.stream.Stream.{Token, kindOf, payloadOf}
 use Rattle.values.specs.writing.Writing.{Outcome, andThen, opened, membersIn, write, writeBranch}
 use Rattle.values.proofs.reading.MemberLaws.{row-of}
-use Rattle.values.proofs.stream.LeftLaws.{There, few-entries, left-long, payloadAt}
+use Rattle.values.proofs.stream.LeftLaws.{EntryThere, few-entries, left-long, payloadAt, kind-there}
 use Rattle.values.proofs.writing.ApplyLaws.{Setting, accepted-as, accepted-first, applied-as, not-accepted}
 use Rattle.values.proofs.writing.ApplyLaws.{setting-from, setting-on, setting-then, opened-there, opened-kept}
 use Rattle.values.proofs.writing.ApplyLaws.{opened-set, members-there, members-closed, members-seven}
-use Rattle.values.proofs.writing.ApplyLaws.{members-step}
 use Rattle.values.proofs.writing.BranchLaws.{branch-is, branch-hidden, branch-past}
+use Rattle.values.proofs.writing.OutcomeLaws.{inStruct, struct-opens}
+use Rattle.values.proofs.writing.StepLaws.{members-go}
 
 -- an entry's number is small
-pub next-small : {s : List ℕ} {k : ℕ} → There s k → streamOk s ≡ true → k < 2 ^ 28
+pub next-small : {s : List ℕ} {k : ℕ} → EntryThere s k → streamOk s ≡ true → k < 2 ^ 28
 next-small {s} t form = omega (arith, t .inside, few-entries s form)
 
 -- what was set from the next entry on was set from this one on
@@ -39,15 +40,6 @@ applied-after a =
     record { further = let l = a .further in omega arith; inside = a .inside; long = a .long; gives = a .gives }
 
 -- ---- its members
-
--- what is inside a structure, after its opening
-abbrev membersAfter : Branches → ℕ → List Token → Bits → Outcome
-membersAfter bs p ts z = membersIn (suc (length ts)) (writeBranch bs p) ts z
-
-struct-opens : (size : ℕ) (bs : Branches) (p : ℕ) (ts : List Token) (z : Bits)
-    → write (struct size bs) p ts z ≡ opened 8 (membersAfter bs p) ts z
-unfolding write
-struct-opens size bs p ts z = refl
 
 -- the members of a structure are to be set from an entry on
 pub record MembersAsked (types members : List ℕ) (i : ℕ) (s : List ℕ) (k : ℕ) (image : List ℕ) (base : ℕ) : Type 0 where
@@ -61,14 +53,14 @@ pub record MembersAsked (types members : List ℕ) (i : ℕ) (s : List ℕ) (k :
 module _ {types members : List ℕ} {i : ℕ} {s : List ℕ} {k : ℕ} {image : List ℕ} {base : ℕ}
     (w : MembersAsked types members i s k image base) where
   abbrev inner : List Token → Bits → Outcome
-  inner = membersAfter (branchesIn types members i) (8 * base)
+  inner = inStruct (branchesIn types members i) (8 * base)
 
   opens : write (struct (8 * sizesIn types i) (branchesIn types members i)) (8 * base) (leftAt s k) (flat image)
       ≡ opened 8 inner (leftAt s k) (flat image)
   opens = struct-opens (8 * sizesIn types i) (branchesIn types members i) (8 * base) (leftAt s k) (flat image)
 
   -- an accepted structure has its entry
-  pub struct-there : There s k
+  pub struct-there : EntryThere s k
   struct-there = opened-there (w .form) 8 inner (flat image) (accepted-as opens (w .set))
 
   -- null for the whole structure keeps what stands
@@ -86,7 +78,7 @@ module _ {types members : List ℕ} {i : ℕ} {s : List ℕ} {k : ℕ} {image : 
       (opened-set (w .form) 8 inner struct-there n (accepted-as opens (w .set)))
 
 -- the members before entry p are set; one more than `more` is above the entries that are left
-pub record Members (types members : List ℕ) (i : ℕ) (s : List ℕ) (k : ℕ) (image : List ℕ) (base first p : ℕ)
+pub record MembersSet (types members : List ℕ) (i : ℕ) (s : List ℕ) (k : ℕ) (image : List ℕ) (base first p : ℕ)
     (now : List ℕ) : Type 0 where
   pub asked : MembersAsked types members i s k image base
   pub rows : first ≡ typeAt types i .first
@@ -97,7 +89,7 @@ pub record Members (types members : List ℕ) (i : ℕ) (s : List ℕ) (k : ℕ)
       (membersIn (suc more) (writeBranch (branchesIn types members i) (8 * base)) (leftAt s p))
 
 -- the next entry names a visible member, and its value comes after it
-pub record Named (types members : List ℕ) (i : ℕ) (s : List ℕ) (k : ℕ) (image : List ℕ) (base first p : ℕ)
+pub record MemberNamed (types members : List ℕ) (i : ℕ) (s : List ℕ) (k : ℕ) (image : List ℕ) (base first p : ℕ)
     (now : List ℕ) (row : ℕ) : Type 0 where
   pub inside : p < countIn s
   pub row-of : RowOf types members i row
@@ -110,12 +102,12 @@ pub record Named (types members : List ℕ) (i : ℕ) (s : List ℕ) (k : ℕ) (
       → Applied s (p + 1) r now new
       (write (memberTree (treeIn types members) (memberAt members row)) (8 * base + firstBit (memberAt members row))
       (leftAt s (p + 1)))
-      → Members types members i s k image base first r new
+      → MembersSet types members i s k image base first r new
 
 -- after the opening no member is set yet
 pub members-start : {types members : List ℕ} {i : ℕ} {s : List ℕ} {k : ℕ} {image : List ℕ} {base first : ℕ}
     {d : StructDef} → MembersAsked types members i s k image base → (firstKind (leftAt s k) ≡ 0 → ⊥)
-    → d ≡ typeAt types i → first ≡ d .first → Members types members i s k image base first (k + 1) image
+    → d ≡ typeAt types i → first ≡ d .first → MembersSet types members i s k image base first (k + 1) image
 members-start {s = s} {k = k} w n is f =
     record {
       asked = w;
@@ -126,12 +118,12 @@ members-start {s = s} {k = k} w n is f =
     }
 
 module _ {types members : List ℕ} {i : ℕ} {s : List ℕ} {k : ℕ} {image : List ℕ} {base first p : ℕ} {now : List ℕ}
-    (v : Members types members i s k image base first p now) where
+    (v : MembersSet types members i s k image base first p now) where
   abbrev one : Token → List Token → Bits → Outcome
   one = writeBranch (branchesIn types members i) (8 * base)
 
   -- the next entry of the accepted members is there
-  pub member-there : There s p
+  pub member-there : EntryThere s p
   member-there = members-there (v .asked .form) (suc (v .more)) one (flat now) (v .setting .taken)
 
   -- the structure lies in the image as it now stands
@@ -153,7 +145,7 @@ module _ {types members : List ℕ} {i : ℕ} {s : List ℕ} {k : ℕ} {image : 
     step : membersIn (suc (v .more)) one (leftAt s p) (flat now)
         ≡ andThen (one (member-there .token) (leftAt s (p + 1)) (flat now))
         (membersIn (v .more) one)
-    step = members-step (v .asked .form) one member-there (v .more) (flat now) seven
+    step = members-go (v .asked .form) one (v .more) member-there (kind-there member-there ∙ seven) (flat now)
 
     taken : accepted (one (member-there .token) (leftAt s (p + 1)) (flat now)) ≡ true
     taken =
@@ -162,7 +154,7 @@ module _ {types members : List ℕ} {i : ℕ} {s : List ℕ} {k : ℕ} {image : 
 
     -- one member is set, and so many entries are taken
     after : (r : ℕ) (new : List ℕ) → Applied s (p + 1) r now new (one (member-there .token) (leftAt s (p + 1)))
-        → Members types members i s k image base first r new
+        → MembersSet types members i s k image base first r new
     after r new a =
         go (v .more) (v .enough)
         (setting-on (v .setting) (setting-then (membersIn (v .more) one) step (v .setting .taken) (applied-after a)))
@@ -171,7 +163,7 @@ module _ {types members : List ℕ} {i : ℕ} {s : List ℕ} {k : ℕ} {image : 
             → Setting s k image
             (write (struct (8 * sizesIn types i) (branchesIn types members i)) (8 * base) (leftAt s k)) r new
             (membersIn more one (leftAt s r))
-            → Members types members i s k image base first r new
+            → MembersSet types members i s k image base first r new
         go zero l t = absurd (let x : ⊥ = omega (arith, member-there .inside) in x)
         go (suc more) l t =
             record {
@@ -207,7 +199,7 @@ module _ {types members : List ℕ} {i : ℕ} {s : List ℕ} {k : ℕ} {image : 
               (branch-hidden types members i (8 * base) (member-there .token) (leftAt s (p + 1)) (flat now) x number
               below h) taken
 
-      named-row : Named types members i s k image base first p now (typeAt types i .first + x)
+      named-row : MemberNamed types members i s k image base first p now (typeAt types i .first + x)
       named-row =
           let is = branch-is types members i (8 * base) (member-there .token) (leftAt s (p + 1)) (flat now) x number
           below shown in
@@ -220,13 +212,15 @@ module _ {types members : List ℕ} {i : ℕ} {s : List ℕ} {k : ℕ} {image : 
           }
 
       -- an accepted entry that is no close names a visible member, in the row of its number
-      pub named : Named types members i s k image base first p now (first + x)
-      named = subst (λ (f : ℕ). Named types members i s k image base first p now (f + x)) (sym (v .rows)) named-row
+      pub named : MemberNamed types members i s k image base first p now (first + x)
+      named =
+          subst (λ (f : ℕ). MemberNamed types members i s k image base first p now (f + x)) (sym (v .rows)) named-row
 
 -- what a row asks to be set, where it is a structure or not
 module _ {types members : List ℕ} {i : ℕ} {s : List ℕ} {k : ℕ} {image : List ℕ} {base first p : ℕ} {now : List ℕ}
-    {row : ℕ} (v : Members types members i s k image base first p now)
-    (u : Named types members i s k image base first p now row) {b : Bool} (test : b ≡ isNested (memberAt members row))
+    {row : ℕ} (v : MembersSet types members i s k image base first p now)
+    (u : MemberNamed types members i s k image base first p now row)
+    {b : Bool} (test : b ≡ isNested (memberAt members row))
   where
     -- a named member that is a structure, or an array of them, stands in a row of that sort
     pub named-nested : b ≡ true → NestedRow types members i row

@@ -1,15 +1,15 @@
 -- Bools set as bits (document 01, "Writing"): eight of them are a byte, and what is set in an image one after the other
 -- is one run of bits.
-use Prim.Native.Nat.{ℕ, zero, suc, _+_, _-_, _*_, _/_, _%_, _^_, _<_, _≤_}
+use Prim.Native.Nat.{ℕ, _+_, _-_, _*_, _/_, _%_, _^_, _<_, _≤_}
 use native.Mathlib.Omega.{arith}
 use mathlib.Core.Path.{_≡_, refl, sym, ap, _∙_}
 use mathlib.Core.Bool.{Bool}
 use mathlib.Core.List.{List}
 use lib.Dec.{eqb}
 use lib.ListN.{getD, length, length-set, set}
-use Rattle.words.specs.Bits.{Bits, bitOf, digit, flat, from, stamp, val, withBit}
-use Rattle.words.proofs.BitLaws.{bit-val, flat-set, flat-with}
-use Rattle.words.proofs.StampLaws.{stamp-ext, stamp-none, stamp-two}
+use Rattle.words.specs.Bits.{Bits, bitOf, digit, flat, from, stamp, val}
+use Rattle.words.proofs.BitLaws.{bit-val, flat-set, digit-is}
+use Rattle.words.proofs.StampLaws.{stamp-ext, stamp-none, stamp-two, flat-bit}
 use Rattle.values.specs.inside.writing.Bools.{AtLeast, Bools, truths}
 use Rattle.values.specs.inside.writing.Passes.{Applied, leftAt}
 use Rattle.values.specs.writing.Writing.{boolsIn}
@@ -29,11 +29,6 @@ pub record EightBytes (s : List ℕ) (at : ℕ) : Type 0 where
   pub b5 : getD s (at + 60) 0 < 2
   pub b6 : getD s (at + 72) 0 < 2
   pub b7 : getD s (at + 84) 0 < 2
-
-digit-is : (x : ℕ) → x < 2 → digit (eqb x 1) ≡ x
-digit-is zero h = refl
-digit-is (suc zero) h = refl
-digit-is (suc (suc x)) h = absurd (let z : ⊥ = omega arith in z)
 
 module _ {s : List ℕ} {k : ℕ} (r : AtLeast s k 8) where
   byte-at : (i at : ℕ) → i < 8 → 8 + 12 * (k + i) ≡ at → getD s at 0 < 2
@@ -84,23 +79,25 @@ module _ {s : List ℕ} {k : ℕ} (r : AtLeast s k 8) where
 -- ---- bools set in an image
 
 -- the first n bools from entry k on are set from bit p on
-pub record Laid (s : List ℕ) (k p : ℕ) (image : List ℕ) (n : ℕ) (new : List ℕ) : Type 0 where
+pub record BoolsSet (s : List ℕ) (k p : ℕ) (image : List ℕ) (n : ℕ) (new : List ℕ) : Type 0 where
   pub long : length new ≡ length image
   pub bits : flat new ≡ stamp p n (truths s k) (flat image)
 
 -- before the first bool the image is as it was
-pub laid-none : {s : List ℕ} {k p : ℕ} {image : List ℕ} {n : ℕ} → n ≡ 0 → Laid s k p image n image
+pub laid-none : {s : List ℕ} {k p : ℕ} {image : List ℕ} {n : ℕ} → n ≡ 0 → BoolsSet s k p image n image
 laid-none {s} {k} {p} {image} {n} e = record { long = refl; bits = rw e (sym (stamp-none p (truths s k) (flat image))) }
 
 -- all of them
-pub laid-all : {s : List ℕ} {k p : ℕ} {image : List ℕ} {m : ℕ} {new : List ℕ} {n : ℕ} → Laid s k p image m new → m ≡ n
+pub laid-all : {s : List ℕ} {k p : ℕ} {image : List ℕ} {m : ℕ} {new : List ℕ} {n : ℕ} → BoolsSet s k p image m new
+    → m ≡ n
     → flat new ≡ stamp p n (truths s k) (flat image)
 laid-all {n} a e = rw e at (a .bits)
 
 -- and some more
 laid-more : {s : List ℕ} {k p : ℕ} {image : List ℕ} {m : ℕ} {new : List ℕ} (q n : ℕ) (b : Bits) (newer : List ℕ)
-    (sum : ℕ) → Laid s k p image m new → q ≡ p + m → sum ≡ m + n → length newer ≡ length new
-    → flat newer ≡ stamp q n b (flat new) → ((i : ℕ) → i < n → b i ≡ truths s k (m + i)) → Laid s k p image sum newer
+    (sum : ℕ) → BoolsSet s k p image m new → q ≡ p + m → sum ≡ m + n → length newer ≡ length new
+    → flat newer ≡ stamp q n b (flat new) → ((i : ℕ) → i < n → b i ≡ truths s k (m + i))
+    → BoolsSet s k p image sum newer
 laid-more {s} {k} {p} {image} {m} {new} q n b newer sum a e f long h g =
     record {
       long = long ∙ a .long;
@@ -111,8 +108,8 @@ laid-more {s} {k} {p} {image} {m} {new} q n b newer sum a e f long h g =
 
 -- a byte of eight
 pub laid-byte : {s : List ℕ} {k : ℕ} {image new : List ℕ} (base b : ℕ) {x : ℕ}
-    → Laid s k (8 * base) image (8 * b) new → base + b < length new → x ≡ val 8 (truths s (k + 8 * b))
-    → Laid s k (8 * base) image (8 * (b + 1)) (set new (base + b) x)
+    → BoolsSet s k (8 * base) image (8 * b) new → base + b < length new → x ≡ val 8 (truths s (k + 8 * b))
+    → BoolsSet s k (8 * base) image (8 * (b + 1)) (set new (base + b) x)
 laid-byte {s} {k} {image} {new} base b {x} a l e =
     laid-more (8 * (base + b)) 8 (bitOf x) (set new (base + b) x) (8 * (b + 1)) a (omega arith) (omega arith)
     (length-set new (base + b) x) (flat-set new (base + b) x l)
@@ -120,19 +117,14 @@ laid-byte {s} {k} {image} {new} base b {x} a l e =
 
 -- one bit
 pub laid-bit : {s : List ℕ} {k : ℕ} {image new : List ℕ} (newer : List ℕ) (at j : ℕ) (v : Bool)
-    → Laid s k (8 * at) image j new → length newer ≡ length new
+    → BoolsSet s k (8 * at) image j new → length newer ≡ length new
     → flat newer ≡ stamp (8 * at + j) 1 (λ i. v) (flat new) → v ≡ eqb (getD s (8 + 12 * (k + j)) 0) 1
-    → Laid s k (8 * at) image (j + 1) newer
+    → BoolsSet s k (8 * at) image (j + 1) newer
 laid-bit {s} {k} {image} {new} newer at j v a long e t =
     laid-more (8 * at + j) 1 (λ i. v) newer (j + 1) a refl refl long e (λ i h. t ∙ same i h)
   where
     same : (i : ℕ) → i < 1 → eqb (getD s (8 + 12 * (k + j)) 0) 1 ≡ truths s k (j + i)
     same i h = unfold truths in ap (λ y. eqb (getD s y 0) 1) (omega arith)
-
--- one bit of a byte, as code sets it
-pub bit-set : (image : List ℕ) (at b x : ℕ) (v : Bool) → x ≡ withBit (getD image at 0) b v → at < length image → b < 8
-    → flat (set image at x) ≡ stamp (8 * at + b) 1 (λ i. v) (flat image)
-bit-set image at b x v e l h = ap (λ y. flat (set image at y)) e ∙ flat-with image at b v l h
 
 -- ---- the whole
 
@@ -165,14 +157,14 @@ pub laid-both : {s : List ℕ} {k : ℕ} {image newer : List ℕ} (new : List �
     → length new ≡ length image
     → flat new ≡ stamp (8 * base) (8 * (m / 8)) (truths s k) (flat image) → length newer ≡ length new
     → flat newer ≡ stamp (8 * (base + m / 8)) (m % 8) (truths s (k + 8 * (m / 8))) (flat new)
-    → Laid s k (8 * base) image m newer
+    → BoolsSet s k (8 * base) image m newer
 laid-both {s} {k} {image} {newer} new base m long e more f =
     laid-more (8 * (base + m / 8)) (m % 8) (truths s (k + 8 * (m / 8))) newer m (record { long = long; bits = e })
     (omega arith) (omega arith) more f (λ i l. truths-from s k (8 * (m / 8)) i)
 
 -- where all bools of an accepted array are set, the array is set up to its close
 pub bools-applied : {s : List ℕ} {k total : ℕ} {image new : List ℕ} (q base : ℕ)
-    → Laid s k (8 * base) image (q - k) new → (a : Accepts s k total (8 * base) (flat image)) → q ≡ k + a .many
+    → BoolsSet s k (8 * base) image (q - k) new → (a : Accepts s k total (8 * base) (flat image)) → q ≡ k + a .many
     → Applied s k (q + 1) image new (boolsIn total (8 * base) (leftAt s k))
 bools-applied {s} {k} {total} {image} {new} q base l a e =
     let many : a .many ≡ q - k = omega arith in

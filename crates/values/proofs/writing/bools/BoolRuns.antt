@@ -10,8 +10,8 @@ use borrow.Author.Tests.{eq-eqb, ne-eqb}
 use lib.Dec.{eqb}
 use lib.ListN.{getD, length}
 use Rattle.words.specs.Bits.{Bits, bitOf, flat, from, stamp}
-use Rattle.words.specs.Words.{wordAt}
 use Rattle.words.proofs.StampLaws.{stamp-ext, stamp-none, stamp-two}
+use Rattle.words.proofs.WordLaws.{low-byte}
 use Rattle.values.specs.inside.writing.Bools.{AtLeast, Bools, BoolRun, truths}
 use Rattle.values.specs.inside.writing.Passes.{accepted, firstKind, leftAt}
 use Rattle.values.specs.reading.Leaf.{flag}
@@ -19,18 +19,13 @@ use Rattle.values.specs.stream.Form.{streamOk}
 use Rattle.values.specs.stream.Stream.{kindOf, payloadOf}
 use Rattle.values.specs.writing.Effects.{ofKind, payloadBits, taken}
 use Rattle.values.specs.writing.Writing.{Outcome, ok, bad, andThen, boolsIn, elements, writeOne}
-use Rattle.values.proofs.stream.LeftLaws.{There, entries-inside, few-entries, kind-there, payloadAt, there}
+use Rattle.values.proofs.stream.LeftLaws.{EntryThere, entries-inside, few-entries, kind-there, payloadAt, there}
 use Rattle.values.proofs.writing.ApplyLaws.{accepted-as, elements-there, not-accepted}
 use Rattle.values.proofs.writing.OutcomeLaws.{elements-close, elements-full, elements-next, one-is}
 
 -- ---- one bool
 
--- the low byte of a word that is 0 or 1 is the word
-low-byte : (n : ℕ) (s : List ℕ) (at : ℕ) → wordAt (suc n) s at < 2 → getD s at 0 ≡ wordAt (suc n) s at
-unfolding wordAt
-low-byte n s at h = omega arith
-
-module _ {s : List ℕ} {k : ℕ} (t : There s k) (one : kindOf (t .token) ≡ 1) where
+module _ {s : List ℕ} {k : ℕ} (t : EntryThere s k) (one : kindOf (t .token) ≡ 1) where
   -- the first byte of its payload is the payload
   bool-byte : getD s (8 + 12 * k) 0 ≡ payloadAt s k
   bool-byte = low-byte 7 s (8 + 12 * k) (t .truth one)
@@ -55,7 +50,7 @@ truths-from s k m i = ap (λ j. eqb (getD s j 0) 1) (omega arith)
 -- ---- a run
 
 module _ {s : List ℕ} {k m : ℕ} (r : BoolRun s k m) where
-  run-there : (i : ℕ) → i < m → There s (k + i)
+  run-there : (i : ℕ) → i < m → EntryThere s (k + i)
   run-there i l = there s (k + i) (r .form) (omega (arith, r .inside))
 
   -- each of its bools is a byte 0 or 1
@@ -141,7 +136,7 @@ pub record Accepts (s : List ℕ) (k total p : ℕ) (z : Bits) : Type 0 where
   pub run : BoolRun s k many
   pub gives : boolsIn total p (leftAt s k) z ≡ ok (leftAt s (k + many + 1)) (stamp p many (truths s k) z)
 
-module _ {s : List ℕ} (form : streamOk s ≡ true) {k : ℕ} (t : There s k) (p : ℕ) (z : Bits) where
+module _ {s : List ℕ} (form : streamOk s ≡ true) {k : ℕ} (t : EntryThere s k) (p : ℕ) (z : Bits) where
   -- a bool is set, and no other entry fits
   one-set : kindOf (t .token) ≡ 1
       → writeOne (taken flag) 1 p (leftAt s k) z ≡ ok (leftAt s (k + 1)) (stamp p 1 (payloadBits (t .token)) z)

@@ -5,7 +5,6 @@ use native.Mathlib.Omega.{arith}
 use mathlib.Core.Path.{_≡_, refl, sym, ap, _∙_}
 use mathlib.Core.Bool.{Bool, true, false}
 use mathlib.Core.List.{List}
-use lib.ListN.{length}
 use borrow.Author.Tests.{ne-eqb}
 use Rattle.words.specs.Bits.{Bits}
 use Rattle.types.specs.tables.Lent.{memberAt, typeAt}
@@ -16,7 +15,7 @@ use Rattle.types.specs.declared.tables.member.StructDef.{StructDef}
 use Rattle.types.specs.declared.tables.member.Ty.the-variants as ty
 use Rattle.values.specs.inside.reading.Walk.{isNested}
 use Rattle.values.specs.inside.reading.Walkable.{IsString, NestedRow, Walkable}
-use Rattle.values.specs.inside.writing.Passes.{Checked, WellFormed, firstKind, leftAt}
+use Rattle.values.specs.inside.writing.Passes.{CheckedFrom, WellFormed, firstKind, leftAt}
 use Rattle.values.specs.inside.writing.Rows.{branchesIn, memberTree, treeIn}
 use Rattle.values.specs.reading.Leaf.{str, width}
 use Rattle.values.specs.reading.Texts.{capacityAt}
@@ -25,11 +24,11 @@ use Rattle.values.specs.reading.Trees.{isString, structsTree}
 use Rattle.values.specs.stream.Form.{streamOk}
 use Rattle.values.specs.stream.Stream.{Token}
 use Rattle.values.specs.writing.Effects.{asText, orNull}
-use Rattle.values.specs.writing.Writing.{Outcome, andThen, writeOne, opened, elements, membersIn, write}
-use Rattle.values.specs.writing.Writing.{writeBranch}
+use Rattle.values.specs.writing.Writing.{Outcome, andThen, writeOne, opened, elements, write}
 use Rattle.values.proofs.reading.MemberLaws.{nested-whole}
-use Rattle.values.proofs.stream.LeftLaws.{There, by-kind, few-entries, there}
+use Rattle.values.proofs.stream.LeftLaws.{EntryThere, by-kind, few-entries, there}
 use Rattle.values.proofs.writing.BranchLaws.{string-tree, members-tree}
+use Rattle.values.proofs.writing.OutcomeLaws.{inStruct, inArray, struct-opens, array-opens}
 use Rattle.values.proofs.writing.StepLaws.{Onward, checked-as, onward-on, onward-then, refused-then}
 use Rattle.values.proofs.writing.StepLaws.{opened-keeps, opened-goes, opened-refuses, elements-missing}
 use Rattle.values.proofs.writing.StepLaws.{elements-closes, elements-refuse, elements-go}
@@ -39,7 +38,7 @@ pub entry-small : {s : List ℕ} {n k : ℕ} → WellFormed s n → k ≤ n → 
 entry-small {s} told l = omega (arith, told .count, few-entries s (told .form))
 
 -- an answer of the check from a later entry on is one from an earlier entry on
-pub checked-earlier : {s : List ℕ} {k p r : ℕ} {f : Bits → Outcome} → k ≤ p → Checked s p r f → Checked s k r f
+pub checked-earlier : {s : List ℕ} {k p r : ℕ} {f : Bits → Outcome} → k ≤ p → CheckedFrom s p r f → CheckedFrom s k r f
 checked-earlier l c =
     record {
       goes = λ h. record {
@@ -59,8 +58,8 @@ module _ {types members : List ℕ} (w : Walkable types members) {i : ℕ} (low 
 
   -- no string: what the check answers of the members it answers of the structure
   pub struct-checked : {s : List ℕ} {k r : ℕ} → b ≡ false
-      → ((p : ℕ) → Checked s k r (write (struct (8 * sizesIn types i) (branchesIn types members i)) p (leftAt s k)))
-      → (p : ℕ) → Checked s k r (write (treeIn types members i) p (leftAt s k))
+      → ((p : ℕ) → CheckedFrom s k r (write (struct (8 * sizesIn types i) (branchesIn types members i)) p (leftAt s k)))
+      → (p : ℕ) → CheckedFrom s k r (write (treeIn types members i) p (leftAt s k))
   struct-checked {s} {k} e h p =
       checked-as
       (λ z. ap (λ (t : Tree). write t p (leftAt s k) z) (members-tree types members w i low (kind-is ∙ e))) (h p)
@@ -83,8 +82,8 @@ module _ {types members : List ℕ} (w : Walkable types members) {i : ℕ} (low 
 
     -- a string: what the check answers of one text or null it answers of the structure
     pub text-checked : {capacity : ℕ} {s : List ℕ} {k r : ℕ} → capacity ≡ capacityAt members first
-        → ((v q : ℕ) → Checked s k r (writeOne (orNull (asText capacity)) v q (leftAt s k)))
-        → (q : ℕ) → Checked s k r (write (treeIn types members i) q (leftAt s k))
+        → ((v q : ℕ) → CheckedFrom s k r (writeOne (orNull (asText capacity)) v q (leftAt s k)))
+        → (q : ℕ) → CheckedFrom s k r (write (treeIn types members i) q (leftAt s k))
     text-checked {capacity} {s} {k} c h q =
         let same : capacityAt members (typeAt types i .first) ≡ capacity = sym (c ∙ ap (capacityAt members) first-is) in
         checked-as
@@ -116,16 +115,16 @@ module _ {types members : List ℕ} {i row t n : ℕ} (v : NestedRow types membe
 
   -- count 0: what the check answers of the structure it answers of the member
   pub one-checked : {s : List ℕ} {k r : ℕ} → n ≡ 0
-      → ((p : ℕ) → Checked s k r (write (treeIn types members t) p (leftAt s k)))
-      → (p : ℕ) → Checked s k r (write (memberTree (treeIn types members) (memberAt members row)) p (leftAt s k))
+      → ((p : ℕ) → CheckedFrom s k r (write (treeIn types members t) p (leftAt s k)))
+      → (p : ℕ) → CheckedFrom s k r (write (memberTree (treeIn types members) (memberAt members row)) p (leftAt s k))
   one-checked {s} {k} z h p =
       checked-as
       (λ x. ap (λ (u : Tree). write u p (leftAt s k) x) (named-tree ∙ structs-one (treeIn types members) t n z)) (h p)
 
   -- any other count: what the check answers of the array it answers of the member
   pub some-checked : {s : List ℕ} {k r : ℕ} → (n ≡ 0 → ⊥)
-      → ((p : ℕ) → Checked s k r (write (array n (treeIn types members t)) p (leftAt s k)))
-      → (p : ℕ) → Checked s k r (write (memberTree (treeIn types members) (memberAt members row)) p (leftAt s k))
+      → ((p : ℕ) → CheckedFrom s k r (write (array n (treeIn types members t)) p (leftAt s k)))
+      → (p : ℕ) → CheckedFrom s k r (write (memberTree (treeIn types members) (memberAt members row)) p (leftAt s k))
   some-checked {s} {k} z h p =
       checked-as
       (λ x. ap (λ (u : Tree). write u p (leftAt s k) x) (named-tree ∙ structs-some (treeIn types members) t n z)) (h p)
@@ -144,60 +143,42 @@ opened-left {s} {k} start inner form a b e same =
       onward = λ r c. checked-as same (opened-goes form start inner a b e c);
     }
 
--- inside a structure, and inside an array
-abbrev pub inStruct : Branches → ℕ → List Token → Bits → Outcome
-inStruct bs q us z = membersIn (suc (length us)) (writeBranch bs q) us z
-
-abbrev inArray : ℕ → Tree → ℕ → List Token → Bits → Outcome
-inArray n tree q us z = elements n (write tree) (span tree) q us z
-
--- a structure is written as a null, or as an opening and the members inside
-pub struct-is : (size : ℕ) (bs : Branches) (q : ℕ) (ts : List Token) (z : Bits)
-    → write (struct size bs) q ts z ≡ opened 8 (inStruct bs q) ts z
-unfolding write
-struct-is size bs q ts z = refl
-
-array-is : (n : ℕ) (tree : Tree) (q : ℕ) (ts : List Token) (z : Bits)
-    → write (array n tree) q ts z ≡ opened 10 (inArray n tree q) ts z
-unfolding write
-array-is n tree q ts z = refl
-
 module _ {s : List ℕ} {n k start : ℕ} (told : WellFormed s n) (is : start ≡ firstKind (leftAt s k)) where
   -- null for a structure: the check goes on to the next entry
   pub struct-null : (size : ℕ) (bs : Branches) → start ≡ 0 → (q : ℕ)
-      → Checked s k (k + 1) (write (struct size bs) q (leftAt s k))
+      → CheckedFrom s k (k + 1) (write (struct size bs) q (leftAt s k))
   struct-null size bs e q =
-      checked-as (λ z. struct-is size bs q (leftAt s k) z)
+      checked-as (λ z. struct-opens size bs q (leftAt s k) z)
       (opened-keeps (told .form) 8 (inStruct bs q) (sym is ∙ e))
 
   -- null for an array: the check goes on to the next entry
   pub array-null : (m : ℕ) (tree : Tree) → start ≡ 0 → (q : ℕ)
-      → Checked s k (k + 1) (write (array m tree) q (leftAt s k))
+      → CheckedFrom s k (k + 1) (write (array m tree) q (leftAt s k))
   array-null m tree e q =
-      checked-as (λ z. array-is m tree q (leftAt s k) z)
+      checked-as (λ z. array-opens m tree q (leftAt s k) z)
       (opened-keeps (told .form) 10 (inArray m tree q) (sym is ∙ e))
 
   module _ (l : k ≤ n) {r : ℕ} (a : start ≡ 0 → ⊥) (e : r ≡ 2 ^ 32 * 18 + k) where
     -- neither null nor an opening for a structure: the check answers 18 here
     pub struct-other : (size : ℕ) (bs : Branches) → (start ≡ 8 → ⊥) → (q : ℕ)
-        → Checked s k r (write (struct size bs) q (leftAt s k))
+        → CheckedFrom s k r (write (struct size bs) q (leftAt s k))
     struct-other size bs b q =
-        checked-as (λ z. struct-is size bs q (leftAt s k) z)
+        checked-as (λ z. struct-opens size bs q (leftAt s k) z)
         (opened-refuses (told .form) 8 (inStruct bs q) (omega (arith, told .count)) (λ h. a (is ∙ h))
         (λ h. b (is ∙ h)) e)
 
     -- neither null nor an opening for an array: the check answers 18 here
     pub array-other : (m : ℕ) (tree : Tree) → (start ≡ 10 → ⊥) → (q : ℕ)
-        → Checked s k r (write (array m tree) q (leftAt s k))
+        → CheckedFrom s k r (write (array m tree) q (leftAt s k))
     array-other m tree b q =
-        checked-as (λ z. array-is m tree q (leftAt s k) z)
+        checked-as (λ z. array-opens m tree q (leftAt s k) z)
         (opened-refuses (told .form) 10 (inArray m tree q) (omega (arith, told .count)) (λ h. a (is ∙ h))
         (λ h. b (is ∙ h)) e)
 
 -- ---- the elements of an array of structures: e of them are checked, up to entry p
 
 -- the elements before element e are checked, and the rest is left from entry p on
-pub record Elements (types members : List ℕ) (i count : ℕ) (s : List ℕ) (n k p e : ℕ) : Type 0 where
+pub record ElementsChecked (types members : List ℕ) (i count : ℕ) (s : List ℕ) (n k p e : ℕ) : Type 0 where
   pub told : WellFormed s n
   pub walk : Walkable types members
   pub low : i < mostTypes
@@ -210,7 +191,7 @@ pub record Elements (types members : List ℕ) (i count : ℕ) (s : List ℕ) (n
 -- after the opening no element is checked yet
 pub elements-start : {types members : List ℕ} {i count : ℕ} {s : List ℕ} {n k start : ℕ} → WellFormed s n
     → Walkable types members → i < mostTypes → start ≡ firstKind (leftAt s k) → start ≡ 10
-    → Elements types members i count s n k (k + 1) 0
+    → ElementsChecked types members i count s n k (k + 1) 0
 elements-start {types} {members} {i} {count} {s} {n} {k} told w low is e =
     record {
       told = told;
@@ -220,62 +201,62 @@ elements-start {types} {members} {i} {count} {s} {n} {k} told w low is e =
       all = omega arith;
       place = λ q. q;
       left = λ q. opened-left 10 (inArray count (treeIn types members i) q) (told .form) (omega arith) (omega arith)
-          (sym is ∙ e) (λ z. array-is count (treeIn types members i) q (leftAt s k) z);
+          (sym is ∙ e) (λ z. array-opens count (treeIn types members i) q (leftAt s k) z);
     }
 
 module _ {types members : List ℕ} {i count : ℕ} {s : List ℕ} {n k p e : ℕ}
-    (w : Elements types members i count s n k p e) where
+    (w : ElementsChecked types members i count s n k p e) where
   abbrev tree : Tree
   tree = treeIn types members i
 
   -- what the whole check answers
-  abbrev Answer : ℕ → Type 0
-  Answer r = (q : ℕ) → Checked s k r (write (array count tree) q (leftAt s k))
+  abbrev ArrayAnswer : ℕ → Type 0
+  ArrayAnswer r = (q : ℕ) → CheckedFrom s k r (write (array count tree) q (leftAt s k))
 
   -- the elements are checked up to an entry, or to the end of the entries
   pub elements-inside : p ≤ n
   elements-inside = let l = w .left 0 .inside in omega (arith, w .told .count)
 
   -- the way out with 18: no entry is left
-  pub elements-short : {r : ℕ} → n ≤ p → r ≡ 2 ^ 32 * 18 + p → Answer r
+  pub elements-short : {r : ℕ} → n ≤ p → r ≡ 2 ^ 32 * 18 + p → ArrayAnswer r
   elements-short {r} h e q =
       w .left q .onward r
       (elements-missing (w .told .form) (write tree) (span tree) (w .rest) (w .place q)
       (omega (arith, elements-inside, w .told .count)) e)
 
   module _ (l : p < n) {kind : ℕ} (is : kind ≡ firstKind (leftAt s p)) where
-    here : There s p
+    here : EntryThere s p
     here = there s p (w .told .form) (omega (arith, w .told .count))
 
     -- the way out at the close: the next entry is answered
-    pub elements-done : kind ≡ 11 → Answer (p + 1)
+    pub elements-done : kind ≡ 11 → ArrayAnswer (p + 1)
     elements-done h q =
         w .left q .onward (p + 1)
         (elements-closes (w .told .form) (write tree) (span tree) (w .rest) (w .place q) (sym is ∙ h))
 
     module _ (more-left : kind ≡ 11 → ⊥) {r : ℕ} where
       -- past the last place
-      pub elements-past : e ≡ count → r ≡ 2 ^ 32 * 20 + p → Answer r
+      pub elements-past : e ≡ count → r ≡ 2 ^ 32 * 20 + p → ArrayAnswer r
       elements-past full h q =
           let none : w .rest ≡ 0 = omega (arith, w .all) in
           w .left q .onward r
           (rw none
           (elements-refuse (w .told .form) (write tree) (span tree) (w .place q) here (λ x. more-left (is ∙ x)) h))
 
-      module _ (more : e ≡ count → ⊥) (c : (q : ℕ) → Checked s p r (write tree q (leftAt s p))) where
+      module _ (more : e ≡ count → ⊥) (c : (q : ℕ) → CheckedFrom s p r (write tree q (leftAt s p))) where
         step : (rest q : ℕ) (z : Bits) → elements (suc rest) (write tree) (span tree) q (leftAt s p) z
             ≡ andThen (write tree q (leftAt s p) z) (elements rest (write tree) (span tree) (q + span tree))
         step rest q z =
             elements-go (w .told .form) (write tree) (span tree) rest q here (λ x. more-left (is ∙ x)) z
 
         -- one element that is refused
-        pub elements-refused : 2 ^ 32 ≤ r → Answer r
+        pub elements-refused : 2 ^ 32 ≤ r → ArrayAnswer r
         elements-refused h q = go (w .rest) (w .all) (w .left q)
           where
             go : (rest : ℕ) → e + rest ≡ count
                 → Onward s k (write (array count tree) q (leftAt s k)) p
                 (elements rest (write tree) (span tree) (w .place q) (leftAt s p))
-                → Checked s k r (write (array count tree) q (leftAt s k))
+                → CheckedFrom s k r (write (array count tree) q (leftAt s k))
             go zero a o = absurd (more (omega arith))
             go (suc rest) a o =
                 o .onward r
@@ -283,13 +264,13 @@ module _ {types members : List ℕ} {i count : ℕ} {s : List ℕ} {n k p e : �
                 (λ z. step rest (w .place q) z) h (c (w .place q)))
 
         -- and one that is taken
-        pub elements-on : r < 2 ^ 32 → Elements types members i count s n k r (e + 1)
+        pub elements-on : r < 2 ^ 32 → ElementsChecked types members i count s n k r (e + 1)
         elements-on h = go (w .rest) (w .all) (w .left)
           where
             go : (rest : ℕ) → e + rest ≡ count
                 → ((q : ℕ) → Onward s k (write (array count tree) q (leftAt s k)) p
                 (elements rest (write tree) (span tree) (w .place q) (leftAt s p)))
-                → Elements types members i count s n k r (e + 1)
+                → ElementsChecked types members i count s n k r (e + 1)
             go zero a o = absurd (more (omega arith))
             go (suc rest) a o =
                 record {

@@ -19,18 +19,19 @@ use Rattle.types.specs.declared.tables.member.Member.{Member}
 use Rattle.types.specs.declared.tables.member.StructDef.{StructDef}
 use Rattle.values.specs.inside.reading.Walk.{isNested}
 use Rattle.values.specs.inside.reading.Walkable.{RowOf, Walkable}
-use Rattle.values.specs.inside.writing.Passes.{Checked, WellFormed, firstKind, leftAt}
+use Rattle.values.specs.inside.writing.Passes.{CheckedFrom, WellFormed, firstKind, leftAt}
 use Rattle.values.specs.inside.writing.Rows.{LeafRow, branchesIn, memberTree, treeIn, visibleRow}
 use Rattle.values.specs.reading.Tree.{Tree, struct}
 use Rattle.values.specs.stream.Form.{countIn}
 use Rattle.values.specs.stream.Stream.{Token, kindOf, payloadOf}
 use Rattle.values.specs.writing.Writing.{Outcome, bad, andThen, membersIn, write, writeBranch}
 use Rattle.values.proofs.reading.MemberLaws.{row-of}
-use Rattle.values.proofs.stream.LeftLaws.{There, kind-there, left-long, there}
+use Rattle.values.proofs.stream.LeftLaws.{EntryThere, kind-there, left-long, there}
 use Rattle.values.proofs.writing.BranchLaws.{branch-is, branch-hidden, branch-past}
+use Rattle.values.proofs.writing.OutcomeLaws.{inStruct, struct-opens}
 use Rattle.values.proofs.writing.StepLaws.{Onward, onward-on, onward-then, refused-then, refuses-at}
 use Rattle.values.proofs.writing.StepLaws.{members-missing, members-closes, members-refuse, members-go}
-use Rattle.values.proofs.writing.check.CheckLaws.{checked-earlier, inStruct, opened-left, struct-is}
+use Rattle.values.proofs.writing.check.CheckLaws.{checked-earlier, opened-left}
 
 -- ---- the row of a visible member
 
@@ -81,7 +82,7 @@ abbrev membersTree : List ℕ → List ℕ → ℕ → Tree
 membersTree types members i = struct (8 * sizesIn types i) (branchesIn types members i)
 
 -- `most` is at least the number of the entries that are left
-pub record Members (types members : List ℕ) (i : ℕ) (s : List ℕ) (n k first count p : ℕ) : Type 0 where
+pub record MembersChecked (types members : List ℕ) (i : ℕ) (s : List ℕ) (n k first count p : ℕ) : Type 0 where
   pub told : WellFormed s n
   pub walk : Walkable types members
   pub low : i < mostTypes
@@ -96,7 +97,7 @@ pub record Members (types members : List ℕ) (i : ℕ) (s : List ℕ) (n k firs
 pub members-start : {types members : List ℕ} {i : ℕ} {s : List ℕ} {n k start first count : ℕ} {d : StructDef}
     → WellFormed s n → Walkable types members → i < mostTypes → start ≡ firstKind (leftAt s k) → start ≡ 8
     → d ≡ typeAt types i → first ≡ d .first → count ≡ d .count
-    → Members types members i s n k first count (k + 1)
+    → MembersChecked types members i s n k first count (k + 1)
 members-start {types} {members} {i} {s} {n} {k} told w low is e d first count =
     record {
       told = told;
@@ -108,7 +109,7 @@ members-start {types} {members} {i} {s} {n} {k} told w low is e d first count =
       enough = omega (arith, left-long s (k + 1));
       left = λ q. opened-left 8 (inStruct (branchesIn types members i) q) (told .form) (omega arith) (omega arith)
           (sym is ∙ e)
-          (λ z. struct-is (8 * sizesIn types i) (branchesIn types members i) q (leftAt s k) z);
+          (λ z. struct-opens (8 * sizesIn types i) (branchesIn types members i) q (leftAt s k) z);
     }
 
 -- the branch of a visible row
@@ -121,10 +122,10 @@ branch-row types members i q t ts z j row e n l h =
     rw e (branch-is types members i q t ts z j n l (rw e at h))
 
 -- entry p names a visible row
-pub record Named (types members : List ℕ) (i : ℕ) (s : List ℕ) (p row : ℕ) : Type 0 where
+pub record RowNamed (types members : List ℕ) (i : ℕ) (s : List ℕ) (p row : ℕ) : Type 0 where
   pub row-of : RowOf types members i row
   pub shown : memberAt members row .hidden ≡ false
-  pub here : There s p
+  pub here : EntryThere s p
   pub kind : firstKind (leftAt s p) ≡ 7
   pub gives : (q : ℕ) (z : Bits)
       → writeBranch (branchesIn types members i) q (here .token) (leftAt s (p + 1)) z
@@ -132,13 +133,13 @@ pub record Named (types members : List ℕ) (i : ℕ) (s : List ℕ) (p row : �
       (leftAt s (p + 1)) z
 
 module _ {types members : List ℕ} {i : ℕ} {s : List ℕ} {n k first count p : ℕ}
-    (w : Members types members i s n k first count p) where
+    (w : MembersChecked types members i s n k first count p) where
   abbrev one : ℕ → Token → List Token → Bits → Outcome
   one q = writeBranch (branchesIn types members i) q
 
   -- what the whole check answers
-  abbrev Answer : ℕ → Type 0
-  Answer r = (q : ℕ) → Checked s k r (write (membersTree types members i) q (leftAt s k))
+  abbrev StructAnswer : ℕ → Type 0
+  StructAnswer r = (q : ℕ) → CheckedFrom s k r (write (membersTree types members i) q (leftAt s k))
 
   -- the members are checked up to an entry, or to the end of the entries
   pub members-inside : p ≤ n
@@ -149,22 +150,22 @@ module _ {types members : List ℕ} {i : ℕ} {s : List ℕ} {n k first count p 
   rows-inside = omega (arith, w .first-is, w .count-is, w .walk .each i (w .low) .rows)
 
   -- the way out with 18: no entry is left
-  pub members-short : {r : ℕ} → n ≤ p → r ≡ 2 ^ 32 * 18 + p → Answer r
+  pub members-short : {r : ℕ} → n ≤ p → r ≡ 2 ^ 32 * 18 + p → StructAnswer r
   members-short {r} h e q =
       w .left q .onward r
       (members-missing (w .told .form) (one q) (suc (w .most)) (omega (arith, members-inside, w .told .count)) e)
 
   module _ (l : p < n) {kind : ℕ} (is : kind ≡ firstKind (leftAt s p)) where
-    at-entry : There s p
+    at-entry : EntryThere s p
     at-entry = there s p (w .told .form) (omega (arith, w .told .count))
 
     -- the way out at the close: the next entry is answered
-    pub members-done : kind ≡ 9 → Answer (p + 1)
+    pub members-done : kind ≡ 9 → StructAnswer (p + 1)
     members-done h q =
         w .left q .onward (p + 1) (members-closes (w .told .form) (one q) (w .most) (sym is ∙ h))
 
     -- the way out with 18: neither the close nor a member number
-    pub members-bad : {r : ℕ} → (kind ≡ 9 → ⊥) → (kind ≡ 7 → ⊥) → r ≡ 2 ^ 32 * 18 + p → Answer r
+    pub members-bad : {r : ℕ} → (kind ≡ 9 → ⊥) → (kind ≡ 7 → ⊥) → r ≡ 2 ^ 32 * 18 + p → StructAnswer r
     members-bad {r} a b e q =
         w .left q .onward r
         (members-refuse (w .told .form) (one q) (w .most) at-entry (λ x. a (is ∙ x)) (λ x. b (is ∙ x)) e)
@@ -178,7 +179,7 @@ module _ {types members : List ℕ} {i : ℕ} {s : List ℕ} {n k first count p 
       -- no visible row
       pub members-unseen : {row r : ℕ} → row ≡ visibleRow members first count j → row ≡ mostMembers
           → r ≡ 2 ^ 32 * 18 + p
-          → Answer r
+          → StructAnswer r
       members-unseen {row} {r} e none h q =
           w .left q .onward r
           (refuses-at 18 p (w .told .form) (omega (arith, members-inside, w .told .count)) (omega arith) h
@@ -199,10 +200,10 @@ module _ {types members : List ℕ} {i : ℕ} {s : List ℕ} {n k first count p 
 
       -- a visible row
       pub row-named : {row : ℕ} → row ≡ visibleRow members first count j → (row ≡ mostMembers → ⊥)
-          → Named types members i s p row
+          → RowNamed types members i s p row
       row-named {row} e some = go (visible members first count j)
         where
-          go : Visible members first count j (visibleRow members first count j) → Named types members i s p row
+          go : Visible members first count j (visibleRow members first count j) → RowNamed types members i s p row
           go (past a f) = absurd (some (e ∙ f))
           go (hides a b f) = absurd (some (e ∙ f))
           go (shows a b f) =
@@ -216,8 +217,8 @@ module _ {types members : List ℕ} {i : ℕ} {s : List ℕ} {n k first count p 
                     (same ∙ ap (_+ j) (w .first-is)) number-is (omega (arith, w .count-is)) (rw same b);
               }
 
-  module _ {row : ℕ} (v : Named types members i s p row) {r : ℕ}
-      (c : (q : ℕ) → Checked s (p + 1) r
+  module _ {row : ℕ} (v : RowNamed types members i s p row) {r : ℕ}
+      (c : (q : ℕ) → CheckedFrom s (p + 1) r
       (write (memberTree (treeIn types members) (memberAt members row)) q (leftAt s (p + 1)))) where
     -- the member at its place
     abbrev valued : ℕ → Bits → Outcome
@@ -231,11 +232,11 @@ module _ {types members : List ℕ} {i : ℕ} {s : List ℕ} {n k first count p 
         members-go (w .told .form) (one q) most (v .here) (v .kind) z
         ∙ ap (λ (o : Outcome). andThen o (membersIn most (one q))) (v .gives q z)
 
-    value-checked : (q : ℕ) → Checked s p r (valued q)
+    value-checked : (q : ℕ) → CheckedFrom s p r (valued q)
     value-checked q = checked-earlier (omega arith) (c (q + firstBit (memberAt members row)))
 
     -- a member that is refused
-    pub members-refused : 2 ^ 32 ≤ r → Answer r
+    pub members-refused : 2 ^ 32 ≤ r → StructAnswer r
     members-refused h q =
         w .left q .onward r
         (refused-then (membersIn (w .most) (one q)) (λ z. step (w .most) q z) h (value-checked q))
@@ -245,13 +246,13 @@ module _ {types members : List ℕ} {i : ℕ} {s : List ℕ} {n k first count p 
     members-further h = omega (arith, c 0 .goes h .further)
 
     -- a member that is taken: the others are left from the entry after its value on
-    pub members-on : r < 2 ^ 32 → Members types members i s n k first count r
+    pub members-on : r < 2 ^ 32 → MembersChecked types members i s n k first count r
     members-on h = go (w .most) (w .enough) (w .left)
       where
         go : (most : ℕ) → countIn s - p ≤ most
             → ((q : ℕ) → Onward s k (write (membersTree types members i) q (leftAt s k)) p
             (membersIn (suc most) (one q) (leftAt s p)))
-            → Members types members i s n k first count r
+            → MembersChecked types members i s n k first count r
         go zero l o = absurd (let z : ⊥ = omega (arith, v .here .inside) in z)
         go (suc most) l o =
             record {
@@ -267,6 +268,6 @@ module _ {types members : List ℕ} {i : ℕ} {s : List ℕ} {n k first count p 
             }
 
 -- a visible row that is no structure
-pub leaf-row : {types members : List ℕ} {i : ℕ} {s : List ℕ} {p row : ℕ} → Named types members i s p row
+pub leaf-row : {types members : List ℕ} {i : ℕ} {s : List ℕ} {p row : ℕ} → RowNamed types members i s p row
     → isNested (memberAt members row) ≡ false → LeafRow members row
 leaf-row v e = record { inside = v .row-of .inside; visible = v .shown; flat = e }

@@ -15,7 +15,7 @@ use Rattle.types.specs.declared.tables.member.Member.{Member}
 use Rattle.types.specs.declared.tables.member.Ty.the-variants as ty
 use Rattle.values.specs.inside.reading.Walk.{isNested}
 use Rattle.values.specs.inside.writing.Effects.{atomicTakes}
-use Rattle.values.specs.inside.writing.Passes.{Checked, WellFormed, firstKind, leftAt}
+use Rattle.values.specs.inside.writing.Passes.{CheckedFrom, WellFormed, firstKind, leftAt}
 use Rattle.values.specs.inside.writing.Rows.{memberTree, runIn}
 use Rattle.values.specs.reading.Leaf.{flag}
 use Rattle.values.specs.reading.Tree.{Tree, leaf}
@@ -24,7 +24,7 @@ use Rattle.values.specs.stream.Stream.{Token}
 use Rattle.values.specs.writing.Effects.{Effect, orNull}
 use Rattle.values.specs.writing.Writing.{boolsIn, elements, noBits, rest, write, writeOne}
 use Rattle.values.proofs.stream.CountLeaves.{size-range}
-use Rattle.values.proofs.stream.LeftLaws.{There, by-kind}
+use Rattle.values.proofs.stream.LeftLaws.{EntryThere, by-kind}
 use Rattle.values.proofs.writing.FitLaws.{flag-takes}
 use Rattle.values.proofs.writing.RunInLaws.{array-is, bits-bools, bits-number, one-is-leaf, run-bools}
 use Rattle.values.proofs.writing.RunInLaws.{run-numbers, run-wholes}
@@ -32,20 +32,20 @@ use Rattle.values.proofs.writing.StepLaws.{checked-as, onward-from, ope
 
 -- what an answer says of one atomic, of an array of them, of what is inside it, and of one or an array
 abbrev pub OneChecked : List ℕ → ℕ → ℕ → Atomic → Type 0
-OneChecked s k r a = (w p : ℕ) → Checked s k r (writeOne (orNull (atomicTakes a)) w p (leftAt s k))
+OneChecked s k r a = (w p : ℕ) → CheckedFrom s k r (writeOne (orNull (atomicTakes a)) w p (leftAt s k))
 
 abbrev pub BoolsChecked : List ℕ → ℕ → ℕ → ℕ → Type 0
-BoolsChecked s k r bytes = (p : ℕ) → Checked s k r (boolsIn (8 * bytes) p (leftAt s k))
+BoolsChecked s k r bytes = (p : ℕ) → CheckedFrom s k r (boolsIn (8 * bytes) p (leftAt s k))
 
 abbrev pub NumbersChecked : List ℕ → ℕ → ℕ → Atomic → ℕ → Type 0
 NumbersChecked s k r a count =
-    (w p : ℕ) → Checked s k r (elements count (writeOne (orNull (atomicTakes a)) w) w p (leftAt s k))
+    (w p : ℕ) → CheckedFrom s k r (elements count (writeOne (orNull (atomicTakes a)) w) w p (leftAt s k))
 
 abbrev pub RunChecked : List ℕ → ℕ → ℕ → Atomic → ℕ → Type 0
-RunChecked s k r a count = (p : ℕ) → Checked s k r (runIn a count p (leftAt s k))
+RunChecked s k r a count = (p : ℕ) → CheckedFrom s k r (runIn a count p (leftAt s k))
 
 abbrev pub TreeChecked : List ℕ → ℕ → ℕ → Atomic → ℕ → Type 0
-TreeChecked s k r a count = (p : ℕ) → Checked s k r (write (atomicsTree a count) p (leftAt s k))
+TreeChecked s k r a count = (p : ℕ) → CheckedFrom s k r (write (atomicsTree a count) p (leftAt s k))
 
 module _ {s : List ℕ} {n k kind : ℕ} (told : WellFormed s n) (is : kind ≡ firstKind (leftAt s k)) (a : Atomic) where
   -- ---- one bit string
@@ -54,7 +54,7 @@ module _ {s : List ℕ} {n k kind : ℕ} (told : WellFormed s n) (is : kind ≡ 
   pub bits-array : {r size : ℕ} → bitString a ≡ true → kind ≡ 10 → size ≡ sizeOf a → BoolsChecked s (k + 1) r size
       → TreeChecked s k r a 0
   bits-array {r} {size} b e same c p =
-      let t : There s k = by-kind s k (told .form) (λ h. let z : ⊥ = omega (arith, h, is, e) in z) in
+      let t : EntryThere s k = by-kind s k (told .form) (λ h. let z : ⊥ = omega (arith, h, is, e) in z) in
       let after : Bits → Bits = λ z. stamp p (8 * sizeOf a) noBits z in
       onward-from {s = s} {k = k} {p = k + 1} {f = write (atomicsTree a 0) p (leftAt s k)}
       {g = boolsIn (8 * sizeOf a) p (leftAt s (k + 1))} (omega arith) (omega (arith, t .inside))
@@ -110,7 +110,7 @@ module _ {s : List ℕ} {n k kind : ℕ} (told : WellFormed s n) (is : kind ≡ 
 -- an opening is an entry
 pub opening : {s : List ℕ} {n kind : ℕ} (k : ℕ) → WellFormed s n → kind ≡ firstKind (leftAt s k) → kind ≡ 10 → k + 1 ≤ n
 opening {s} k told is e =
-    let t : There s k = by-kind s k (told .form) (λ h. let z : ⊥ = omega (arith, h, is, e) in z) in
+    let t : EntryThere s k = by-kind s k (told .form) (λ h. let z : ⊥ = omega (arith, h, is, e) in z) in
     omega (arith, t .inside, told .count)
 
 -- no bit strings: what the check answers of the numbers it answers of the run
@@ -131,7 +131,7 @@ bytes-low a count l = omega (arith, mul-le-mul-right {m = sizeOf a} {n = 8} coun
 
 -- what an answer says of a member's tree, whatever the trees of structures
 abbrev pub MemberChecked : List ℕ → ℕ → ℕ → Member → Type 0
-MemberChecked s k r m = (trees : ℕ → Tree) (p : ℕ) → Checked s k r (write (memberTree trees m) p (leftAt s k))
+MemberChecked s k r m = (trees : ℕ → Tree) (p : ℕ) → CheckedFrom s k r (write (memberTree trees m) p (leftAt s k))
 
 -- a BOOL's bit takes what a BOOL takes
 flag-one : (p : ℕ) (ts : List Token) (z : Bits)

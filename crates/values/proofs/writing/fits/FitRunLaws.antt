@@ -13,14 +13,14 @@ use Rattle.words.proofs.WordLaws.{word-below}
 use Rattle.types.specs.declared.atomics.atomic.Atomic.{Atomic}
 use Rattle.values.specs.inside.writing.Effects.{Judged, set, refused, atomicTakes}
 use Rattle.values.specs.inside.writing.Limits.{limitsOf, misfit}
-use Rattle.values.specs.inside.writing.Passes.{Checked, WellFormed, firstKind, leftAt}
+use Rattle.values.specs.inside.writing.Passes.{CheckedFrom, WellFormed, firstKind, leftAt}
 use Rattle.values.specs.reading.Leaf.{flag}
 use Rattle.values.specs.stream.Form.{countIn, streamOk}
 use Rattle.values.specs.stream.Stream.{Token, kindOf}
 use Rattle.values.specs.writing.Effects.{Effect, ofKind, orNull, payloadBits, taken}
 use Rattle.values.specs.writing.Writing.{Outcome, elements, writeOne}
 use Rattle.values.specs.declared.writing.limits.Limits.{Limits}
-use Rattle.values.proofs.stream.LeftLaws.{There, few-entries, kind-there, there}
+use Rattle.values.proofs.stream.LeftLaws.{EntryThere, few-entries, kind-there, there}
 use Rattle.values.proofs.writing.FitLaws.{above-misfits, atomic-judged}
 use Rattle.values.proofs.writing.StepLaws.{Onward, onward-start, onward-on, onward-then, refused-then}
 use Rattle.values.proofs.writing.StepLaws.{one-judged, one-refused, elements-missing, elements-closes}
@@ -33,7 +33,7 @@ module _ {s : List ℕ} {n : ℕ} (told : WellFormed s n) where
   pub few : n < 2 ^ 28
   few = omega (arith, few-entries s (told .form), told .count)
 
-  entry-of : {q : ℕ} → q < n → There s q
+  entry-of : {q : ℕ} → q < n → EntryThere s q
   entry-of {q} l = there s q (told .form) (omega (arith, told .count))
 
   -- the stream's form is good, and an entry whose number is below n is one of its entries
@@ -46,7 +46,7 @@ module _ {s : List ℕ} {n : ℕ} (told : WellFormed s n) where
 abbrev pub AtEnd : List ℕ → ℕ → ℕ → ℕ → Type 0
 AtEnd s n k r =
     (m : ℕ) (one : ℕ → List Token → Bits → Outcome) (w p : ℕ) → (k < n → m ≡ 0)
-    → Checked s k r (elements m one w p (leftAt s k))
+    → CheckedFrom s k r (elements m one w p (leftAt s k))
 
 module _ {s : List ℕ} {n k : ℕ} (told : WellFormed s n) where
   -- the way out with 18: no entry is left
@@ -75,7 +75,7 @@ pub record Walked (s : List ℕ) (takes : Token → Effect) (count k q : ℕ) : 
 
 -- what an answer says of the whole array
 abbrev pub Answers : List ℕ → (Token → Effect) → ℕ → ℕ → ℕ → Type 0
-Answers s takes count k r = (w p : ℕ) → Checked s k r (elements count (writeOne takes w) w p (leftAt s k))
+Answers s takes count k r = (w p : ℕ) → CheckedFrom s k r (elements count (writeOne takes w) w p (leftAt s k))
 
 -- at the first entry none is taken yet
 pub walked-start : {s : List ℕ} {n k : ℕ} (takes : Token → Effect) (count : ℕ) → WellFormed s n → k ≤ n
@@ -99,7 +99,7 @@ walked-done {s} {takes} {n} {count} {k} {last} {q} {r} told walked e l end w p =
     (end (k + count - q) (writeOne takes w) w (p + w * (q - k)) (λ h. omega (arith, e, l, h)))
 
 -- an entry before the last
-pub record Next (s : List ℕ) (takes : Token → Effect) (n count k last q kind : ℕ) : Type 0 where
+pub record NextFits (s : List ℕ) (takes : Token → Effect) (n count k last q kind : ℕ) : Type 0 where
   pub told : WellFormed s n
   pub walked : Walked s takes count k q
   pub ends : last ≡ min n (k + count)
@@ -107,8 +107,8 @@ pub record Next (s : List ℕ) (takes : Token → Effect) (n count k last q kind
   pub shows : kind ≡ firstKind (leftAt s q)
 
 module _ {s : List ℕ} {takes : Token → Effect} {n count k last q kind : ℕ}
-    (e : Next s takes n count k last q kind) where
-  next-there : There s q
+    (e : NextFits s takes n count k last q kind) where
+  next-there : EntryThere s q
   next-there = entry-of (e .told) (omega (arith, e .ends, e .before))
 
   -- the number of the next entry is below 2^28
@@ -164,7 +164,7 @@ flag-taken t e = set refl (payloadBits t) (unfold ofKind in rw (eq-eqb (kindOf t
 flag-refused : (t : Token) → (kindOf t ≡ 1 → ⊥) → Judged (taken flag t) 18
 flag-refused t e = refused (omega arith) (unfold ofKind in rw (ne-eqb (kindOf t) 1 e) refl)
 
-module _ {s : List ℕ} {n count k last q kind : ℕ} (e : Next s (taken flag) n count k last q kind) where
+module _ {s : List ℕ} {n count k last q kind : ℕ} (e : NextFits s (taken flag) n count k last q kind) where
   -- a bool is taken, and the rest is left from the next entry on
   pub bool-on : kind ≡ 1 → Walked s (taken flag) count k (q + 1)
   bool-on h =
@@ -187,7 +187,7 @@ pub record Judging (s : List ℕ) (a : Atomic) (f : Limits) (q kind x number : �
   pub judges : number ≡ misfit f kind x
 
 module _ {s : List ℕ} {a : Atomic} {f : Limits} {n count k last q kind x number : ℕ}
-    (e : Next s (orNull (atomicTakes a)) n count k last q kind) (j : Judging s a f q kind x number) where
+    (e : NextFits s (orNull (atomicTakes a)) n count k last q kind) (j : Judging s a f q kind x number) where
   by-limits : number ≡ misfit (limitsOf a) kind x
   by-limits = j .judges ∙ ap (λ (g : Limits). misfit g kind x) (j .limits)
 

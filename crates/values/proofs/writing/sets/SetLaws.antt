@@ -1,22 +1,23 @@
 -- Atomics, flags and texts set in an image (document 01, "Writing"): the bytes that are stored are the bits that an
 -- accepted entry puts.
-use Prim.Native.Nat.{ℕ, zero, suc, _+_, _-_, _*_, _/_, _%_, _^_, _<_, _≤_}
+use Prim.Native.Nat.{ℕ, suc, _+_, _-_, _*_, _/_, _%_, _^_, _<_, _≤_}
 use native.Mathlib.Decide.{decLe, ℕ-discrete}
 use native.Mathlib.Nat.{add-zero}
 use native.Mathlib.Omega.{arith}
-use mathlib.Core.Path.{_≡_, refl, sym, ap, ap₂, _∙_, fun-ext}
+use mathlib.Core.Path.{_≡_, refl, sym, ap, ap₂, _∙_}
 use mathlib.Core.Bool.{Bool, true}
-use mathlib.Core.List.{List, [], _∷_, _++_}
+use mathlib.Core.List.{List, _++_}
 use mathlib.Core.Logic.{inl, inr}
 use lib.Dec.{eqb}
-use lib.ListN.{length, getD, set, take, drop, replicate, length-set, length-append, length-replicate}
+use lib.ListN.{length, set, take, drop, replicate, length-set, length-append, length-replicate}
 use lib.Seq.{sets, length-sets}
 use borrow.Author.Tests.{eq-eqb, ne-eqb, le-leb, lt-leb}
 use Rattle.words.specs.Bits.{Bits, bitOf, flat, stamp}
 use Rattle.words.specs.Words.{bytesOf, part}
 use Rattle.words.proofs.Lists.{sets-append}
-use Rattle.words.proofs.StampLaws.{bit-first, flat-sets, flat-word, stamp-ext}
-use Rattle.words.proofs.WordLaws.{bytes-low, length-bytes}
+use Rattle.words.proofs.StampLaws.{flat-sets, flat-word, stamp-ext}
+use Rattle.words.proofs.WordLaws.{length-bytes}
+use Rattle.words.proofs.BitLaws.{truth-bit, flat-zeros}
 use Rattle.types.specs.atomics.Atomic.{sizeOf}
 use Rattle.types.specs.declared.atomics.atomic.Atomic.{Atomic}
 use Rattle.types.specs.declared.atomics.atomic.Atomic.the-variants as atomic
@@ -29,22 +30,12 @@ use Rattle.values.specs.stream.Stream.{Token, kindOf, payloadOf, bodyOf}
 use Rattle.values.specs.writing.Effects.{Effect, put, refuse, payloadBits, ofKind, textBits, asText, taken}
 use Rattle.values.specs.writing.Effects.{orNull}
 use Rattle.values.specs.writing.Writing.{onEffect, writeOne}
-use Rattle.values.proofs.stream.LeftLaws.{There, TextThere, kind-there, payloadAt}
+use Rattle.values.proofs.stream.LeftLaws.{EntryThere, TextThere, kind-there, payloadAt}
 use Rattle.values.proofs.writing.ApplyLaws.{accepted-as, applied-keeps, applied-one, not-accepted}
 use Rattle.values.proofs.writing.FitLaws.{above-refused, atomic-sets, not-null, null-keeps}
 use Rattle.values.proofs.writing.OutcomeLaws.{one-is}
 
 -- ---- the low bytes of a number
-
--- a number cut to w bytes is stored in w bytes as the number itself
-pub low-stored : (image : List ℕ) (at size x w : ℕ) {y : ℕ} {new : List ℕ} → size ≡ w → y ≡ x % 256 ^ w
-    → new ≡ sets image at (bytesOf w y) → new ≡ sets image at (bytesOf size x)
-low-stored image at size x w e d b = b ∙ rw (d, bytes-low w x, e) refl
-
--- a number stored in w bytes is stored in its size, where that is w
-pub all-stored : (image : List ℕ) (at size x w : ℕ) {new : List ℕ} → size ≡ w
-    → new ≡ sets image at (bytesOf w x) → new ≡ sets image at (bytesOf size x)
-all-stored image at size x w e b = b ∙ rw e refl
 
 -- the width of an atomic that is not 4, 2 or 1 is 8
 pub eight-left : (size : ℕ) → Width size → (size ≡ 4 → ⊥) → (size ≡ 2 → ⊥) → (size ≡ 1 → ⊥) → size ≡ 8
@@ -118,7 +109,7 @@ of-is kind t e = rw (eq-eqb (kindOf t) kind e) refl
 
 -- ---- one entry, or null
 
-module _ {s : List ℕ} {k : ℕ} (t : There s k) (takes : Token → Effect) (w p : ℕ) where
+module _ {s : List ℕ} {k : ℕ} (t : EntryThere s k) (takes : Token → Effect) (w p : ℕ) where
   one-does : (z : Bits) {e : Effect} → orNull takes (t .token) ≡ e
       → writeOne (orNull takes) w p (leftAt s k) z ≡ onEffect e w p (t .token) (leftAt s (k + 1)) z
   one-does z q =
@@ -147,7 +138,7 @@ module _ {s : List ℕ} {k : ℕ} (t : There s k) (takes : Token → Effect) (w 
       not-accepted (one-does z (not-null takes (t .token) (not-null-token n) ∙ e)) h
 
 -- one atomic
-pub atomic-set : {s : List ℕ} {k : ℕ} (t : There s k) (a : Atomic) (base : ℕ) {image new : List ℕ}
+pub atomic-set : {s : List ℕ} {k : ℕ} (t : EntryThere s k) (a : Atomic) (base : ℕ) {image new : List ℕ}
     → (firstKind (leftAt s k) ≡ 0 → ⊥) → base + sizeOf a ≤ length image
     → accepted (writeOne (orNull (atomicTakes a)) (8 * sizeOf a) (8 * base) (leftAt s k) (flat image)) ≡ true
     → new ≡ sets image base (bytesOf (sizeOf a) (payloadAt s k))
@@ -166,15 +157,8 @@ atomic-set {s} {k} t a base {image} {new} n room h e =
     (ap flat e ∙ flat-word image base (sizeOf a) (payloadAt s k) room
     ∙ ap (λ (x : ℕ). stamp p w (bitOf x) (flat image)) (sym (t .payload six-not)))
 
--- one BOOL of a structure
-truth-bit : (x j : ℕ) → x < 2 → j < 1 → eqb x 1 ≡ bitOf x j
-truth-bit x j l m =
-    let e : 0 ≡ j = omega arith in
-    let f : x ≡ x % 2 = omega arith in
-    ap (λ (v : ℕ). eqb v 1) f ∙ sym (bit-first x) ∙ ap (bitOf x) e
-
 -- the truth of an accepted entry that is no null, put in one bit, is what writing the BOOL sets
-pub flag-set : {s : List ℕ} {k : ℕ} (t : There s k) (p x : ℕ) {image new : List ℕ}
+pub flag-set : {s : List ℕ} {k : ℕ} (t : EntryThere s k) (p x : ℕ) {image new : List ℕ}
     → (firstKind (leftAt s k) ≡ 0 → ⊥)
     → accepted (writeOne (orNull (taken flag)) 1 p (leftAt s k) (flat image)) ≡ true → x ≡ payloadAt s k
     → length new ≡ length image → flat new ≡ stamp p 1 (λ j. eqb x 1) (flat image)
@@ -213,7 +197,7 @@ pub record TextFits (s : List ℕ) (k capacity : ℕ) (t : Token) : Type 0 where
   pub short : payloadAt s k / 2 ^ 32 ≤ capacity
 
 -- an accepted entry that is no null is a text that lies in the stream and is not too long
-pub text-fits : {s : List ℕ} {k : ℕ} (t : There s k) (capacity p : ℕ) (z : Bits)
+pub text-fits : {s : List ℕ} {k : ℕ} (t : EntryThere s k) (capacity p : ℕ) (z : Bits)
     → (firstKind (leftAt s k) ≡ 0 → ⊥)
     → accepted (writeOne (orNull (asText capacity)) (32 + 8 * capacity) p (leftAt s k) z) ≡ true
     → TextFits s k capacity (t .token)
@@ -243,18 +227,6 @@ body-part {s} {k} {t} start long w d e =
     let f : start + long - start ≡ payloadAt s k / 2 ^ 32 = omega arith in
     ap₂ (λ (n b : ℕ). take n (drop b s)) f d ∙ sym (w .body)
 
--- zeros past a list's end change none of its bits
-getD-zeros : (bs : List ℕ) (n i : ℕ) → getD (bs ++ replicate n 0) i 0 ≡ getD bs i 0
-getD-zeros [] zero i = refl
-getD-zeros [] (suc n) zero = refl
-getD-zeros [] (suc n) (suc i) = getD-zeros [] n i
-getD-zeros (b ∷ bs) n zero = refl
-getD-zeros (b ∷ bs) n (suc i) = getD-zeros bs n i
-
-flat-zeros : (bs : List ℕ) (n : ℕ) → flat (bs ++ replicate n 0) ≡ flat bs
-unfolding flat
-flat-zeros bs n = fun-ext (λ k. ap (λ (x : ℕ). bitOf x (k % 8)) (getD-zeros bs n (k / 8)))
-
 -- LEN, the text, and zeros
 text-bits : (image : List ℕ) (base capacity : ℕ) (text : List ℕ) {one two new : List ℕ} → length text ≤ capacity
     → base + 4 + capacity ≤ length image → one ≡ sets image base (bytesOf 4 (length text))
@@ -282,7 +254,8 @@ text-bits image base capacity text {one} {two} {new} l room a b c =
     )
 
 -- the three stores of the code, where m and n are the length, and c the capacity
-pub text-set : {s : List ℕ} {k : ℕ} (t : There s k) (capacity base : ℕ) {start n m c : ℕ} {image one two new : List ℕ}
+pub text-set : {s : List ℕ} {k : ℕ} (t : EntryThere s k) (capacity base : ℕ) {start n m c : ℕ}
+    {image one two new : List ℕ}
     → TextFits s k capacity (t .token) → start ≡ baseIn s + payloadAt s k % 2 ^ 32 → n ≡ payloadAt s k / 2 ^ 32
     → m ≡ payloadAt s k / 2 ^ 32 → c ≡ capacity → base + 4 + capacity ≤ length image
     → one ≡ sets image base (bytesOf 4 m) → two ≡ sets one (base + 4) (take (start + n - start) (drop start s))

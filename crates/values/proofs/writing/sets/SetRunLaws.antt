@@ -2,7 +2,7 @@
 -- array, and the ways of a bit string.
 use Prim.Native.Nat.{ℕ, suc, _+_, _-_, _*_, _<_, _≤_}
 use native.Mathlib.Decide.{decLt}
-use native.Mathlib.Nat.{add-zero, mul-le-mul-left, mul-one, mul-suc, mul-zero, sub-zero}
+use native.Mathlib.Nat.{add-zero, mul-one, mul-suc, mul-zero, sub-zero}
 use native.Mathlib.Omega.{arith}
 use mathlib.Core.Path.{_≡_, refl, ap, _∙_, subst}
 use mathlib.Core.Bool.{true}
@@ -13,6 +13,7 @@ use Rattle.words.specs.Bits.{Bits, bitOf, flat, stamp}
 use Rattle.words.specs.Words.{bytesOf}
 use Rattle.words.proofs.BitLaws.{bit-none}
 use Rattle.words.proofs.StampLaws.{flat-word, stamp-ext}
+use Rattle.words.proofs.ArithLaws.{element-room}
 use Rattle.types.specs.atomics.Atomic.{bitString, sizeOf}
 use Rattle.types.specs.layout.Placing.{times}
 use Rattle.types.specs.declared.atomics.atomic.Atomic.{Atomic}
@@ -26,12 +27,13 @@ use Rattle.values.specs.stream.Form.{countIn, streamOk}
 use Rattle.values.specs.stream.Stream.{Token}
 use Rattle.values.specs.writing.Effects.{orNull}
 use Rattle.values.specs.writing.Writing.{Outcome, andThen, writeOne, elements, boolsIn, noBits, write}
-use Rattle.values.proofs.stream.LeftLaws.{There, kind-none, none-left, payloadAt, there}
+use Rattle.values.proofs.stream.LeftLaws.{EntryThere, kind-none, none-left, payloadAt, there}
 use Rattle.values.proofs.writing.ApplyLaws.{Setting, accepted-as, accepted-first, elements-closed, elements-end}
-use Rattle.values.proofs.writing.ApplyLaws.{elements-step, elements-there, not-accepted, setting-from}
-use Rattle.values.proofs.writing.ApplyLaws.{setting-on, setting-start, setting-then}
+use Rattle.values.proofs.writing.ApplyLaws.{elements-there, not-accepted, setting-from, setting-on}
+use Rattle.values.proofs.writing.ApplyLaws.{setting-start, setting-then}
 use Rattle.values.proofs.writing.OutcomeLaws.{elements-none, one-none}
 use Rattle.values.proofs.writing.RunInLaws.{bits-bools, bits-number, run-wholes}
+use Rattle.values.proofs.writing.StepLaws.{elements-go}
 use Rattle.values.proofs.writing.sets.SetLaws.{atomic-set, one-kept}
 
 -- ---- one entry
@@ -47,7 +49,7 @@ abbrev pub numbersIn : Atomic → ℕ → ℕ → List Token → Bits → Outcom
 numbersIn a n base ts z = elements n (oneOf a) (8 * sizeOf a) (8 * base) ts z
 
 -- what the loop counts on, where its atomics have a size
-pub record Asked (a : Atomic) (n : ℕ) (s : List ℕ) (k : ℕ) (image : List ℕ) (base size : ℕ) : Type 0 where
+pub record NumbersAsked (a : Atomic) (n : ℕ) (s : List ℕ) (k : ℕ) (image : List ℕ) (base size : ℕ) : Type 0 where
   pub long : size ≡ sizeOf a
   pub form : streamOk s ≡ true
   pub room : base + sizeOf a * n ≤ length image
@@ -58,7 +60,7 @@ pub record Numbers (n : ℕ) (s : List ℕ) (k : ℕ) (image : List ℕ) (base s
     : Type 0 where
   pub further : k ≤ p
   pub bounded : p - k ≤ n
-  pub each : (a : Atomic) → Asked a n s k image base size
+  pub each : (a : Atomic) → NumbersAsked a n s k image base size
       → Setting s k image (numbersIn a n base (leftAt s k)) p now
       (numbersIn a (n - (p - k)) (base + sizeOf a * (p - k)) (leftAt s p))
 
@@ -74,16 +76,11 @@ numbers-start {n} {s} {k} {image} {base} {size} =
           rw (none, sub-zero, mul-zero, add-zero) (setting-start (w .taken)));
     }
 
--- one element more
-element-room : (size i n base long : ℕ) → i < n → base + size * n ≤ long → base + size * i + size ≤ long
-element-room size i n base long l h =
-    omega (arith, mul-suc size i, mul-le-mul-left {m = suc i} {n = n} size (omega arith))
-
 module _ {n : ℕ} {s : List ℕ} {k : ℕ} {image : List ℕ} {base size : ℕ} {now : List ℕ} {p : ℕ}
     (v : Numbers n s k image base size now p) where
-  module _ {a : Atomic} (w : Asked a n s k image base size) where
+  module _ {a : Atomic} (w : NumbersAsked a n s k image base size) where
     -- the next entry is there
-    pub numbers-there : There s p
+    pub numbers-there : EntryThere s p
     numbers-there =
         elements-there (w .form) (n - (p - k)) (oneOf a) (8 * sizeOf a) (8 * (base + sizeOf a * (p - k))) (flat now)
         (v .each a w .taken)
@@ -117,8 +114,8 @@ module _ {n : ℕ} {s : List ℕ} {k : ℕ} {image : List ℕ} {base size : ℕ}
         (elements (n - (p + 1 - k)) (oneOf a) (8 * sizeOf a) (8 * (base + sizeOf a * (p - k)) + 8 * sizeOf a))
     next-is l e =
         let more : n - (p - k) ≡ suc (n - (p + 1 - k)) = (let f = v .further in omega arith) in
-        rw more (elements-step (w .form) (oneOf a) (8 * sizeOf a) numbers-there (n - (p + 1 - k))
-        (8 * (base + sizeOf a * (p - k))) (flat now) e)
+        rw more (elements-go (w .form) (oneOf a) (8 * sizeOf a) (n - (p + 1 - k)) (8 * (base + sizeOf a * (p - k)))
+        numbers-there e (flat now))
 
     one-taken : p - k < n → (firstKind (leftAt s p) ≡ 11 → ⊥)
         → accepted (oneOf a (8 * (base + sizeOf a * (p - k))) (leftAt s p) (flat now)) ≡ true
@@ -129,7 +126,7 @@ module _ {n : ℕ} {s : List ℕ} {k : ℕ} {image : List ℕ} {base size : ℕ}
 
   -- an entry that was set, and the rest
   numbers-on : {new : List ℕ} → p - k < n → (firstKind (leftAt s p) ≡ 11 → ⊥)
-      → ((a : Atomic) → Asked a n s k image base size
+      → ((a : Atomic) → NumbersAsked a n s k image base size
       → Applied s p (p + 1) now new (oneOf a (8 * (base + sizeOf a * (p - k))) (leftAt s p)))
       → Numbers n s k image base size new (p + 1)
   numbers-on {new} l e one =
@@ -169,10 +166,10 @@ module _ {n : ℕ} {s : List ℕ} {k : ℕ} {image : List ℕ} {base size : ℕ}
 
 module _ {s : List ℕ} {k : ℕ} (form : streamOk s ≡ true) (a : Atomic) (base : ℕ) (bits : bitString a ≡ true) where
   -- its entry is there
-  pub bits-there : (z : Bits) → accepted (write (atomicsTree a 0) (8 * base) (leftAt s k) z) ≡ true → There s k
+  pub bits-there : (z : Bits) → accepted (write (atomicsTree a 0) (8 * base) (leftAt s k) z) ≡ true → EntryThere s k
   bits-there z h = go (decLt k (countIn s))
     where
-      go : Dec (k < countIn s) → There s k
+      go : Dec (k < countIn s) → EntryThere s k
       go (yes l) = there s k form l
       go (no l) =
           let past : countIn s ≤ k = omega arith in
@@ -181,7 +178,7 @@ module _ {s : List ℕ} {k : ℕ} (form : streamOk s ≡ true) (a : Atomic) (bas
           ∙ one-none (orNull (atomicTakes a)) (8 * sizeOf a) (8 * base) z (none-left s k past)) h
 
   -- all its bits are cleared, and then bools follow
-  pub bits-cleared : {size : ℕ} {image mid : List ℕ} → There s k → firstKind (leftAt s k) ≡ 10
+  pub bits-cleared : {size : ℕ} {image mid : List ℕ} → EntryThere s k → firstKind (leftAt s k) ≡ 10
       → accepted (write (atomicsTree a 0) (8 * base) (leftAt s k) (flat image)) ≡ true
       → base + sizeOf a ≤ length image → size ≡ sizeOf a → mid ≡ sets image base (bytesOf size 0)
       → Setting s k image (write (atomicsTree a 0) (8 * base) (leftAt s k)) (k + 1) mid
@@ -205,10 +202,10 @@ bools-asked bytes form room taken = record { form = form; bytes = bytes; room = 
 
 -- inside an accepted array of bit strings the next entry is there
 pub run-there : {s : List ℕ} {k : ℕ} → streamOk s ≡ true → (a : Atomic) (n p : ℕ) (z : Bits) → bitString a ≡ true
-    → accepted (runIn a n p (leftAt s k) z) ≡ true → There s k
+    → accepted (runIn a n p (leftAt s k) z) ≡ true → EntryThere s k
 run-there {s} {k} form a n p z bits h = go (decLt k (countIn s))
   where
-    go : Dec (k < countIn s) → There s k
+    go : Dec (k < countIn s) → EntryThere s k
     go (yes l) = there s k form l
     go (no l) =
         let past : countIn s ≤ k = omega arith in

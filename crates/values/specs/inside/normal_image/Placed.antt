@@ -19,34 +19,35 @@ use Rattle.values.specs.reading.Trees.{membersAt}
 -- ---- trees
 
 -- the leaves that types have
-abbrev pub Good : Leaf → Type 0
-Good flag = Unit {0}
-Good byte = Unit {0}
-Good (int n) = (1 ≤ n) × (n ≤ 64)
-Good (word kind n) = (3 ≤ kind) × (kind ≤ 5)
-Good (str c) = Unit {0}
+abbrev pub GoodLeaf : Leaf → Type 0
+GoodLeaf flag = Unit {0}
+GoodLeaf byte = Unit {0}
+GoodLeaf (int n) = (1 ≤ n) × (n ≤ 64)
+GoodLeaf (word kind n) = (3 ≤ kind) × (kind ≤ 5)
+GoodLeaf (str c) = Unit {0}
 
 -- no branch has a bit among n bits from o on
-abbrev pub Clear : ℕ → ℕ → Branches → Type 0
-Clear o n none = Unit {0}
-Clear o n (branch j q t bs) = ((o + n ≤ q) ⊎ (q + span t ≤ o)) × Clear o n bs
+abbrev pub ClearOfBranches : ℕ → ℕ → Branches → Type 0
+ClearOfBranches o n none = Unit {0}
+ClearOfBranches o n (branch j q t bs) = ((o + n ≤ q) ⊎ (q + span t ≤ o)) × ClearOfBranches o n bs
 
 -- each branch's number is larger than that of the one before
-abbrev pub Numbered : ℕ → Branches → Type 0
-Numbered low none = Unit {0}
-Numbered low (branch j o t bs) = (low ≤ j) × Numbered (suc j) bs
+abbrev pub Ascending : ℕ → Branches → Type 0
+Ascending low none = Unit {0}
+Ascending low (branch j o t bs) = (low ≤ j) × Ascending (suc j) bs
 
 unfoldable mutual
-  pub Placed : Tree → Type 0
-  Placed (leaf l) = Good l
-  Placed (bits w n) = Unit {0}
-  Placed (array n t) = Placed t
-  Placed (struct size bs) = AllPlaced size bs × Numbered 0 bs
+  pub TreePlaced : Tree → Type 0
+  TreePlaced (leaf l) = GoodLeaf l
+  TreePlaced (bits w n) = Unit {0}
+  TreePlaced (array n t) = TreePlaced t
+  TreePlaced (struct size bs) = BranchesPlaced size bs × Ascending 0 bs
 
   -- the branches lie inside the size and share no bit
-  pub AllPlaced : ℕ → Branches → Type 0
-  AllPlaced size none = Unit {0}
-  AllPlaced size (branch j o t bs) = Placed t × ((o + span t ≤ size) × (Clear o (span t) bs × AllPlaced size bs))
+  pub BranchesPlaced : ℕ → Branches → Type 0
+  BranchesPlaced size none = Unit {0}
+  BranchesPlaced size (branch j o t bs) =
+      TreePlaced t × ((o + span t ≤ size) × (ClearOfBranches o (span t) bs × BranchesPlaced size bs))
 
 -- ---- a structure's plain members
 
@@ -60,14 +61,14 @@ module _ (trees : ℕ → Tree) (size : ℕ) where
   unfoldable pub Stairs : List Member → ℕ → Type 0
   Stairs [] c = c ≤ size
   Stairs (m ∷ ms) c =
-      If (isPlain m) ((c ≤ firstBit m) × (Placed (memberTree trees m) × Stairs ms (pastTree trees m))) (Stairs ms c)
+      If (isPlain m) ((c ≤ firstBit m) × (TreePlaced (memberTree trees m) × Stairs ms (pastTree trees m))) (Stairs ms c)
 
 -- ---- tables
 
 -- they can be walked, and no two members of a structure share a bit
 pub record Disjoint (types members : List ℕ) : Type 0 where
   pub walkable : Walkable types members
-  pub placed : (i : ℕ) → i < mostTypes → Placed (treeIn types members i)
+  pub placed : (i : ℕ) → i < mostTypes → TreePlaced (treeIn types members i)
 
 -- and the plain members of a structure stand in the order of their rows, so that one sweep over them comes to all
 pub record Sweepable (types members : List ℕ) : Type 0 where

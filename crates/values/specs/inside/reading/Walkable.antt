@@ -20,7 +20,7 @@ use Rattle.values.specs.reading.Texts.{capacityAt}
 use Rattle.values.specs.reading.Trees.{isString}
 
 -- a member of structure i, of so many bytes
-pub record Within (types : List ℕ) (i size : ℕ) (m : Member) : Type 0 where
+pub record MemberWithin (types : List ℕ) (i size : ℕ) (m : Member) : Type 0 where
   pub earlier : Earlier i (m .ty)
   pub inside : pastBit (sizesIn types) m ≤ 8 * size
 
@@ -34,7 +34,7 @@ pub record WalkableType (types members : List ℕ) (i : ℕ) : Type 0 where
   pub most : typeAt types i .size ≤ mostSize + 224
   pub string : isString (typeAt types i .kind) ≡ true → IsString members (typeAt types i)
   pub each : (k : ℕ) → k < typeAt types i .count
-      → Within types i (typeAt types i .size) (memberAt members (typeAt types i .first + k))
+      → MemberWithin types i (typeAt types i .size) (memberAt members (typeAt types i .first + k))
 
 pub record Walkable (types members : List ℕ) : Type 0 where
   pub each : (i : ℕ) → i < mostTypes → WalkableType types members i
@@ -43,7 +43,7 @@ pub record Walkable (types members : List ℕ) : Type 0 where
 pub record RowOf (types members : List ℕ) (i row : ℕ) : Type 0 where
   pub low : i < mostTypes
   pub inside : row < mostMembers
-  pub within : Within types i (sizesIn types i) (memberAt members row)
+  pub within : MemberWithin types i (sizesIn types i) (memberAt members row)
 
 -- that holds a visible structure, or an array of structures
 pub record NestedRow (types members : List ℕ) (i row : ℕ) : Type 0 where

@@ -5,10 +5,10 @@ use mathlib.Core.Bool.{cond, _||_}
 use mathlib.Core.Path.{_≡_}
 use lib.Dec.{eqb}
 use Rattle.values.specs.stream.Entry.{payloadRight}
-use Rattle.values.specs.stream.Form.{Step, At, Broken, entryStep}
+use Rattle.values.specs.stream.Form.{TextStep, At, Broken, entryStep}
 
 -- of a kind and a payload: malformed where the payload is not right
-unfoldable pub stepOf : ℕ → ℕ → ℕ → Step
+unfoldable pub stepOf : ℕ → ℕ → ℕ → TextStep
 stepOf kind x place = cond (payloadRight kind x) (entryStep kind x place) Broken
 
 -- of a kind that is no text: a bool is 0 or 1, REAL bits and a member number have 32 bits, the numbers and LREAL bits
@@ -24,7 +24,7 @@ abbrev pub nowhere : ℕ
 nowhere = 0x4000000000000000
 
 -- the next place is at most 2^32 further; from `nowhere` on it says that the stream is malformed
-pub record Moved (place : ℕ) (step : Step) (r : ℕ) : Type 0 where
+pub record Moved (place : ℕ) (step : TextStep) (r : ℕ) : Type 0 where
   pub goes : r < nowhere → step ≡ At r
   pub near : r < nowhere → r ≤ place + 2 ^ 32
   pub broken : nowhere ≤ r → step ≡ Broken

@@ -28,7 +28,7 @@ pub record WellFormed (s : List ℕ) (n : ℕ) : Type 0 where
 -- ---- the check, for every image
 
 -- it went on to entry r
-pub record Goes (s : List ℕ) (k r : ℕ) (f : Bits → Outcome) : Type 0 where
+pub record CheckGoes (s : List ℕ) (k r : ℕ) (f : Bits → Outcome) : Type 0 where
   pub further : k < r
   pub inside : r ≤ countIn s
   pub gives : (z : Bits) → (new : Bits) × (f z ≡ ok (leftAt s r) new)
@@ -38,8 +38,8 @@ pub record Refuses (s : List ℕ) (r : ℕ) (f : Bits → Outcome) : Type 0 wher
   pub inside : r % 2 ^ 32 ≤ countIn s
   pub gives : (z : Bits) → f z ≡ bad (r / 2 ^ 32) (leftAt s (r % 2 ^ 32))
 
-pub record Checked (s : List ℕ) (k r : ℕ) (f : Bits → Outcome) : Type 0 where
-  pub goes : r < 2 ^ 32 → Goes s k r f
+pub record CheckedFrom (s : List ℕ) (k r : ℕ) (f : Bits → Outcome) : Type 0 where
+  pub goes : r < 2 ^ 32 → CheckGoes s k r f
   pub refuses : 2 ^ 32 ≤ r → Refuses s r f
 
 -- ---- and what sets, where the check accepted

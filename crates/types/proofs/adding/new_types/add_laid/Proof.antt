@@ -5,6 +5,7 @@ use Prim.Native.Nat.{_+_}
 use mathlib.Core.Path.{_≡_, sym, _∙_}
 use lib.ListN.{length}
 use Rattle.words.specs.Words.{Bytes}
+use Rattle.words.proofs.ArithLaws.{same-counts}
 use Rattle.types.specs.adding.Add.{hasRoom}
 use Rattle.types.specs.inside.book.Decls.{declsFrom}
 use Rattle.types.specs.inside.layout.Passes.{partsOf, measuredOf}
@@ -13,9 +14,8 @@ use Rattle.types.specs.layout.Structs.{namedIn}
 use Rattle.types.specs.declared.layout.measure.Measured.the-variants.{Came}
 use Rattle.types.proofs.adding.AddLaidLaws.{laid-access, laid-far, laid-fitted, laid-counted, laid-near}
 use Rattle.types.proofs.adding.AddLaidLaws.{laid-storable}
-use Rattle.types.proofs.adding.AddStoreLaws.{declared-found, Roomy, roomy, Counted, stored-full, stored-readable}
-use Rattle.types.proofs.adding.AddStoreLaws.{stored-took, took-no, took-so, took-used}
-use Rattle.types.proofs.adding.RoomLaws.{same-counts}
+use Rattle.types.proofs.adding.AddStoreLaws.{declared-found, Roomy, roomy, PartsCounted, stored-full}
+use Rattle.types.proofs.adding.AddStoreLaws.{stored-readable, stored-took, took-no, took-so, took-used}
 use Rattle.types.proofs.adding.new_types.add_laid.Statement.{statement}
 use Rattle.types.proofs.adding.new_types.add_laid.Tie as tie
 
@@ -50,7 +50,7 @@ room c =
 counted : (c : tie.After-has-room)
     → let m = measured c .m .given .0 in
     let a = start c .args in
-    Counted (a .name .now)
+    PartsCounted (a .name .now)
     (partsOf (a .new .aoi) (namedIn (a .book .now)) (a .name .now)
     (declsFrom (a .types .now) (a .book .now) (a .tys .now) (a .new .at) 0 (a .new .count)))
     (a .new .used .types) (m .0 .members) (length (a .name .now) + m .1 .0)

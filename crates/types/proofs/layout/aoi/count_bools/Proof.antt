@@ -3,12 +3,12 @@ use native.Mathlib.Omega.{arith}
 use borrow.Author.Needs.{needs}
 use Prim.Native.Nat.{_+_, _-_}
 use Rattle.types.proofs.book.DeclLaws.{found-first}
-use Rattle.types.proofs.layout.aoi.AoiLaws.{Counting, counts, counted, count-on}
+use Rattle.types.proofs.layout.aoi.AoiLaws.{CountingBools, counts, counted, count-on}
 use Rattle.types.proofs.layout.aoi.count_bools.Statement.{statement}
 use Rattle.types.proofs.layout.aoi.count_bools.Tie as tie
 
 abbrev Inv-loop : tie.InvT-loop
-Inv-loop types book tys at n count₀ j₀ count j = Counting types book tys at n count j
+Inv-loop types book tys at n count₀ j₀ count j = CountingBools types book tys at n count j
 
 abbrev μ-loop : tie.MeasureT-loop
 μ-loop types book tys at n count₀ j₀ count j = n - j

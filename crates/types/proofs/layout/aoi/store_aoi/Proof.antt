@@ -2,7 +2,7 @@
 use native.Mathlib.Omega.{arith}
 use borrow.Author.Needs.{needs}
 use Prim.Native.Nat.{_+_}
-use Rattle.types.specs.inside.layout.Passes.{Put}
+use Rattle.types.specs.inside.layout.Passes.{PartsPut}
 use Rattle.types.specs.layout.Structs.{enableParts}
 use Rattle.types.proofs.layout.aoi.AoiStoreLaws.{rows-room, names-room, rest-storable, third, all-rows}
 use Rattle.types.proofs.layout.aoi.AoiStoreLaws.{all-names}
@@ -13,7 +13,7 @@ use Rattle.types.proofs.layout.aoi.store_aoi.Tie as tie
 enables : (c : tie.After-put-enables)
     → let hosts = c .before .before .before in
     let a = hosts .before .before .before .before .before .before .before .args in
-    Put enableParts (a .row + a .h) (hosts .put-hosts .result) (hosts .put-hosts .last .0)
+    PartsPut enableParts (a .row + a .h) (hosts .put-hosts .result) (hosts .put-hosts .last .0)
     (hosts .put-hosts .last .1 .1 .0)
     (c .put-enables .last .0) (c .put-enables .last .1 .1 .0) (c .put-enables .result)
 enables c = rw (c .before .before .before .before .before .before .wide .ensures) at (c .put-enables .ensures)

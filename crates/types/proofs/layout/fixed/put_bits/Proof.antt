@@ -1,13 +1,14 @@
--- `types::put_bits` meets its contract. The invariant is `Putting`.
+-- `types::put_bits` meets its contract. The invariant is `PuttingBits`.
 use native.Mathlib.Omega.{arith}
-use Prim.Native.Nat.{_-_}
-use Rattle.types.proofs.layout.fixed.FixedLaws.{Putting, bits-start, bits-rows, bits-names, bits-on, lent-pair}
-use Rattle.types.proofs.layout.fixed.FixedLaws.{pair-long}
+use Prim.Native.Nat.{_*_, _-_}
+use Rattle.words.proofs.Lists.{lent-long, lent-part}
+use Rattle.types.proofs.layout.fixed.FixedLaws.{PuttingBits, bits-start, bits-rows, bits-names, bits-on}
 use Rattle.types.proofs.layout.fixed.put_bits.Statement.{statement}
 use Rattle.types.proofs.layout.fixed.put_bits.Tie as tie
 
 abbrev Inv-loop : tie.InvT-loop
-Inv-loop members₀ row names₀ place bits n i₀ members names i = Putting bits members₀ names₀ row place n members names i
+Inv-loop members₀ row names₀ place bits n i₀ members names i =
+    PuttingBits bits members₀ names₀ row place n members names i
 
 abbrev μ-loop : tie.MeasureT-loop
 μ-loop members₀ row names₀ place bits n i₀ members names i = n - i
@@ -44,7 +45,7 @@ part-put-part-end c = omega arith
 put-part-requires : tie.Need-put-part-requires Inv-loop μ-loop
 put-part-requires c κs =
     let at-loop = c .before .before .before .before .before in
-    let long = pair-long (at-loop .before .before .args .bits .now) (at-loop .loop .i) (omega arith) in
+    let long = lent-long (at-loop .before .before .args .bits .now) (2 * at-loop .loop .i) 2 (omega arith) in
     (omega arith, (omega arith, rw (c .before .before .before .status-at .ensures) tt))
 
 add-i : tie.Need-add-i Inv-loop μ-loop
@@ -59,8 +60,8 @@ loop-again c =
     let a = at-loop .before .before .args in
     let m = c .before .before .before .before .status-at .ensures in
     bits-on (at-loop .loop .inv) (c .before .before .before .before .before .loop-test .taken) (omega arith)
-    (rw (← lent-pair (a .bits .now) (at-loop .loop .i), ← m) (c .put-part .ensures .0))
-    (rw (← lent-pair (a .bits .now) (at-loop .loop .i), ← m) (c .put-part .ensures .1))
+    (rw (← lent-part (a .bits .now) (2 * at-loop .loop .i) 2, ← m) (c .put-part .ensures .0))
+    (rw (← lent-part (a .bits .now) (2 * at-loop .loop .i) 2, ← m) (c .put-part .ensures .1))
 
 returns : tie.Need-returns Inv-loop μ-loop
 returns c =

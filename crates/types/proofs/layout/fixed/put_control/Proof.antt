@@ -1,7 +1,8 @@
 -- `types::put_control` meets its contract: the hidden word's part, the two words', and those of the status bits.
 use native.Mathlib.Omega.{arith}
 use borrow.Author.Needs.{needs}
-use Rattle.types.proofs.layout.fixed.FixedLaws.{first-long, second-long, control-rows, control-names}
+use Rattle.words.proofs.Lists.{length-between}
+use Rattle.types.proofs.layout.fixed.FixedLaws.{control-rows, control-names}
 use Rattle.types.proofs.layout.fixed.put_control.Statement.{statement}
 use Rattle.types.proofs.layout.fixed.put_control.Tie as tie
 
@@ -15,7 +16,7 @@ put-part-requires-2 : tie.Need-put-part-requires-2
 put-part-requires-2 c κs =
     let one = c .before .before .before .before .before .before .before .before in
     let start = one .before .before .before .before in
-    let long = first-long (start .args .words .now) (start .pre .long) in
+    let long = length-between (start .args .words .now) 0 3 (omega (arith, start .pre .long)) in
     let fit = start .pre .fit in
     (omega (arith, fit .rows), (omega (arith, long, fit .names), rw (one .dint-at .ensures) tt))
 
@@ -23,7 +24,7 @@ put-part-requires-3 : tie.Need-put-part-requires-3
 put-part-requires-3 c κs =
     let two = c .before .before .before .before .before .before .before .before .before .before .before in
     let start = two .before .before .before .before .before in
-    let long = second-long (start .args .words .now) (start .pre .long) in
+    let long = length-between (start .args .words .now) 3 3 (omega (arith, start .pre .long)) in
     let fit = start .pre .fit in
     (omega (arith, fit .rows), (omega (arith, long, fit .names), rw (two .dint-at2 .ensures) tt))
 

@@ -2,8 +2,8 @@
 use native.Mathlib.Omega.{arith}
 use borrow.Author.Needs.{needs}
 use mathlib.Core.Path.{refl}
+use Rattle.words.proofs.ArithLaws.{align-most}
 use Rattle.types.specs.layout.Placing.{alignUp}
-use Rattle.types.proofs.layout.LayoutLaws.{align-most}
 use Rattle.types.proofs.layout.placing.align_up.Statement.{statement}
 use Rattle.types.proofs.layout.placing.align_up.Tie as tie
 

@@ -3,8 +3,9 @@ use native.Mathlib.Omega.{arith}
 use borrow.Author.Needs.{needs}
 use mathlib.Core.Path.{_≡_}
 use Prim.Native.Nat.{_+_, _*_, _≤_}
+use Rattle.words.proofs.ArithLaws.{product-most}
 use Rattle.types.specs.layout.Placing.{times}
-use Rattle.types.proofs.layout.LayoutLaws.{product-most, end-at, end-over}
+use Rattle.types.proofs.layout.LayoutLaws.{end-at, end-over}
 use Rattle.types.proofs.layout.placing.member_end.Statement.{statement}
 use Rattle.types.proofs.layout.placing.member_end.Tie as tie
 

@@ -4,7 +4,7 @@ use mathlib.Core.List.{List}
 use Prim.Native.Nat.{ℕ}
 use Rattle.types.specs.inside.listing.Lines.{TypeNamed, Short}
 use Rattle.types.specs.listing.Lines.{line}
-use Rattle.types.proofs.listing.lines.ListingLaws.{Left, left-room, left-on, memberFields, member-lined}
+use Rattle.types.proofs.listing.lines.ListingLaws.{FieldsLeft, left-room, left-on, memberFields, member-lined}
 use Rattle.types.proofs.listing.lines.ListingLaws.{row-same, row-below, row-short, row-named, row-left}
 use Rattle.types.proofs.listing.lines.member_line.Statement.{statement}
 use Rattle.types.proofs.listing.lines.member_line.Tie as tie
@@ -34,7 +34,7 @@ short c =
     (c .name-row .ensures)
 
 all : (c : tie.After-name-row)
-    → Left (line (fields c)) 0 (start c .args .out .now) (fields c) 0 (start c .args .out .now)
+    → FieldsLeft (line (fields c)) 0 (start c .args .out .now) (fields c) 0 (start c .args .out .now)
 all c =
     let p = start c .pre in
     row-left (first c .before .type-row .ensures) (first c .wide .ensures) (p .1 .1 .0) (p .1 .0)

@@ -1,6 +1,6 @@
 -- `types::put_decimal` meets its contract: the part of the bytes is the digits.
 use borrow.Author.Needs.{needs}
-use Rattle.types.proofs.listing.lines.ListingLaws.{spelt-part}
+use Rattle.types.proofs.layout.DigitLaws.{spelt-part}
 use Rattle.types.proofs.listing.lines.put_decimal.Statement.{statement}
 use Rattle.types.proofs.listing.lines.put_decimal.Tie as tie
 

@@ -4,7 +4,8 @@ use mathlib.Core.Path.{_∙_}
 use mathlib.Core.List.{List}
 use Prim.Native.Nat.{ℕ}
 use Rattle.types.specs.listing.Lines.{line, typeNumbers}
-use Rattle.types.proofs.listing.lines.ListingLaws.{Left, left-room, left-on, last-room, left-done, numbers-left}
+use Rattle.types.proofs.listing.lines.ListingLaws.{FieldsLeft, left-room, left-on, last-room, left-done}
+use Rattle.types.proofs.listing.lines.ListingLaws.{numbers-left}
 use Rattle.types.proofs.listing.lines.put_numbers.Statement.{statement}
 use Rattle.types.proofs.listing.lines.put_numbers.Tie as tie
 
@@ -23,7 +24,7 @@ numbers c =
     (c .before .wide643 .result) (c .wide644 .result) (start c .args .bits)
 
 all : (c : tie.After-wide644)
-    → Left (line (asked c)) (start c .args .at) (start c .args .out .now) (numbers c) (start c .args .at)
+    → FieldsLeft (line (asked c)) (start c .args .at) (start c .args .out .now) (numbers c) (start c .args .at)
     (start c .args .out .now)
 all c =
     let at-id = c .before .before .before in

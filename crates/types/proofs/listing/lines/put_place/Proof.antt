@@ -5,7 +5,8 @@ use Prim.Native.Nat.{ℕ}
 use Rattle.types.specs.layout.HostNames.{digits}
 use Rattle.types.specs.listing.Lines.{line, bitText, memberPlace}
 use Rattle.types.specs.tables.Defs.{nameIn}
-use Rattle.types.proofs.listing.lines.ListingLaws.{Left, left-room, left-on, last-room, left-done, place-left}
+use Rattle.types.proofs.listing.lines.ListingLaws.{FieldsLeft, left-room, left-on, last-room, left-done}
+use Rattle.types.proofs.listing.lines.ListingLaws.{place-left}
 use Rattle.types.proofs.listing.lines.put_place.Statement.{statement}
 use Rattle.types.proofs.listing.lines.put_place.Tie as tie
 
@@ -24,7 +25,7 @@ fields c =
     digits (c .before .wide64 .result) ∷ digits (c .wide642 .result) ∷ bitText (start c .args .m .bit) ∷ name c ∷ []
 
 all : (c : tie.After-wide642)
-    → Left (line (asked c)) (start c .args .at) (start c .args .out .now) (fields c) (start c .args .at)
+    → FieldsLeft (line (asked c)) (start c .args .at) (start c .args .out .now) (fields c) (start c .args .at)
     (start c .args .out .now)
 all c = place-left (start c .args .m) (name c) (c .before .wide64 .ensures) (c .wide642 .ensures) (start c .pre .1)
 

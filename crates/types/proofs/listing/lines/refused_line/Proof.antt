@@ -3,8 +3,8 @@ use borrow.Author.Needs.{needs}
 use mathlib.Core.List.{List}
 use Prim.Native.Nat.{ℕ}
 use Rattle.types.specs.listing.Lines.{line}
-use Rattle.types.proofs.listing.lines.ListingLaws.{Left, left-room, left-on, last-room, left-done, refusedFields}
-use Rattle.types.proofs.listing.lines.ListingLaws.{refused-left, refused-lined}
+use Rattle.types.proofs.listing.lines.ListingLaws.{FieldsLeft, left-room, left-on, last-room, left-done}
+use Rattle.types.proofs.listing.lines.ListingLaws.{refusedFields, refused-left, refused-lined}
 use Rattle.types.proofs.listing.lines.refused_line.Statement.{statement}
 use Rattle.types.proofs.listing.lines.refused_line.Tie as tie
 
@@ -16,7 +16,7 @@ abbrev fields : tie.After-wide64 → List (List ℕ)
 fields c = refusedFields (start c .args .number) (c .wide64 .result)
 
 all : (c : tie.After-wide64)
-    → Left (line (fields c)) 0 (start c .args .out .now) (fields c) 0 (start c .args .out .now)
+    → FieldsLeft (line (fields c)) 0 (start c .args .out .now) (fields c) 0 (start c .args .out .now)
 all c = refused-left (start c .args .number) (c .wide64 .result) (start c .pre)
 
 put-number-requires : tie.Need-put-number-requires

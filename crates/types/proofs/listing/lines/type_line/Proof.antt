@@ -4,8 +4,8 @@ use mathlib.Core.List.{List}
 use Prim.Native.Nat.{ℕ}
 use Rattle.types.specs.inside.listing.Lines.{Listable}
 use Rattle.types.specs.listing.Lines.{line}
-use Rattle.types.proofs.listing.lines.ListingLaws.{Left, left-room, left-on, typeFields, type-left, type-lined}
-use Rattle.types.proofs.listing.lines.ListingLaws.{listed}
+use Rattle.types.proofs.listing.lines.ListingLaws.{FieldsLeft, left-room, left-on, typeFields, type-left}
+use Rattle.types.proofs.listing.lines.ListingLaws.{type-lined, listed}
 use Rattle.types.proofs.listing.lines.type_line.Statement.{statement}
 use Rattle.types.proofs.listing.lines.type_line.Tie as tie
 
@@ -26,7 +26,7 @@ known : (c : tie.After-lost-bits)
 known c = listed (c .before .before .type-row .ensures) (start c .pre .1 .0)
 
 all : (c : tie.After-lost-bits)
-    → Left (line (fields c)) 0 (start c .args .out .now) (fields c) 0 (start c .args .out .now)
+    → FieldsLeft (line (fields c)) 0 (start c .args .out .now) (fields c) 0 (start c .args .out .now)
 all c = type-left (names c) (c .before .before .type-row .result) _ _ (known c .name) (start c .pre .1 .1)
 
 template-bytes-requires : tie.Need-template-bytes-requires

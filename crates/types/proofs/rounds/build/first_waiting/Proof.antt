@@ -1,12 +1,12 @@
 -- `types::first_waiting` meets its contract. The invariant: none of the types so far waits.
 use native.Mathlib.Omega.{arith}
 use Prim.Native.Nat.{_-_}
-use Rattle.types.proofs.rounds.WaitLaws.{Passed, passed-start, passed-on, passed-found, passed-done}
+use Rattle.types.proofs.rounds.WaitLaws.{NoneWaits, passed-start, passed-on, passed-found, passed-done}
 use Rattle.types.proofs.rounds.build.first_waiting.Statement.{statement}
 use Rattle.types.proofs.rounds.build.first_waiting.Tie as tie
 
 abbrev Inv-loop : tie.InvT-loop
-Inv-loop done t i₀ i = Passed done t i
+Inv-loop done t i₀ i = NoneWaits done t i
 
 abbrev μ-loop : tie.MeasureT-loop
 μ-loop done t i₀ i = t - i

@@ -9,7 +9,7 @@ use Rattle.types.specs.atomics.Lookup.{rowName, rowNames, typeAmong}
 use Rattle.types.specs.inside.rounds.Resolve.{Resolvable}
 use Rattle.types.specs.rounds.Resolve.{typeName}
 use Rattle.types.proofs.layout.StoreOneLaws.{lent-name}
-use Rattle.types.proofs.rounds.ResolveLaws.{found-earlier, Left, left-on, left-stop, left-end}
+use Rattle.types.proofs.rounds.ResolveLaws.{found-earlier, WordsLeft, left-on, left-stop, left-end}
 use Rattle.types.proofs.tables.AgreeLaws.{length-list}
 use Rattle.types.proofs.tables.DefLaws.{earlier-fits}
 use Rattle.types.proofs.rounds.resolve.resolve.Statement.{statement}
@@ -18,7 +18,7 @@ use Rattle.types.proofs.rounds.resolve.resolve.Tie as tie
 abbrev Inv-loop : tie.InvT-loop
 Inv-loop types names known book at n tys₀ j₀ tys j =
     (j ≤ n) × (Resolvable types names book tys₀ known at n
-    × Left (rowNames types names known) book at n tys₀ tys j)
+    × WordsLeft (rowNames types names known) book at n tys₀ tys j)
 
 abbrev μ-loop : tie.MeasureT-loop
 μ-loop types names known book at n tys₀ j₀ tys j = n - j

@@ -1,4 +1,4 @@
--- `types::one_round` meets its contract: `Within` holds in the round.
+-- `types::one_round` meets its contract: `InRound` holds in the round.
 use native.Mathlib.Omega.{arith}
 use borrow.Author.Needs.{needs}
 use Prim.Native.Nat.{_-_}
@@ -6,7 +6,7 @@ use mathlib.Core.Logic.{⊎-elim}
 use mathlib.Core.Path.{_≡_, ap, _∙_}
 use Rattle.types.specs.rounds.Turns.{countOf}
 use Rattle.types.specs.declared.book.contents.TypeEntry.{TypeEntry}
-use Rattle.types.proofs.rounds.OneRoundLaws.{Within, const-small, start-small, within-start, within-in}
+use Rattle.types.proofs.rounds.OneRoundLaws.{InRound, const-small, start-small, within-start, within-in}
 use Rattle.types.proofs.rounds.OneRoundLaws.{within-near, within-flag, within-left, within-past, within-wait}
 use Rattle.types.proofs.rounds.OneRoundLaws.{within-yes, made-all, made-no}
 use Rattle.types.proofs.rounds.round.one_round.Statement.{statement}
@@ -14,7 +14,7 @@ use Rattle.types.proofs.rounds.round.one_round.Tie as tie
 
 abbrev Inv-loop : tie.InvT-loop
 Inv-loop book T l t₀ m₀ n₀ tys₀ f₀ k₀ r₀ u₀ left₀ i₀ at₀ t m n tys f k r u left i at =
-    Within book T t₀ m₀ n₀ tys₀ f₀ k₀ r₀ u₀ t m n tys f k r u left i at
+    InRound book T t₀ m₀ n₀ tys₀ f₀ k₀ r₀ u₀ t m n tys f k r u left i at
 
 abbrev μ-loop : tie.MeasureT-loop
 μ-loop book T l t₀ m₀ n₀ tys₀ f₀ k₀ r₀ u₀ left₀ i₀ at₀ t m n tys f k r u left i at = T - i

@@ -1,6 +1,6 @@
 -- `types::product_fits` meets its contract: a quotient decides.
 use borrow.Author.Needs.{needs}
-use Rattle.types.proofs.shape.ShapeLaws.{fits-zero, fits-div}
+use Rattle.words.proofs.ArithLaws.{fits-zero, fits-div}
 use Rattle.types.proofs.shape.tags.product_fits.Statement.{statement}
 use Rattle.types.proofs.shape.tags.product_fits.Tie as tie
 

@@ -5,14 +5,15 @@ use Prim.Native.Nat.{_+_, _-_}
 use native.Mathlib.Nat.{sub-zero}
 use mathlib.Core.Path.{_≡_, _∙_}
 use Rattle.words.specs.Words.{bytesOf}
+use Rattle.words.proofs.WordLaws.{two-stored}
 use Rattle.types.specs.templates.Template.{memberIds}
-use Rattle.types.proofs.templates.SinkLaws.{Turn, turn-first, left-room, left-on, left-none}
-use Rattle.types.proofs.templates.TemplateLaws.{two-bytes, ids-on, ids-off}
+use Rattle.types.proofs.templates.SinkLaws.{PiecesAt, turn-first, left-room, left-on, left-none}
+use Rattle.types.proofs.templates.TemplateLaws.{ids-on, ids-off}
 use Rattle.types.proofs.templates.pieces.emit_ids.Statement.{statement}
 use Rattle.types.proofs.templates.pieces.emit_ids.Tie as tie
 
 abbrev Inv-loop : tie.InvT-loop
-Inv-loop n out₀ k₀ i₀ out k i = Turn (memberIds 0 n) (λ j. memberIds j (n - j)) n k₀ out₀ i k out
+Inv-loop n out₀ k₀ i₀ out k i = PiecesAt (memberIds 0 n) (λ j. memberIds j (n - j)) n k₀ out₀ i k out
 
 abbrev μ-loop : tie.MeasureT-loop
 μ-loop n out₀ k₀ i₀ out k i = n - i
@@ -22,7 +23,7 @@ came : (c : tie.After-store16 Inv-loop μ-loop)
     → c .store16 .last .0 ≡ bytesOf 2 (0xE000 + c .before .before .before .before .loop .i)
 came c =
     let i = c .before .before .before .before .loop .i in
-    c .store16 .ensures ∙ rw (c .before .low16 .ensures) (two-bytes (0xE000 + i))
+    c .store16 .ensures ∙ rw (c .before .low16 .ensures) (two-stored (0xE000 + i))
 
 loop-holds : tie.Need-loop-holds Inv-loop μ-loop
 loop-holds c =

@@ -5,14 +5,14 @@ use Prim.Native.Nat.{_+_, _-_}
 use native.Mathlib.Nat.{add-zero, sub-zero}
 use mathlib.Core.List.{[]}
 use Rattle.types.specs.inside.templates.Pieces.{infosFrom}
-use Rattle.types.proofs.templates.SinkLaws.{Turn, turn-first, left-room, left-on, left-none}
+use Rattle.types.proofs.templates.SinkLaws.{PiecesAt, turn-first, left-room, left-on, left-none}
 use Rattle.types.proofs.templates.TemplateLaws.{row-inside, row-type, infos-on, infos-off}
 use Rattle.types.proofs.templates.pieces.emit_infos.Statement.{statement}
 use Rattle.types.proofs.templates.pieces.emit_infos.Tie as tie
 
 abbrev Inv-loop : tie.InvT-loop
 Inv-loop types members out₀ first n k₀ i₀ out k i =
-    Turn (infosFrom types members first n) (λ j. infosFrom types members (first + j) (n - j)) n k₀ out₀ i k out
+    PiecesAt (infosFrom types members first n) (λ j. infosFrom types members (first + j) (n - j)) n k₀ out₀ i k out
 
 abbrev μ-loop : tie.MeasureT-loop
 μ-loop types members out₀ first n k₀ i₀ out k i = n - i

@@ -6,14 +6,14 @@ use native.Mathlib.Nat.{add-zero, sub-zero}
 use mathlib.Core.Path.{refl}
 use mathlib.Core.List.{[], _∷_}
 use Rattle.types.specs.inside.templates.Pieces.{namesFrom}
-use Rattle.types.proofs.templates.SinkLaws.{Turn, turn-first, left-room, left-on, left-none}
+use Rattle.types.proofs.templates.SinkLaws.{PiecesAt, turn-first, left-room, left-on, left-none}
 use Rattle.types.proofs.templates.TemplateLaws.{row-inside, row-name, names-on, names-off, name-came}
 use Rattle.types.proofs.templates.pieces.emit_names.Statement.{statement}
 use Rattle.types.proofs.templates.pieces.emit_names.Tie as tie
 
 abbrev Inv-loop : tie.InvT-loop
 Inv-loop members names out₀ first n k₀ i₀ t11 out k i =
-    Turn (namesFrom members names first n) (λ j. namesFrom members names (first + j) (n - j)) n k₀ out₀ i k out
+    PiecesAt (namesFrom members names first n) (λ j. namesFrom members names (first + j) (n - j)) n k₀ out₀ i k out
 
 abbrev μ-loop : tie.MeasureT-loop
 μ-loop members names out₀ first n k₀ i₀ t11 out k i = n - i

@@ -4,12 +4,12 @@ use borrow.Author.Needs.{needs}
 use Prim.Native.Nat.{ℕ, _-_, _*_}
 use mathlib.Core.Path.{ap}
 use Rattle.types.proofs.templates.TemplateLaws.{row-inside}
-use Rattle.types.proofs.templates.waste.WasteLaws.{Counting, count-first, count-on, count-done, row-fitting}
+use Rattle.types.proofs.templates.waste.WasteLaws.{CountingBits, count-first, count-on, count-done, row-fitting}
 use Rattle.types.proofs.templates.waste.lost_bits.Statement.{statement}
 use Rattle.types.proofs.templates.waste.lost_bits.Tie as tie
 
 abbrev Inv-loop : tie.InvT-loop
-Inv-loop types members first n total bits₀ i₀ bits i = Counting types members first n bits i
+Inv-loop types members first n total bits₀ i₀ bits i = CountingBits types members first n bits i
 
 abbrev μ-loop : tie.MeasureT-loop
 μ-loop types members first n total bits₀ i₀ bits i = n - i

@@ -3,13 +3,13 @@ use Prim.Native.Nat.{_-_, _*_, _≤_}
 use native.Mathlib.Omega.{arith}
 use mathlib.Core.Path.{refl}
 use Rattle.words.specs.Bits.{flat}
-use Rattle.values.proofs.normal_image.FlagRows.{Putting, one-row, putting-all, putting-more, putting-none}
+use Rattle.values.proofs.normal_image.FlagRows.{PuttingFlags, one-row, putting-all, putting-more, putting-none}
 use Rattle.values.proofs.normal_image.flags.put_flags.Statement.{statement}
 use Rattle.values.proofs.normal_image.flags.put_flags.Tie as tie
 
 abbrev Inv-loop : tie.InvT-loop
 Inv-loop members first n kept image₀ base k₀ image k =
-    (k ≤ n) × Putting members first n (flat kept) (8 * base) image₀ k image
+    (k ≤ n) × PuttingFlags members first n (flat kept) (8 * base) image₀ k image
 
 abbrev μ-loop : tie.MeasureT-loop
 μ-loop members first n kept image₀ base k₀ image k = n - k

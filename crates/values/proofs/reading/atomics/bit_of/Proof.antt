@@ -1,6 +1,6 @@
 -- `values::bit_of` meets its contract: the remainder by 2 is the bit's digit.
 use borrow.Author.Needs.{needs}
-use Rattle.values.proofs.reading.atomics.BitRunLaws.{bit-digit}
+use Rattle.words.proofs.BitLaws.{bit-digit}
 use Rattle.values.proofs.reading.atomics.bit_of.Statement.{statement}
 use Rattle.values.proofs.reading.atomics.bit_of.Tie as tie
 

@@ -1,5 +1,5 @@
 -- `values::is_product` meets its contract.
-use Rattle.values.proofs.reading.ReadingLaws.{product-none, product-not, product-is}
+use Rattle.words.proofs.ArithLaws.{product-none, product-not, product-is}
 use borrow.Author.Needs.{needs}
 use Rattle.values.proofs.reading.read.is_product.Statement.{statement}
 use Rattle.values.proofs.reading.read.is_product.Tie as tie

@@ -6,14 +6,14 @@ use Prim.Native.Nat.{ℕ}
 use Rattle.types.specs.tables.Lent.{typeAt}
 use Rattle.types.specs.declared.tables.member.StructDef.{StructDef}
 use Rattle.values.specs.reading.Texts.{capacityAt, textLength}
-use Rattle.values.proofs.reading.StoredLaws.{Readable, readable, held-atomic, held-struct}
+use Rattle.values.proofs.reading.StoredLaws.{TextReadable, readable, held-atomic, held-struct}
 use Rattle.values.proofs.reading.stored.text_bytes.Statement.{statement}
 use Rattle.values.proofs.reading.stored.text_bytes.Tie as tie
 
 -- the structure's rows and the image
 known : (c : tie.After-ty)
     → let a = c .before .before .before .args in
-    Readable (a .types .now) (a .members .now) (c .ty .given .0 .0) (a .image .now)
+    TextReadable (a .types .now) (a .members .now) (c .ty .given .0 .0) (a .image .now)
 known c =
     let at-start = c .before .before .before in
     let a = at-start .args in

@@ -1,7 +1,7 @@
 -- `values::text_length` meets its contract (document 01, "Reading"): min(LEN as u32, capacity).
 use native.Mathlib.Omega.{arith}
 use borrow.Author.Needs.{needs}
-use Rattle.values.proofs.reading.texts.TextLaws.{len-is}
+use Rattle.words.proofs.BitLaws.{first-word}
 use Rattle.values.proofs.reading.texts.text_length.Statement.{statement}
 use Rattle.values.proofs.reading.texts.text_length.Tie as tie
 
@@ -9,7 +9,7 @@ returns : tie.Need-returns
 returns c =
     let at-load = c .before .before in
     let at-image = at-load .before in
-    let len = len-is (at-image .before .args .image .now) (λ k. at-image .shared-slice-known .given k .fits)
+    let len = first-word (at-image .before .args .image .now) (λ k. at-image .shared-slice-known .given k .fits)
     (at-load .load32 .ensures) in
     omega (arith, len, c .wide .ensures, c .before .if1 .taken)
 
@@ -17,7 +17,7 @@ returns-2 : tie.Need-returns-2
 returns-2 c =
     let at-load = c .before .before in
     let at-image = at-load .before in
-    let len = len-is (at-image .before .args .image .now) (λ k. at-image .shared-slice-known .given k .fits)
+    let len = first-word (at-image .before .args .image .now) (λ k. at-image .shared-slice-known .given k .fits)
     (at-load .load32 .ensures) in
     omega (arith, len, c .wide2 .ensures, c .before .if1 .left)
 

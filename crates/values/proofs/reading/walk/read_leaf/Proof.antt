@@ -3,7 +3,7 @@
 use borrow.Author.Needs.{needs}
 use native.Mathlib.Omega.{arith}
 use denote.Ref.{now}
-use Rattle.values.proofs.reading.LeafLaws.{put-hidden, shown-room, Numbered, bit-inside, bit-room, put-bit}
+use Rattle.values.proofs.reading.LeafLaws.{put-hidden, shown-room, NumberPut, bit-inside, bit-room, put-bit}
 use Rattle.values.proofs.reading.LeafLaws.{put-struct, Atomics, atomics-inside, atomics-asks, put-atomics}
 use Rattle.values.proofs.reading.walk.read_leaf.Statement.{statement}
 use Rattle.values.proofs.reading.walk.read_leaf.Tie as tie
@@ -28,7 +28,7 @@ numbered : (c : tie.After-wide2)
     let put = wide .before .before .before in
     let read = put .before .before .before in
     let a = read .before .before .before .args in
-    Numbered (now (a .types)) (now (a .members)) (now (a .image)) (now (a .out)) (a .i) (a .row) (a .j) (a .at)
+    NumberPut (now (a .types)) (now (a .members)) (now (a .image)) (now (a .out)) (a .i) (a .row) (a .j) (a .at)
     (read .member-row .result) (put .put-entry .last .0) (wide .wide .result) (c .wide2 .result)
 numbered c =
     let wide = c .before in

@@ -3,7 +3,7 @@ use Prim.Native.Nat.{_+_}
 use native.Mathlib.Omega.{arith}
 use mathlib.Core.Path.{sym}
 use borrow.Author.Tests.{lt-leb}
-use Rattle.values.proofs.stream.EntryLaws.{inside-test}
+use Rattle.words.proofs.ArithLaws.{room-test}
 use Rattle.values.proofs.stream.entry.is_inside.Statement.{statement}
 use Rattle.values.proofs.stream.entry.is_inside.Tie as tie
 
@@ -15,7 +15,7 @@ returns c =
 returns-2 : tie.Need-returns-2
 returns-2 c =
     let a = c .before .args in
-    inside-test (a .at) (a .long) (omega (arith, c .if1 .left))
+    room-test 12 (a .at) (a .long) (omega (arith, c .if1 .left))
 
 pub is-inside-spec : {M : Type 1} → statement M
 is-inside-spec = tie.close (tie.spec returns returns-2)

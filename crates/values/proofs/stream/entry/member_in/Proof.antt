@@ -6,7 +6,7 @@ use Rattle.values.proofs.stream.entry.member_in.Statement.{statement}
 use Rattle.values.proofs.stream.entry.member_in.Tie as tie
 
 returns : tie.Need-returns
-returns c = low-is entry.Member (c .before .if1 .taken) (c .low .ensures)
+returns c = low-is entry.Member (c .before .if1 .taken) (c .low32 .ensures)
 
 returns-2 : tie.Need-returns-2
 returns-2 c = low-none entry.Member (c .if1 .left)

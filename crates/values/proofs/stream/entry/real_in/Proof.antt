@@ -6,7 +6,7 @@ use Rattle.values.proofs.stream.entry.real_in.Statement.{statement}
 use Rattle.values.proofs.stream.entry.real_in.Tie as tie
 
 returns : tie.Need-returns
-returns c = low-is entry.Real (c .before .if1 .taken) (c .low .ensures)
+returns c = low-is entry.Real (c .before .if1 .taken) (c .low32 .ensures)
 
 returns-2 : tie.Need-returns-2
 returns-2 c = low-none entry.Real (c .if1 .left)

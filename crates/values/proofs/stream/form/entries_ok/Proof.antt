@@ -3,12 +3,12 @@ use Prim.Native.Nat.{_+_, _*_, _-_}
 use native.Mathlib.Omega.{arith}
 use Rattle.values.specs.inside.stream.Steps.{Moved}
 use Rattle.values.specs.stream.Form.{stepAt}
-use Rattle.values.proofs.stream.FormLaws.{Left, left-start, left-on, left-broken, left-done, words-moved}
+use Rattle.values.proofs.stream.FormLaws.{EntriesLeft, left-start, left-on, left-broken, left-done, words-moved}
 use Rattle.values.proofs.stream.form.entries_ok.Statement.{statement}
 use Rattle.values.proofs.stream.form.entries_ok.Tie as tie
 
 abbrev Inv-loop : tie.InvT-loop
-Inv-loop s base n place₀ k₀ place k = Left s base n place k
+Inv-loop s base n place₀ k₀ place k = EntriesLeft s base n place k
 
 abbrev μ-loop : tie.MeasureT-loop
 μ-loop s base n place₀ k₀ place k = n - k

@@ -5,8 +5,8 @@ use native.Mathlib.Omega.{arith}
 use mathlib.Core.Path.{_≡_, ap₂, subst}
 use borrow.Author.Needs.{needs}
 use Rattle.values.specs.inside.stream.Steps.{Moved, stepOf}
-use Rattle.values.proofs.stream.FormLaws.{above, bool-broken, bool-fits, high-broken, kind-none, mark-broken}
-use Rattle.values.proofs.stream.FormLaws.{mark-fits, member-fits, moved-none, moved-to, signed-fits}
+use Rattle.values.proofs.stream.FormLaws.{bool-broken, bool-fits, high-broken, kind-none, mark-broken, mark-fits}
+use Rattle.values.proofs.stream.FormLaws.{member-fits, moved-none, moved-to, signed-fits}
 use Rattle.values.proofs.stream.form.next_place.Statement.{statement}
 use Rattle.values.proofs.stream.form.next_place.Tie as tie
 
@@ -66,7 +66,7 @@ returns-6 c =
     let start = then5 .before .before .before in
     let a = start .args in
     moved-to (mark-fits (a .head) (payload start) (a .place) (small start)
-    (above (then5 .if5 .taken) (else8 .if8 .left)) (then6 .if6 .taken)
+    (omega (arith, then5 .if5 .taken, else8 .if8 .left)) (then6 .if6 .taken)
     (omega (arith, then7 .if7 .taken, c .if9 .taken))) (omega (arith, start .pre)) (omega arith)
 
 returns-7 : tie.Need-returns-7
@@ -77,7 +77,7 @@ returns-7 c =
     let start = then5 .before .before .before in
     let a = start .args in
     moved-none (mark-broken (a .head) (payload start) (a .place) (small start)
-    (above (then5 .if5 .taken) (else8 .if8 .left)) (then6 .if6 .taken) (λ e. c .if9 .left (omega (arith, e))))
+    (omega (arith, then5 .if5 .taken, else8 .if8 .left)) (then6 .if6 .taken) (λ e. c .if9 .left (omega (arith, e))))
 
 returns-8 : tie.Need-returns-8
 returns-8 c =

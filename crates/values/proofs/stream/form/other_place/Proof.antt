@@ -21,10 +21,10 @@ returns-2 c =
     let at-text = at-low .before in
     let at-start = at-text .before .before in
     let a = at-start .args in
-    let long = c .wide2 .ensures ∙ at-high .high .ensures in
+    let long = c .wide2 .ensures ∙ at-high .high32 .ensures in
     moved-to
     (text-here (a .head) (a .x) (a .place) (at-text .if2 .taken)
-    (sym (at-wide .wide .ensures ∙ at-low .low .ensures) ∙ at-here .if3 .taken)
+    (sym (at-wide .wide .ensures ∙ at-low .low32 .ensures) ∙ at-here .if3 .taken)
     ∙ ap (λ l. At (a .place + l)) (sym long))
     (omega (arith, long, at-start .fits .x, at-start .pre))
     (omega (arith, long, at-start .fits .x))
@@ -37,7 +37,7 @@ returns-3 c =
     let a = at-text .before .before .args in
     moved-none
     (text-elsewhere (a .head) (a .x) (a .place) (at-text .if2 .taken)
-    (λ h. c .if3 .left (at-wide .wide .ensures ∙ at-low .low .ensures ∙ h)))
+    (λ h. c .if3 .left (at-wide .wide .ensures ∙ at-low .low32 .ensures ∙ h)))
 
 returns-4 : tie.Need-returns-4
 returns-4 c =

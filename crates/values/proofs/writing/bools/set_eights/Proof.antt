@@ -1,13 +1,13 @@
 -- `values::set_eights` meets its contract. So far: the first 8 * b bools.
 use Prim.Native.Nat.{_*_, _-_, _≤_}
 use native.Mathlib.Omega.{arith}
-use Rattle.values.proofs.writing.bools.BoolLaws.{Laid, laid-all, laid-byte, laid-none}
+use Rattle.values.proofs.writing.bools.BoolLaws.{BoolsSet, laid-all, laid-byte, laid-none}
 use Rattle.values.proofs.writing.bools.BoolRuns.{later, least-few}
 use Rattle.values.proofs.writing.bools.set_eights.Statement.{statement}
 use Rattle.values.proofs.writing.bools.set_eights.Tie as tie
 
 abbrev Inv-loop : tie.InvT-loop
-Inv-loop n s k image₀ base b₀ image b = (b ≤ n) × Laid s k (8 * base) image₀ (8 * b) image
+Inv-loop n s k image₀ base b₀ image b = (b ≤ n) × BoolsSet s k (8 * base) image₀ (8 * b) image
 
 abbrev μ-loop : tie.MeasureT-loop
 μ-loop n s k image₀ base b₀ image b = n - b

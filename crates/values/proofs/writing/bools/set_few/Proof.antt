@@ -2,13 +2,13 @@
 use Prim.Native.Nat.{_*_, _-_, _≤_}
 use native.Mathlib.Omega.{arith}
 use mathlib.Core.Path.{refl}
-use Rattle.values.proofs.writing.bools.BoolLaws.{Laid, laid-all, laid-bit, laid-none}
+use Rattle.values.proofs.writing.bools.BoolLaws.{BoolsSet, laid-all, laid-bit, laid-none}
 use Rattle.values.proofs.writing.bools.BoolRuns.{least-few}
 use Rattle.values.proofs.writing.bools.set_few.Statement.{statement}
 use Rattle.values.proofs.writing.bools.set_few.Tie as tie
 
 abbrev Inv-loop : tie.InvT-loop
-Inv-loop n s k image₀ at j₀ image j = (j ≤ n) × Laid s k (8 * at) image₀ j image
+Inv-loop n s k image₀ at j₀ image j = (j ≤ n) × BoolsSet s k (8 * at) image₀ j image
 
 abbrev μ-loop : tie.MeasureT-loop
 μ-loop n s k image₀ at j₀ image j = n - j

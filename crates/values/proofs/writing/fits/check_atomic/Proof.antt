@@ -3,13 +3,13 @@ use native.Mathlib.Omega.{arith}
 use borrow.Author.Needs.{needs}
 use Rattle.values.specs.inside.writing.Effects.{Judged, atomicTakes}
 use Rattle.values.specs.writing.Effects.{orNull}
-use Rattle.values.proofs.stream.LeftLaws.{There, few-entries, there}
+use Rattle.values.proofs.stream.LeftLaws.{EntryThere, few-entries, there}
 use Rattle.values.proofs.writing.FitLaws.{atomic-here, misfit-small}
 use Rattle.values.proofs.writing.StepLaws.{one-judged, one-missing, one-refused}
 use Rattle.values.proofs.writing.fits.check_atomic.Statement.{statement}
 use Rattle.values.proofs.writing.fits.check_atomic.Tie as tie
 
-here : (c : tie.Else1) → There (c .before .before .args .s .now) (c .before .before .args .k)
+here : (c : tie.Else1) → EntryThere (c .before .before .args .s .now) (c .before .before .args .k)
 here c =
     let told = c .before .before .pre .0 in
     there _ _ (told .form) (omega (arith, c .if1 .left, told .count))

@@ -4,7 +4,7 @@ use native.Mathlib.Omega.{arith}
 use Prim.Native.Nat.{_-_, _*_}
 use Rattle.values.specs.reading.Leaf.{flag}
 use Rattle.values.specs.writing.Effects.{taken}
-use Rattle.values.proofs.writing.fits.FitRunLaws.{Next, Walked, asked, bool-on, bool-refused, next-closes}
+use Rattle.values.proofs.writing.fits.FitRunLaws.{NextFits, Walked, asked, bool-on, bool-refused, next-closes}
 use Rattle.values.proofs.writing.fits.FitRunLaws.{next-low, walked-done, walked-start}
 use Rattle.values.proofs.writing.fits.check_bools.Statement.{statement}
 use Rattle.values.proofs.writing.fits.check_bools.Tie as tie
@@ -33,7 +33,7 @@ next : (c : tie.After-kind-of Inv-loop μ-loop)
     → let at-loop = c .before .before in
     let after = at-loop .before in
     let a = after .before .before .args in
-    Next (a .s .now) (taken flag) (a .n) (8 * a .bytes) (a .k) (after .after-bytes .result) (at-loop .loop .p)
+    NextFits (a .s .now) (taken flag) (a .n) (8 * a .bytes) (a .k) (after .after-bytes .result) (at-loop .loop .p)
     (c .kind-of .result)
 next c =
     let at-loop = c .before .before in

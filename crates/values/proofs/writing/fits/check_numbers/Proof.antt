@@ -8,8 +8,8 @@ use Rattle.values.specs.inside.writing.Effects.{atomicTakes}
 use Rattle.values.specs.inside.writing.Limits.{limitsOf}
 use Rattle.values.specs.writing.Effects.{orNull}
 use Rattle.values.proofs.writing.FitLaws.{misfit-small}
-use Rattle.values.proofs.writing.fits.FitRunLaws.{Judging, Next, Walked, asked, next-closes, next-low, number-on}
-use Rattle.values.proofs.writing.fits.FitRunLaws.{number-refused, walked-done, walked-start}
+use Rattle.values.proofs.writing.fits.FitRunLaws.{Judging, NextFits, Walked, asked, next-closes, next-low}
+use Rattle.values.proofs.writing.fits.FitRunLaws.{number-on, number-refused, walked-done, walked-start}
 use Rattle.values.proofs.writing.fits.check_numbers.Statement.{statement}
 use Rattle.values.proofs.writing.fits.check_numbers.Tie as tie
 
@@ -53,7 +53,7 @@ next : (c : tie.After-kind-of Inv-loop μ-loop)
     let limited = after .before in
     let args = limited .before .before .args in
     (a : Atomic) → limited .limits-of .result ≡ limitsOf a
-    → Next (args .s .now) (orNull (atomicTakes a)) (args .n) (args .count) (args .k) (after .after-count .result)
+    → NextFits (args .s .now) (orNull (atomicTakes a)) (args .n) (args .count) (args .k) (after .after-count .result)
     (at-loop .loop .p) (c .kind-of .result)
 next c a e =
     let at-loop = c .before .before in
@@ -90,7 +90,8 @@ own : (c : tie.After-kind-of Inv-loop μ-loop)
     → let at-loop = c .before .before in
     let after = at-loop .before in
     let args = after .before .before .before .args in
-    Next (args .s .now) (orNull (atomicTakes (args .a))) (args .n) (args .count) (args .k) (after .after-count .result)
+    NextFits (args .s .now) (orNull (atomicTakes (args .a))) (args .n) (args .count)
+    (args .k) (after .after-count .result)
     (at-loop .loop .p) (c .kind-of .result)
 own c =
     let limited = c .before .before .before .before in

@@ -6,21 +6,21 @@ use borrow.Author.Needs.{needs}
 use lib.ListN.{length}
 use Rattle.values.specs.stream.Stream.{bodyOf, kindOf}
 use Rattle.values.specs.writing.Effects.{asText, orNull}
-use Rattle.values.proofs.stream.LeftLaws.{There, by-kind, few-entries, kind-there}
+use Rattle.values.proofs.stream.LeftLaws.{EntryThere, by-kind, few-entries, kind-there}
 use Rattle.values.proofs.writing.FitLaws.{no-text, text-fits, text-long, text-null}
 use Rattle.values.proofs.writing.StepLaws.{one-judged, one-refused}
 use Rattle.values.proofs.writing.fits.check_text.Statement.{statement}
 use Rattle.values.proofs.writing.fits.check_text.Tie as tie
 
 -- the null
-null-here : (c : tie.Then1) → There (c .before .before .before .args .s .now) (c .before .before .before .args .k)
+null-here : (c : tie.Then1) → EntryThere (c .before .before .before .args .s .now) (c .before .before .before .args .k)
 null-here c =
     by-kind _ _ (c .before .before .before .pre .0 .form)
     (λ h. let z : ⊥ = omega (arith, h, c .if1 .taken, c .before .kind-at .ensures) in z)
 
 -- the text, its kind and its length
 text-here : (c : tie.Then2)
-    → There (c .before .before .before .before .args .s .now) (c .before .before .before .before .args .k)
+    → EntryThere (c .before .before .before .before .args .s .now) (c .before .before .before .before .args .k)
 text-here c =
     by-kind _ _ (c .before .before .before .before .pre .0 .form)
     (λ h. let z : ⊥ = omega (arith, h, c .if2 .taken, c .before .before .kind-at .ensures) in z)
@@ -28,10 +28,10 @@ text-here c =
 text-kind : (c : tie.Then2) → kindOf (text-here c .token) ≡ 6
 text-kind c = sym (kind-there (text-here c)) ∙ sym (c .before .before .kind-at .ensures) ∙ c .if2 .taken
 
-text-length : (c : tie.After-high) → length (bodyOf (text-here (c .before .before) .token)) ≡ c .high .result
+text-length : (c : tie.After-high32) → length (bodyOf (text-here (c .before .before) .token)) ≡ c .high32 .result
 text-length c =
     text-here (c .before .before) .text (text-kind (c .before .before)) .long
-    ∙ sym (c .high .ensures ∙ ap (λ x. x / 2 ^ 32) (c .before .payload-of .ensures))
+    ∙ sym (c .high32 .ensures ∙ ap (λ x. x / 2 ^ 32) (c .before .payload-of .ensures))
 
 add-result : tie.Need-add-result
 add-result c = let at-start = c .before .before .before in omega (arith, few-entries _ (at-start .pre .0 .form))

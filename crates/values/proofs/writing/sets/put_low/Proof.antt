@@ -2,7 +2,8 @@
 use borrow.Author.Needs.{needs}
 use native.Mathlib.Omega.{arith}
 use mathlib.Core.Path.{_≡_}
-use Rattle.values.proofs.writing.sets.SetLaws.{all-stored, eight-left, low-stored}
+use Rattle.words.proofs.WordLaws.{low-stored, all-stored}
+use Rattle.values.proofs.writing.sets.SetLaws.{eight-left}
 use Rattle.values.proofs.writing.sets.put_low.Statement.{statement}
 use Rattle.values.proofs.writing.sets.put_low.Tie as tie
 
@@ -18,7 +19,7 @@ returns c =
     let at-store = c .before .before in
     let then1 = at-store .before .before .before in
     let a = then1 .before .before .args in
-    low-stored (a .image .now) (a .at) (a .size) (a .x) 4 (then1 .if1 .taken) (at-store .before .low .ensures)
+    low-stored (a .image .now) (a .at) (a .size) (a .x) 4 (then1 .if1 .taken) (at-store .before .low32 .ensures)
     (at-store .store32 .ensures)
 
 returns-2 : tie.Need-returns-2

@@ -8,7 +8,7 @@ use Rattle.values.specs.inside.writing.Passes.{leftAt}
 use Rattle.values.specs.inside.writing.Rows.{runIn}
 use Rattle.values.specs.reading.Trees.{atomicsTree}
 use Rattle.values.specs.writing.Writing.{opened, write}
-use Rattle.values.proofs.stream.LeftLaws.{There, few-entries}
+use Rattle.values.proofs.stream.LeftLaws.{EntryThere, few-entries}
 use Rattle.values.proofs.writing.ApplyLaws.{Setting, accepted-as, applied-as, opened-kept, opened-set}
 use Rattle.values.proofs.writing.ApplyLaws.{opened-there}
 use Rattle.values.proofs.writing.RunInLaws.{array-is}
@@ -21,7 +21,7 @@ is : (c : tie.Start)
     ≡ opened 10 (runIn (a .a) (a .count) (8 * a .base)) (leftAt (a .s .now) (a .k)) (flat (a .image .now))
 is c = array-is _ _ _ _ _ (c .pre .1 .0)
 
-here : (c : tie.Start) → There (c .args .s .now) (c .args .k)
+here : (c : tie.Start) → EntryThere (c .args .s .now) (c .args .k)
 here c =
     let a = c .args in
     opened-there (c .pre .0 .0) 10 (runIn (a .a) (a .count) (8 * a .base)) (flat (a .image .now))

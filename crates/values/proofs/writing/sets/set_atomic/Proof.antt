@@ -9,14 +9,14 @@ use Rattle.words.specs.Words.{bytesOf}
 use Rattle.types.specs.atomics.Atomic.{sizeOf}
 use Rattle.values.specs.inside.writing.Effects.{atomicTakes}
 use Rattle.values.specs.writing.Effects.{orNull}
-use Rattle.values.proofs.stream.LeftLaws.{There, few-entries}
+use Rattle.values.proofs.stream.LeftLaws.{EntryThere, few-entries}
 use Rattle.values.proofs.writing.ApplyLaws.{one-there}
 use Rattle.values.proofs.writing.sets.SetLaws.{atomic-set, one-kept, width-of}
 use Rattle.values.proofs.writing.sets.set_atomic.Statement.{statement}
 use Rattle.values.proofs.writing.sets.set_atomic.Tie as tie
 
 -- the entry is there
-there : (c : tie.Start) → There (c .args .s .now) (c .args .k)
+there : (c : tie.Start) → EntryThere (c .args .s .now) (c .args .k)
 there c =
     let a = c .args in
     one-there (c .pre .0 .0) (orNull (atomicTakes (a .a))) (8 * sizeOf (a .a)) (8 * (a .base)) (flat (a .image .now))

@@ -9,7 +9,7 @@ use Rattle.values.specs.inside.writing.Passes.{leftAt}
 use Rattle.values.specs.inside.writing.Rows.{Width}
 use Rattle.values.specs.reading.Trees.{atomicsTree}
 use Rattle.values.specs.writing.Writing.{boolsIn, write}
-use Rattle.values.proofs.stream.LeftLaws.{There, few-entries}
+use Rattle.values.proofs.stream.LeftLaws.{EntryThere, few-entries}
 use Rattle.values.proofs.writing.ApplyLaws.{Setting, accepted-as, applied-as}
 use Rattle.values.proofs.writing.RunInLaws.{bits-number}
 use Rattle.values.proofs.writing.sets.SetLaws.{width-of}
@@ -17,7 +17,7 @@ use Rattle.values.proofs.writing.sets.SetRunLaws.{bits-cleared, bits-th
 use Rattle.values.proofs.writing.sets.set_bits.Statement.{statement}
 use Rattle.values.proofs.writing.sets.set_bits.Tie as tie
 
-here : (c : tie.Start) → There (c .args .s .now) (c .args .k)
+here : (c : tie.Start) → EntryThere (c .args .s .now) (c .args .k)
 here c = bits-there (c .pre .0 .0) (c .args .a) (c .args .base) (c .pre .1 .0) _ (c .pre .1 .1)
 
 -- bools are to be set where nothing is

@@ -6,14 +6,14 @@ use mathlib.Core.Path.{sym, _∙_}
 use Rattle.words.specs.Bits.{flat}
 use Rattle.values.specs.reading.Leaf.{flag}
 use Rattle.values.specs.writing.Effects.{orNull, taken}
-use Rattle.values.proofs.stream.LeftLaws.{There, few-entries}
+use Rattle.values.proofs.stream.LeftLaws.{EntryThere, few-entries}
 use Rattle.values.proofs.writing.ApplyLaws.{one-there}
 use Rattle.values.proofs.writing.sets.SetLaws.{flag-set, one-kept}
 use Rattle.values.proofs.writing.sets.set_flag.Statement.{statement}
 use Rattle.values.proofs.writing.sets.set_flag.Tie as tie
 
 -- the entry is there
-there : (c : tie.Start) → There (c .args .s .now) (c .args .k)
+there : (c : tie.Start) → EntryThere (c .args .s .now) (c .args .k)
 there c =
     let a = c .args in
     one-there (c .pre .0 .0) (orNull (taken flag)) 1 (8 * (a .at) + a .bit) (flat (a .image .now)) (c .pre .1)

@@ -8,9 +8,9 @@ use Rattle.values.specs.inside.writing.Rows.{Width}
 use Rattle.values.specs.stream.Form.{countIn}
 use Rattle.values.proofs.stream.LeftLaws.{few-entries}
 use Rattle.values.proofs.writing.sets.SetLaws.{width-of}
-use Rattle.values.proofs.writing.sets.SetRunLaws.{Asked, Numbers, numbers-closed, numbers-end, numbers-long}
-use Rattle.values.proofs.writing.sets.SetRunLaws.{numbers-null, numbers-put, numbers-room, numbers-start}
-use Rattle.values.proofs.writing.sets.SetRunLaws.{numbers-there}
+use Rattle.values.proofs.writing.sets.SetRunLaws.{NumbersAsked, Numbers, numbers-closed, numbers-end}
+use Rattle.values.proofs.writing.sets.SetRunLaws.{numbers-long, numbers-null, numbers-put, numbers-room}
+use Rattle.values.proofs.writing.sets.SetRunLaws.{numbers-start, numbers-there}
 use Rattle.values.proofs.writing.sets.set_numbers.Statement.{statement}
 use Rattle.values.proofs.writing.sets.set_numbers.Tie as tie
 
@@ -22,7 +22,7 @@ abbrev μ-loop : tie.MeasureT-loop
 
 asked : (c : tie.After-size-of Inv-loop μ-loop)
     → let a = c .before .before .before .args in
-    Asked (a .a) (a .count) (a .s .now) (a .k) (a .image .now) (a .base) (c .size-of .result)
+    NumbersAsked (a .a) (a .count) (a .s .now) (a .k) (a .image .now) (a .base) (c .size-of .result)
 asked c =
     let start = c .before .before .before in
     record { long = c .size-of .ensures; form = start .pre .0 .0; room = start .pre .0 .1; taken = start .pre .1 }

@@ -7,14 +7,14 @@ use lib.ListN.{length}
 use Rattle.words.specs.Bits.{flat}
 use Rattle.values.specs.stream.Form.{baseIn}
 use Rattle.values.specs.writing.Effects.{asText, orNull}
-use Rattle.values.proofs.stream.LeftLaws.{There, entries-inside, few-entries, payloadAt}
+use Rattle.values.proofs.stream.LeftLaws.{EntryThere, entries-inside, few-entries, payloadAt}
 use Rattle.values.proofs.writing.ApplyLaws.{one-there}
 use Rattle.values.proofs.writing.sets.SetLaws.{TextFits, body-part, one-kept, text-fits, text-set}
 use Rattle.values.proofs.writing.sets.set_text.Statement.{statement}
 use Rattle.values.proofs.writing.sets.set_text.Tie as tie
 
 -- the entry is there
-there : (c : tie.Start) → There (c .args .s .now) (c .args .k)
+there : (c : tie.Start) → EntryThere (c .args .s .now) (c .args .k)
 there c =
     let a = c .args in
     one-there (c .pre .0 .0) (orNull (asText (a .capacity))) (32 + 8 * (a .capacity)) (8 * (a .base))
@@ -38,7 +38,7 @@ else-long c = c .before .before .before
 long-is : (c : tie.After-wide)
     → c .wide .result ≡ payloadAt (start-of (else-long c) .args .s .now) (start-of (else-long c) .args .k) / 2 ^ 32
 long-is c =
-    c .wide .ensures ∙ c .before .high .ensures
+    c .wide .ensures ∙ c .before .high32 .ensures
     ∙ ap (λ (x : ℕ). x / 2 ^ 32) (c .before .before .payload-of .ensures)
 
 abbrev wide-at : tie.After-wide3 → tie.After-wide
@@ -53,7 +53,7 @@ start-is : (c : tie.After-wide3)
     + payloadAt (start-of (else-start c) .args .s .now) (start-of (else-start c) .args .k) % 2 ^ 32
 start-is c =
     ap₂ (λ (m n : ℕ). 4 + 12 * m + n) (c .before .before .wide2 .ensures ∙ c .before .before .before .load32 .ensures)
-    (c .wide3 .ensures ∙ c .before .low .ensures
+    (c .wide3 .ensures ∙ c .before .low32 .ensures
     ∙ ap (λ (x : ℕ). x % 2 ^ 32) (wide-at c .before .before .payload-of .ensures))
 
 kind-of-requires : tie.Need-kind-of-requires
@@ -165,7 +165,7 @@ returns-2 c =
     let a = at-start .args in
     text-set (there at-start) (a .capacity) (a .base) (fits else1) (start-is at-wide3)
     (long-is (wide-at at-wide3))
-    (at-store .before .high2 .ensures
+    (at-store .before .high322 .ensures
     ∙ ap (λ (x : ℕ). x / 2 ^ 32) (wide-at at-wide3 .before .before .payload-of .ensures))
     (at-wide4 .wide4 .ensures) (at-start .pre .0 .1) (at-store .store32 .ensures) (at-copy .copy .ensures)
     (at-clear .clear .ensures)

@@ -3,8 +3,9 @@
 use Prim.Native.Nat.{ℕ, _-_}
 use native.Mathlib.Omega.{arith}
 use borrow.Fn.Kinds.{In, Out}
-use Rattle.values.proofs.normal_image.walk.ElementsMade.{Elements, element-here, element-inside, element-made}
-use Rattle.values.proofs.normal_image.walk.ElementsMade.{elements-none, elements-done, elements-start}
+use Rattle.values.proofs.normal_image.walk.ElementsMade.{ElementsNormal, element-here, element-inside}
+use Rattle.values.proofs.normal_image.walk.ElementsMade.{element-made, elements-none, elements-done}
+use Rattle.values.proofs.normal_image.walk.ElementsMade.{elements-start}
 use Rattle.values.proofs.reading.rows.struct_size.Reads as struct-size-reads
 use Rattle.values.proofs.normal_image.walk.normal_struct.Reads as struct-reads
 use Rattle.values.proofs.normal_image.walk.normal_elements.Reads as reads
@@ -25,7 +26,7 @@ claims t = (
 )
 
 abbrev Inv : lts.InvT-loop
-Inv types members i count image₀ base size e₀ image e = Elements types members i count image₀ base size e image
+Inv types members i count image₀ base size e₀ image e = ElementsNormal types members i count image₀ base size e image
 
 abbrev μ : lts.MeasureT-loop
 μ types members i count image₀ base size e₀ image e = count - e

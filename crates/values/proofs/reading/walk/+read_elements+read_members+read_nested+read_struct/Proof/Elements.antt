@@ -4,7 +4,7 @@ use native.Mathlib.Omega.{arith}
 use mathlib.Core.Path.{_∙_}
 use Prim.Native.Nat.{ℕ, _-_}
 use denote.Ref.{now}
-use Rattle.values.proofs.reading.walk.ReadLaws.{Elements, elements-room, elements-start, elements-end}
+use Rattle.values.proofs.reading.walk.ReadLaws.{ElementsRead, elements-room, elements-start, elements-end}
 use Rattle.values.proofs.reading.walk.ReadLaws.{element-inside, element-asks, element-on}
 use Rattle.values.proofs.stream.LayingLaws.{room-one, run-last, run-long}
 use Rattle.values.proofs.reading.walk.read_elements.Reads as elements
@@ -30,7 +30,7 @@ elements-claims t = (
 
 abbrev elements-Inv : lts.InvT-loop
 elements-Inv types members i n image out₀ base at text size p₀ t₀ k₀ out p t k =
-    Elements types members i n image size out₀ base p₀ t₀ k out p t
+    ElementsRead types members i n image size out₀ base p₀ t₀ k out p t
 
 abbrev elements-μ : lts.MeasureT-loop
 elements-μ types members i n image out₀ base at text size p₀ t₀ k₀ out p t k = n - k

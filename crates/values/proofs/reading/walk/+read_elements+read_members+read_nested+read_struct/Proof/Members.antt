@@ -5,8 +5,8 @@ use native.Mathlib.Omega.{arith}
 use mathlib.Core.Path.{_∙_}
 use Prim.Native.Nat.{ℕ, _-_}
 use denote.Ref.{now}
-use Rattle.values.proofs.reading.walk.ReadLaws.{members-room, Rows, rows-start, rows-end, nested-asks, nested-on}
-use Rattle.values.proofs.reading.walk.ReadLaws.{leaf-asks, leaf-on}
+use Rattle.values.proofs.reading.walk.ReadLaws.{members-room, RowsRead, rows-start, rows-end, nested-asks}
+use Rattle.values.proofs.reading.walk.ReadLaws.{nested-on, leaf-asks, leaf-on}
 use Rattle.values.proofs.stream.LayingLaws.{room-one, run-last, run-long}
 use Rattle.values.proofs.reading.walk.read_members.Reads as members
 use
@@ -40,7 +40,7 @@ members-claims t = (
 
 abbrev members-Inv : members-lts.InvT-loop
 members-Inv types members i image out₀ base at text first n p₀ t₀ j₀ out p t j =
-    Rows types members i image first n out₀ base p₀ t₀ j out p t
+    RowsRead types members i image first n out₀ base p₀ t₀ j out p t
 
 abbrev members-μ : members-lts.MeasureT-loop
 members-μ types members i image out₀ base at text first n p₀ t₀ j₀ out p t j = n - j

@@ -9,8 +9,8 @@ use mathlib.Core.Path.{sym, ap, _∙_}
 use Rattle.types.specs.declared.tables.member.StructDef.{StructDef}
 use Rattle.values.specs.inside.reading.Walkable.{NestedRow}
 use Rattle.values.proofs.reading.MemberLaws.{nested-row}
-use Rattle.values.proofs.stream.count.CountRows.{Rows, rows-none, next-row, rows-leaf, rows-nested, rows-over}
-use Rattle.values.proofs.stream.count.CountRows.{rows-all}
+use Rattle.values.proofs.stream.count.CountRows.{RowsCounted, rows-none, next-row, rows-leaf, rows-nested}
+use Rattle.values.proofs.stream.count.CountRows.{rows-over, rows-all}
 use Rattle.types.proofs.type_row.Reads as type-row-reads
 use Rattle.words.proofs.wide.Reads as wide-reads
 use Rattle.values.proofs.stream.count.leaf_entries.Reads as leaf-entries-reads
@@ -41,7 +41,7 @@ claims t = (
 
 abbrev Inv : lts.InvT-loop
 Inv types members i from most texts₀ first n sum₀ j₀ texts sum j =
-    Rows types members i from most first n texts₀ texts sum j
+    RowsCounted types members i from most first n texts₀ texts sum j
 
 abbrev μ : lts.MeasureT-loop
 μ types members i from most texts₀ first n sum₀ j₀ texts sum j = n - j

@@ -9,7 +9,8 @@ use Rattle.types.specs.tables.Lent.{typeAt}
 use Rattle.types.specs.declared.tables.member.StructDef.{StructDef}
 use Rattle.values.specs.inside.reading.Walkable.{RowOf}
 use Rattle.values.proofs.reading.MemberLaws.{row-of, nested-row}
-use Rattle.values.proofs.stream.TextCountLaws.{Rows, rows-start, rows-past, rows-done, rows-on, rows-plain}
+use Rattle.values.proofs.stream.TextCountLaws.{RowsOfTexts, rows-start, rows-past, rows-done, rows-on}
+use Rattle.values.proofs.stream.TextCountLaws.{rows-plain}
 use Rattle.values.proofs.stream.lengths.text_members.Reads as reads
 use
     Rattle.values.proofs.stream.lengths.+text_elements+text_members+text_nested+text_struct.Lts-text_members
@@ -36,7 +37,7 @@ claims t = (
 )
 
 abbrev Inv : lts.InvT-loop
-Inv types members i image room first n t₀ j₀ t j = Rows types members i room image j t
+Inv types members i image room first n t₀ j₀ t j = RowsOfTexts types members i room image j t
 
 abbrev μ : lts.MeasureT-loop
 μ types members i image room first n t₀ j₀ t j = n - j

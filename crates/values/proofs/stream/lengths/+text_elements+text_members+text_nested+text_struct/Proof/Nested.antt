@@ -11,7 +11,7 @@ use Rattle.types.specs.tables.Sizes.{sizesIn}
 use Rattle.types.specs.declared.tables.member.Member.{Member}
 use Rattle.values.specs.inside.reading.Walk.{structOut}
 use Rattle.values.proofs.reading.MemberLaws.{never-atomic}
-use Rattle.values.proofs.reading.PartLaws.{Held, held-earlier, one-fits, one-image, one-is, some-fits}
+use Rattle.values.proofs.reading.PartLaws.{HeldRow, held-earlier, one-fits, one-image, one-is, some-fits}
 use Rattle.values.proofs.reading.PartLaws.{some-images, some-is}
 use Rattle.values.proofs.stream.TextCountLaws.{texts-as, texts-member}
 use Rattle.values.proofs.stream.lengths.text_nested.Reads as reads
@@ -78,7 +78,7 @@ module _ (t : ℕ) where
   Row c size =
       let a = start c .args in
       let at-match = c .before .before .before in
-      Held (a .types .now) (a .members .now) (a .i) (a .row) (a .image .now) (c .before .ty .given .0 .0)
+      HeldRow (a .types .now) (a .members .now) (a .i) (a .row) (a .image .now) (c .before .ty .given .0 .0)
       (at-match .before .wide .result) (at-match .wide2 .result) size
 
   row : (c : so lts.After-known-told) (size : ℕ)

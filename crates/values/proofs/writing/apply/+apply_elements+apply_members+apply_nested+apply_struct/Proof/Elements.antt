@@ -5,7 +5,7 @@ use native.Mathlib.Omega.{arith}
 use borrow.Fn.Kinds.{In, Out}
 use denote.Ref.{now}
 use mathlib.Core.Path.{sym, _∙_}
-use Rattle.values.proofs.writing.apply.SettingElements.{ElementsAsked, Elements, Element, array-there}
+use Rattle.values.proofs.writing.apply.SettingElements.{ElementsAsked, ElementsSet, ElementNext, array-there}
 use Rattle.values.proofs.writing.apply.SettingElements.{array-null, elements-start, element-there}
 use Rattle.values.proofs.writing.apply.SettingElements.{elements-close, elements-done, element-inside, element}
 use Rattle.values.proofs.writing.apply.SettingMembers.{next-small}
@@ -33,7 +33,7 @@ claims t = (
 
 abbrev Inv : lts.InvT-loop
 Inv types members i count s k image₀ base start size p₀ e₀ image p e =
-    Elements types members i count s k image₀ base size p e image
+    ElementsSet types members i count s k image₀ base size p e image
 
 abbrev μ : lts.MeasureT-loop
 μ types members i count s k image₀ base start size p₀ e₀ image p e = count - e
@@ -103,7 +103,7 @@ module _ (t : ℕ) where
       → let at-loop = c .before .before .before in
       let at-size = at-loop .before in
       let a = at-size .before .before .before .before .before .args in
-      Element (now (a .types)) (now (a .members)) (a .i) (a .count) (now (a .s)) (a .k) (now (a .image)) (a .base)
+      ElementNext (now (a .types)) (now (a .members)) (a .i) (a .count) (now (a .s)) (a .k) (now (a .image)) (a .base)
       (at-size .struct-size .result) (at-loop .loop .p) (at-loop .loop .e) (at-loop .loop .image)
   element-is c =
       let at-kind = c .before in

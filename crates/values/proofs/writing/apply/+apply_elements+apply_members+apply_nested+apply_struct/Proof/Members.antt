@@ -9,10 +9,10 @@ use mathlib.Core.Path.{sym, _∙_}
 use Rattle.types.specs.tables.Sizes.{sizesIn}
 use Rattle.values.specs.inside.writing.Rows.{treeIn}
 use Rattle.values.specs.stream.Form.{countIn}
-use Rattle.values.proofs.writing.apply.SettingMembers.{MembersAsked, Members, Named, members-start, named}
-use Rattle.values.proofs.writing.apply.SettingMembers.{next-small, struct-there, struct-null, member-there}
-use Rattle.values.proofs.writing.apply.SettingMembers.{members-here, members-end, named-nested, named-leaf}
-use Rattle.values.proofs.writing.apply.SettingMembers.{named-here}
+use Rattle.values.proofs.writing.apply.SettingMembers.{MembersAsked, MembersSet, MemberNamed, members-start}
+use Rattle.values.proofs.writing.apply.SettingMembers.{named, next-small, struct-there, struct-null}
+use Rattle.values.proofs.writing.apply.SettingMembers.{member-there, members-here, members-end, named-nested}
+use Rattle.values.proofs.writing.apply.SettingMembers.{named-leaf, named-here}
 use Rattle.types.proofs.type_row.Reads as type-row-reads
 use Rattle.words.proofs.wide.Reads as wide-reads
 use Rattle.values.proofs.reading.rows.is_nested.Reads as is-nested-reads
@@ -51,7 +51,7 @@ claims t = (
 )
 
 abbrev Inv : lts.InvT-loop
-Inv types members i s k image₀ base start first p₀ image p = Members types members i s k image₀ base first p image
+Inv types members i s k image₀ base start first p₀ image p = MembersSet types members i s k image₀ base first p image
 
 abbrev μ : lts.MeasureT-loop
 μ types members i s k image₀ base start first p₀ image p = countIn s - p
@@ -131,7 +131,7 @@ module _ (t : ℕ) where
       → let at-loop = c .before .before .before .before in
       let at-first = at-loop .before in
       let a = at-first .before .before .before .before .before .before .args in
-      Named (now (a .types)) (now (a .members)) (a .i) (now (a .s)) (a .k) (now (a .image)) (a .base)
+      MemberNamed (now (a .types)) (now (a .members)) (a .i) (now (a .s)) (a .k) (now (a .image)) (a .base)
       (at-first .wide .result) (at-loop .loop .p) (at-loop .loop .image)
       (at-first .wide .result + c .as-size .result)
   named-is c =

@@ -4,9 +4,9 @@ use Prim.Native.Nat.{ℕ, _+_, _-_}
 use native.Mathlib.Omega.{arith}
 use borrow.Fn.Kinds.{In, Out}
 use denote.Ref.{now}
-use Rattle.values.proofs.writing.check.CheckLaws.{entry-small, array-null, array-other, Elements, elements-start}
-use Rattle.values.proofs.writing.check.CheckLaws.{elements-inside, elements-short, elements-done, elements-past}
-use Rattle.values.proofs.writing.check.CheckLaws.{elements-refused, elements-on}
+use Rattle.values.proofs.writing.check.CheckLaws.{entry-small, array-null, array-other, ElementsChecked}
+use Rattle.values.proofs.writing.check.CheckLaws.{elements-start, elements-inside, elements-short, elements-done}
+use Rattle.values.proofs.writing.check.CheckLaws.{elements-past, elements-refused, elements-on}
 use Rattle.values.proofs.stream.tokens.kind_at.Reads as kind-at-reads
 use Rattle.values.proofs.stream.tokens.refused.Reads as refused-reads
 use Rattle.values.proofs.stream.tokens.kind_of.Reads as kind-of-reads
@@ -33,7 +33,7 @@ claims t = (
 )
 
 abbrev Inv : lts.InvT-loop
-Inv types members i count s n k start p₀ e₀ p e = Elements types members i count s n k p e
+Inv types members i count s n k start p₀ e₀ p e = ElementsChecked types members i count s n k p e
 
 abbrev μ : lts.MeasureT-loop
 μ types members i count s n k start p₀ e₀ p e = n - p
@@ -127,7 +127,7 @@ module _ (t : ℕ) where
   next : (c : so lts.Else5)
       → let at-loop = c .before .before .before .before .before .before in
       let a = at-loop .before .before .before .before .before .args in
-      Elements (now (a .types)) (now (a .members)) (a .i) (a .count) (now (a .s)) (a .n) (a .k)
+      ElementsChecked (now (a .types)) (now (a .members)) (a .i) (a .count) (now (a .s)) (a .n) (a .k)
       (c .before .check-struct .result) (at-loop .loop .e + 1)
   next c =
       let else4 = c .before .before in

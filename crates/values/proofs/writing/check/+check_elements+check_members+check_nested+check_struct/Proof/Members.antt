@@ -8,10 +8,10 @@ use denote.Ref.{now}
 use mathlib.Core.Path.{sym, _∙_}
 use Rattle.values.proofs.reading.MemberLaws.{nested-row}
 use Rattle.values.proofs.writing.check.CheckLaws.{entry-small, struct-null, struct-other}
-use Rattle.values.proofs.writing.check.CheckRows.{Members, Named, members-start, members-inside, rows-inside}
-use Rattle.values.proofs.writing.check.CheckRows.{members-short, members-done, members-bad, members-unseen}
-use Rattle.values.proofs.writing.check.CheckRows.{row-named, members-refused, members-further, members-on}
-use Rattle.values.proofs.writing.check.CheckRows.{leaf-row}
+use Rattle.values.proofs.writing.check.CheckRows.{MembersChecked, RowNamed, members-start, members-inside}
+use Rattle.values.proofs.writing.check.CheckRows.{rows-inside, members-short, members-done, members-bad}
+use Rattle.values.proofs.writing.check.CheckRows.{members-unseen, row-named, members-refused, members-further}
+use Rattle.values.proofs.writing.check.CheckRows.{members-on, leaf-row}
 use Rattle.values.proofs.stream.tokens.kind_at.Reads as kind-at-reads
 use Rattle.values.proofs.stream.tokens.refused.Reads as refused-reads
 use Rattle.types.proofs.type_row.Reads as type-row-reads
@@ -59,7 +59,7 @@ claims t = (
 )
 
 abbrev Inv : lts.InvT-loop
-Inv types members i s n k start first count p₀ p = Members types members i s n k first count p
+Inv types members i s n k start first count p₀ p = MembersChecked types members i s n k first count p
 
 abbrev μ : lts.MeasureT-loop
 μ types members i s n k start first count p₀ p = n - p
@@ -180,7 +180,8 @@ module _ (t : ℕ) where
   named : (c : so lts.Else5)
       → let at-loop = c .before .before .before .before .before .before .before .before in
       let a = at-loop .before .before .before .before .before .before .before .before .args in
-      Named (now (a .types)) (now (a .members)) (a .i) (now (a .s)) (at-loop .loop .p) (c .before .visible-row .result)
+      RowNamed (now (a .types)) (now (a .members)) (a .i) (now (a .s)) (at-loop .loop .p)
+      (c .before .visible-row .result)
   named c =
       let at-row = c .before in
       let at-number = at-row .before in

@@ -2,9 +2,9 @@
 -- that are stored.
 use native.Mathlib.Omega.{arith}
 use borrow.Author.Needs.{needs}
-use Rattle.types.proofs.listing.lines.ListingLaws.{Spelling, spell-first, spell-more, spell-on, spell-done}
-use Rattle.types.proofs.listing.lines.decimal_of.Statement.{statement}
-use Rattle.types.proofs.listing.lines.decimal_of.Tie as tie
+use Rattle.types.proofs.layout.DigitLaws.{Spelling, spell-first, spell-more, spell-on, spell-done}
+use Rattle.types.proofs.layout.decimals.decimal_of.Statement.{statement}
+use Rattle.types.proofs.layout.decimals.decimal_of.Tie as tie
 
 abbrev Inv-loop : tie.InvT-loop
 Inv-loop x bytes₀ from₀ y₀ bytes from y = Spelling x bytes from y
