@@ -187,9 +187,10 @@ stamp-again p n b c z = fun-ext (λ k. go k (inside p n k))
 -- ---- one bit put over others
 
 -- a byte with one bit set, stored: that bit is put over the others
-pub flat-bit : (image : List ℕ) (at b x : ℕ) (v : Bool) → x ≡ withBit (getD image at 0) b v → at < length image → b < 8
+pub flat-bit : (image : List ℕ) (at b : ℕ) {x : ℕ} (v : Bool) → x ≡ withBit (getD image at 0) b v → at < length image
+    → b < 8
     → flat (set image at x) ≡ stamp (8 * at + b) 1 (λ i. v) (flat image)
-flat-bit image at b x v e l h = ap (λ y. flat (set image at y)) e ∙ flat-with image at b v l h
+flat-bit image at b {x} v e l h = ap (λ y. flat (set image at y)) e ∙ flat-with image at b v l h
 
 -- one bit of some others, put where it goes
 pub one-bit : (q r j : ℕ) (v : Bool) (b z : Bits) → q ≡ r → v ≡ b j → stamp q 1 (λ i. v) z ≡ stamp r 1 (from j b) z

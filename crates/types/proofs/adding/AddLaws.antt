@@ -7,7 +7,7 @@ use mathlib.Core.Bool.{Bool, true, false}
 use mathlib.Core.List.{List, [], _∷_, _++_}
 use lib.ListN.{length, getD}
 use lib.Seq.{sets}
-use Rattle.types.specs.adding.Add.{no, yes, hasRoom, usedIn, newDef, fitted}
+use Rattle.types.specs.adding.Add.{no, yes, roomInTables, usedIn, newDef, fitted}
 use Rattle.types.specs.adding.Ids.{idWord}
 use Rattle.types.specs.atomics.Lookup.{rowName}
 use Rattle.types.specs.inside.adding.Add.{Usable}
@@ -161,7 +161,7 @@ module _ (types members names : List ℕ) (u : Used) (name : List ℕ) (id size 
   view-used = ap (λ (k : ℕ). record { types = k; members = u .members; bytes = u .bytes })
       (length-list (rowName types names) 0 (u .types))
 
-  module _ (i : ℕ) (r : Bool) (e : r ≡ hasRoom u (length parts) (length (name ++ namesOf parts))) where
+  module _ (i : ℕ) (r : Bool) (e : r ≡ roomInTables u (length parts) (length (name ++ namesOf parts))) where
     -- without room the verdict on the new type is refusal 13
     pub fitted-no : r ≡ false → fitted view i new ≡ no (13, i)
     unfolding fitted newDef

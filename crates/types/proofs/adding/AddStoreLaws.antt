@@ -13,7 +13,7 @@ use Rattle.words.specs.Words.{Bytes}
 use Rattle.words.proofs.Lists.{sets-append}
 use Rattle.words.proofs.TestLaws.{and-left, and-right}
 use Rattle.words.proofs.WordLaws.{word-below}
-use Rattle.types.specs.adding.Add.{Verdict, no, yes, hasRoom, newDef, fitted}
+use Rattle.types.specs.adding.Add.{Verdict, no, yes, roomInTables, newDef, fitted}
 use Rattle.types.specs.book.Decls.{resolved}
 use Rattle.types.specs.inside.adding.Add.{Took, Usable, Ready, Declared}
 use Rattle.types.specs.inside.book.Decls.{declAt, declsFrom, Found}
@@ -23,7 +23,7 @@ use Rattle.types.specs.layout.Laid.{Every}
 use Rattle.types.specs.layout.Structs.{namesOf, rowsOf, namedIn}
 use Rattle.types.specs.refusals.Said.{whyOf}
 use Rattle.types.specs.tables.Defs.{Part, Def}
-use Rattle.types.specs.tables.Lent.{tyOf, typeRow}
+use Rattle.types.specs.tables.Lent.{tyOfWord, typeRow}
 use Rattle.types.specs.tables.Limits.{mostTypes, mostMembers, mostNames, memberWords}
 use Rattle.types.specs.tables.Registry.{headOf}
 use Rattle.types.specs.templates.Handle.{handleOf}
@@ -49,7 +49,7 @@ module _ {book tys : List ℕ} {known at n : ℕ} (d : Declared book tys known a
       record {
         inside = d .inside .inside;
         known = d .room;
-        types = λ k h. earlier-fits known l (tyOf (getD tys k 0)) (d .earlier k h);
+        types = λ k h. earlier-fits known l (tyOfWord (getD tys k 0)) (d .earlier k h);
       }
 
   module _ (types : List ℕ) where
@@ -89,8 +89,8 @@ pub record Roomy (u : Used) (m b : ℕ) : Type 0 where
   pub bytes : u .bytes + b ≤ mostNames
 
 -- where the test for room is passed, the type, its members and its names fit into the tables
-pub roomy : (u : Used) (members bytes : ℕ) → true ≡ hasRoom u members bytes → Roomy u members bytes
-unfolding hasRoom
+pub roomy : (u : Used) (members bytes : ℕ) → true ≡ roomInTables u members bytes → Roomy u members bytes
+unfolding roomInTables
 roomy u members bytes e =
     let a = ltb (u .types) mostTypes in
     let b = leb (u .members + members) mostMembers in
@@ -112,7 +112,7 @@ pub record PartsCounted (name : List ℕ) (parts : List Part) (n k l : ℕ) : Ty
 
 module _ (types members names : List ℕ) (u : Used) {name : List ℕ} {parts : List Part} {count long : ℕ}
     (p : PartsCounted name parts (u .types) count long) (id size : ℕ) (kind : StructKind) {r : Bool}
-    (e : r ≡ hasRoom u count long) where
+    (e : r ≡ roomInTables u count long) where
   abbrev new : Def
   new = newDef (viewIn types names u) name id size kind parts
 
@@ -125,7 +125,7 @@ module _ (types members names : List ℕ) (u : Used) {name : List ℕ} {parts : 
   same-head : head ≡ headOf (u .bytes) (u .members) bare
   same-head = rw (← p .count)
 
-  room : r ≡ hasRoom u (length parts) (length (name ++ namesOf parts))
+  room : r ≡ roomInTables u (length parts) (length (name ++ namesOf parts))
   room = rw (p .count, p .long) e
 
   -- without room 13 is answered, and the three tables stay as they were
@@ -180,7 +180,7 @@ module _ (types members names : List ℕ) (u : Used) {name : List ℕ} {parts : 
 module _ (types members names : List ℕ) (u : Used) {name : List ℕ} {parts : List Part} {k l : ℕ}
     (p : PartsCounted name parts (u .types) k l) (id size : ℕ) (kind : StructKind)
     (ready : Ready types members names u k l) where
-  ready-room : true ≡ hasRoom u k l
+  ready-room : true ≡ roomInTables u k l
   ready-room =
       sym (le-leb (u .bytes + l) mostNames (ready .bytes)) ∙ room-bytes u k l (ready .few) (ready .rows)
 

@@ -29,7 +29,7 @@ use Rattle.types.specs.declared.tables.member.Ty.{Ty}
 
 -- ---- per member 2, 8, 9
 
-module _ (v : View) (book : List ℕ) (i at n : ℕ) (aoi : Bool) (name : List ℕ) (id : ℕ) (ds : List Decl) (c : Checked)
+module _ (v : View) (book : List ℕ) (i at n : ℕ) (aoi : Bool) (name : List ℕ) (id : ℕ) (ds : List Decl) {c : Checked}
     (e : c ≡ checked book aoi [] (entriesFrom book at 0 n)) where
   -- where all members are good, they are laid out
   pub members-laid : c ≡ Good → addMembers v book i at n aoi name id ds ≡ addLaid v book i aoi name id ds
@@ -117,12 +117,12 @@ module _ (v : View) (book : List ℕ) (i at : ℕ) (e : TypeEntry) (name : List 
 
 -- ---- 4, 5, 6
 
-module _ (v : View) (book : List ℕ) (i at : ℕ) (e : TypeEntry) (name : List ℕ) (ds : List Decl) (p : Picked)
+module _ (v : View) (book : List ℕ) (i at : ℕ) (e : TypeEntry) (name : List ℕ) (ds : List Decl) {p : Picked}
     (ep : p ≡ idFor (v .ids) (hasId e) (e .id)) where
   -- with an id that is free, the type is added under that id
-  pub fresh-free : (id : ℕ) → p ≡ Free id → addFresh v book i at e name ds ≡ addNamed v book i at e name id ds
+  pub fresh-free : {id : ℕ} → p ≡ Free id → addFresh v book i at e name ds ≡ addNamed v book i at e name id ds
   unfolding addFresh
-  fresh-free id q = rw (← ep, q)
+  fresh-free {id} q = rw (← ep, q)
 
   -- a given id outside 0x100..0xEFF: refusal 4
   pub fresh-outside : p ≡ OutsideRange → addFresh v book i at e name ds ≡ no (4, i)

@@ -10,8 +10,8 @@ use lib.ListN.{length, length-map}
 use Rattle.words.specs.Words.{Bytes}
 use Rattle.words.proofs.TestLaws.{either}
 use Rattle.words.proofs.WordLaws.{word-below}
-use Rattle.types.specs.adding.Add.{Verdict, no, yes, hasRoom, usedIn, newDef, fitted, onLaid, addLaid, onChecked}
-use Rattle.types.specs.adding.Add.{addMembers, stringOk, addString, addNamed, onId, addFresh, addEntry}
+use Rattle.types.specs.adding.Add.{Verdict, no, yes, roomInTables, usedIn, newDef, fitted, onLaid, addLaid}
+use Rattle.types.specs.adding.Add.{onChecked, addMembers, stringOk, addString, addNamed, onId, addFresh, addEntry}
 use Rattle.types.specs.adding.Checks.{checked, entriesFrom}
 use Rattle.types.specs.adding.Ids.{inUse, idFor}
 use Rattle.types.specs.atomics.Lookup.{typeAmong}
@@ -102,7 +102,8 @@ module _ (v : View) (book : List ℕ) (i at : ℕ) (e : TypeEntry) (name : List 
         → VerdictEnds (fitted v i (newDef v name id size kind parts))
     unfolding fitted newDef
     fitted-ends size kind parts f g h k s p =
-        either VerdictEnds (hasRoom (usedIn v) (length parts) (length (ownNames (newDef v name id size kind parts))))
+        either VerdictEnds
+        (roomInTables (usedIn v) (length parts) (length (ownNames (newDef v name id size kind parts))))
         (λ q. record {
           name = refl;
           id = range;
@@ -186,7 +187,7 @@ module _ (v : View) (book : List ℕ) (i at : ℕ) (e : TypeEntry) (name : List 
       picked-ends (idFor (v .ids) (hasId e) (e .id)) _ (picked-range (v .ids) (hasId e) (e .id))
       (picked-unheld (v .ids) (hasId e) (e .id)) (named-ends good new)
 
-  -- 2, 3
+  -- a type of the book is refused, not with 10, or made as said; here 2 and 3
   pub entry-ends : VerdictEnds (addEntry v book i at e name ds)
   unfolding addEntry
   entry-ends =

@@ -54,10 +54,10 @@ getD-rows (a ∷ l) zero d h = refl
 getD-rows (a ∷ l) (suc i) d h = getD-rows l i d (le-of-suc-le-suc h)
 
 -- a table that is the definition's rows has, at each place, that atomic's row
-pub table-row : (t : List AtomicRow) (i : ℕ) (d : AtomicRow) → t ≡ tableRows atomics → i < 15
+pub table-row : {t : List AtomicRow} (i : ℕ) (d : AtomicRow) → t ≡ tableRows atomics → i < 15
     → getD t i d ≡ rowOf (atomicAt i)
 unfolding atomicAt tableRows
-table-row t i d e h = rw (e, tableRows) (getD-rows atomics i d h)
+table-row {t} i d e h = rw (e, tableRows) (getD-rows atomics i d h)
 
 -- the name that stands in a row
 pub row-name : (a : Atomic) {r : AtomicRow} → r ≡ rowOf a → take (r .2) (r .3) ≡ nameOf a
@@ -105,10 +105,10 @@ unfolding atomicNamed codeNamed
 named-said s = first-said (λ a. sameName (nameOf a) s) atomics
 
 -- the place of a code in the list
-abbrev placeOf : ℕ → ℕ
-placeOf c = cond (ltb c 0xD1) (c - 0xC1) (c - 0xC6)
+abbrev placeInList : ℕ → ℕ
+placeInList c = cond (ltb c 0xD1) (c - 0xC1) (c - 0xC6)
 
-code-back : (a : Atomic) → atomicAt (placeOf (codeOf a)) ≡ a
+code-back : (a : Atomic) → atomicAt (placeInList (codeOf a)) ≡ a
 unfolding atomicAt codeOf
 code-back BOOL = refl
 code-back SInt = refl
@@ -128,7 +128,7 @@ code-back LWord = refl
 
 -- no two atomics have the same code
 pub code-same : (a b : Atomic) → codeOf a ≡ codeOf b → a ≡ b
-code-same a b e = sym (code-back a) ∙ ap (λ (c : ℕ). atomicAt (placeOf c)) e ∙ code-back b
+code-same a b e = sym (code-back a) ∙ ap (λ (c : ℕ). atomicAt (placeInList c)) e ∙ code-back b
 
 -- the atomic at a place has the code at that place
 pub at-said : (i : ℕ) → codeOf (atomicAt i) ≡ codeAt i
@@ -136,8 +136,8 @@ unfolding atomicAt codeAt codeOf
 at-said i = sym (List·getD-map codeOf atomics i BOOL)
 
 -- and no other has it
-pub at-is : (a : Atomic) (i : ℕ) → codeOf a ≡ codeAt i → a ≡ atomicAt i
-at-is a i e = code-same a (atomicAt i) (e ∙ sym (at-said i))
+pub at-is : {a : Atomic} (i : ℕ) → codeOf a ≡ codeAt i → a ≡ atomicAt i
+at-is {a} i e = code-same a (atomicAt i) (e ∙ sym (at-said i))
 
 -- answers that say the same are the same
 pub found-same : (r s : FoundAtomic) → saidBy r ≡ saidBy s → r ≡ s
@@ -149,8 +149,8 @@ found-same Nothing (Is b) e = cc
 found-same Nothing Nothing e = refl
 
 -- so an answer that says a name's code is the atomic of that name
-pub named-is : (r : FoundAtomic) (s : List ℕ) → saidBy r ≡ codeNamed s → r ≡ atomicNamed s
-named-is r s e = found-same r (atomicNamed s) (e ∙ sym (named-said s))
+pub named-is : {r : FoundAtomic} (s : List ℕ) → saidBy r ≡ codeNamed s → r ≡ atomicNamed s
+named-is {r} s e = found-same r (atomicNamed s) (e ∙ sym (named-said s))
 
 -- i is none of 1 to n, as the arms of a match leave it
 abbrev pub NoneOf : ℕ → ℕ → Type 0

@@ -15,7 +15,7 @@ use Rattle.types.specs.inside.book.Decls.{declAt, declsFrom, Found}
 use Rattle.types.specs.inside.layout.Passes.{Fair}
 use Rattle.types.specs.inside.tables.Lent.{TyFits}
 use Rattle.types.specs.layout.Placing.{isBool}
-use Rattle.types.specs.tables.Lent.{tyOf}
+use Rattle.types.specs.tables.Lent.{tyOfWord}
 use Rattle.types.specs.declared.atomics.atomic.Atomic.{Atomic as Kind}
 use Rattle.types.specs.declared.atomics.atomic.Atomic.the-variants.{Bool as BOOL, SInt, Int, DInt, LInt, USInt}
 use Rattle.types.specs.declared.atomics.atomic.Atomic.the-variants.{UInt, UDInt, ULInt, Real, LReal, Byte, Word}
@@ -98,7 +98,7 @@ align-fair (Struct n) = (omega arith, omega arith)
 pub decl-fair : (types book tys : List ℕ) (at j : ℕ) → Bytes book → Fair (declAt types book tys at j)
 unfolding declAt resolved
 decl-fair types book tys at j b =
-    let a = align-fair (storedTy (tyOf (getD tys j 0)) (wordAt 4 book (at + 16 * j + 8))) in
+    let a = align-fair (storedTy (tyOfWord (getD tys j 0)) (wordAt 4 book (at + 16 * j + 8))) in
     record { least = a .0; most = a .1; name = word-below 1 book (at + 16 * j + 4) b }
 
 -- what is stored for a found type is of that type, or DWORDs
@@ -114,4 +114,4 @@ stored-fits t dim f = go (boolArray t dim)
 pub decl-ty : (types book tys : List ℕ) (at n j : ℕ) → j < n → Found book tys at n
     → TyFits (declAt types book tys at j .ty)
 unfolding declAt resolved
-decl-ty types book tys at n j l f = stored-fits (tyOf (getD tys j 0)) _ (f .types j l)
+decl-ty types book tys at n j l f = stored-fits (tyOfWord (getD tys j 0)) _ (f .types j l)

@@ -173,7 +173,7 @@ module _ (x : ℕ) where
   unfolding bitHostName
   host-digits h = simp (le-ltb x 10 h)
 
--- less than a million of them have names of at most 15 bytes
+-- an AOI's host with a number below a million has a name of at most 15 bytes
 pub bit-host-few : (i : ℕ) → i < 1000000 → length (bitHostName i) ≤ 15
 bit-host-few i h = go (decLt i 10)
   where

@@ -13,7 +13,7 @@ use Rattle.types.specs.book.Decls.{boolArray, storedTy, resolved}
 use Rattle.types.specs.inside.book.Decls.{declAt, declsFrom}
 use Rattle.types.specs.layout.Laid.{Earlier, Resolved, Every}
 use Rattle.types.specs.layout.Structs.{namedIn}
-use Rattle.types.specs.tables.Lent.{tyOf}
+use Rattle.types.specs.tables.Lent.{tyOfWord}
 use Rattle.types.specs.tables.Sizes.{sizesIn}
 use Rattle.types.specs.declared.atomics.atomic.Atomic.the-variants.{DWord}
 use Rattle.types.specs.declared.tables.member.Ty.{Ty}
@@ -31,12 +31,12 @@ stored-earlier i t dim e = go (boolArray t dim)
 
 module _ (types book tys : List ℕ) (at i : ℕ) where
   -- a declared member of an earlier type is stored as an earlier type, with its size and an alignment above 0
-  pub decl-resolved : (j : ℕ) → Earlier i (tyOf (getD tys j 0)) → Resolved (sizesIn types) i
+  pub decl-resolved : (j : ℕ) → Earlier i (tyOfWord (getD tys j 0)) → Resolved (sizesIn types) i
       (declAt types book tys at j)
   unfolding declAt resolved
   decl-resolved j e =
-      let ty = storedTy (tyOf (getD tys j 0)) (wordAt 4 book (at + 16 * j + 8)) in
-      record { size = refl; earlier = stored-earlier i (tyOf (getD tys j 0)) _ e; align = align-fair ty .0 }
+      let ty = storedTy (tyOfWord (getD tys j 0)) (wordAt 4 book (at + 16 * j + 8)) in
+      record { size = refl; earlier = stored-earlier i (tyOfWord (getD tys j 0)) _ e; align = align-fair ty .0 }
 
   named-from : (j n : ℕ)
       → ((k : ℕ) → j ≤ k → k < j + n

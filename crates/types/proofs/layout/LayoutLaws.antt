@@ -63,10 +63,10 @@ module _ (c : Cursor) (d : Decl) {at : ℕ} (end : End) (s : at ≡ startOf c d)
   other-over q = rw (ends, q)
 
   -- any other member stands at its start, closes the host, and leaves the cursor at its end
-  pub other-at : (o : ℕ) (h : Host) → end ≡ At o → h ≡ closed (c .host)
+  pub other-at : {o : ℕ} {h : Host} → end ≡ At o → h ≡ closed (c .host)
       → One (otherAt d at) (record { offset = o; host = h; members = c .members + 1 }) ≡ placeOther c d
   unfolding placeOther
-  other-at o h q k = rw (s, k, ends, q)
+  other-at {o} {h} q k = rw (s, k, ends, q)
 
 module _ (c : Cursor) (d : Decl) where
   -- a BOOL with a good access goes into a host

@@ -23,10 +23,10 @@ use Rattle.types.proofs.layout.PlaceLaws.{place-cases}
 
 module _ (host : ℕ → List ℕ) (c : Cursor) (n : ℕ) (d : Decl) {p : Placed} (e : p ≡ placed c d) where
   -- where a host opens, the lengths of its name and of the member's are added
-  pub one-hosted : {h m : Member} {c′ : Cursor} (long : ℕ) → p ≡ Hosted h m c′ → long ≡ length (host (c .members))
+  pub one-hosted : {h m : Member} {c′ : Cursor} {long : ℕ} → p ≡ Hosted h m c′ → long ≡ length (host (c .members))
       → Came c′ (n + long + d .name .long) ≡ measureOne host c n d
   unfolding measureOne
-  one-hosted long q l = rw (← e, q, l)
+  one-hosted {long} q l = rw (← e, q, l)
 
   -- where the member is placed alone, the length of its name is added
   pub one-alone : {m : Member} {c′ : Cursor} → p ≡ One m c′ → Came c′ (n + d .name .long) ≡ measureOne host c n d

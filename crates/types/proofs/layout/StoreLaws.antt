@@ -19,9 +19,9 @@ unfolding rowsOf
 one-row at n m = sym (append-nil _)
 
 -- the same where the name's length is known under another name
-pub one-row-of : (at : ℕ) (n : List ℕ) (m : Member) (long : ℕ) → long ≡ length n
+pub one-row-of : (at : ℕ) (n : List ℕ) (m : Member) {long : ℕ} → long ≡ length n
     → memberRow (record { at = at; long = long }) m ≡ rowsOf at (named n m ∷ [])
-one-row-of at n m long e = rw e (one-row at n m)
+one-row-of at n m {long} e = rw e (one-row at n m)
 
 -- the names of one part are its name
 pub one-name : (n : List ℕ) (m : Member) → n ≡ namesOf (named n m ∷ [])

@@ -20,7 +20,7 @@ use Rattle.types.specs.declared.layout.placing.Cursor.{Cursor}
 use Rattle.types.specs.declared.layout.placing.Decl.{Decl}
 use Rattle.types.specs.declared.layout.placing.Placed.{Placed}
 use Rattle.types.specs.declared.layout.placing.Placed.the-variants.{Hosted, One, AccessWrong, TooFar}
-use Rattle.types.specs.declared.layout.store.Stored.the-variants.{Next, Stop}
+use Rattle.types.specs.declared.layout.store.StoreNext.the-variants.{Next, Stop}
 use Rattle.types.specs.declared.tables.member.Member.{Member}
 use Rattle.types.specs.declared.tables.member.Span.{Span}
 use Rattle.types.proofs.layout.PlaceLaws.{place-cases}
@@ -65,7 +65,7 @@ pub record OneFits (d : Decl) (row at : ℕ) (m : Member) : Type 0 where
   pub names : at + d .name .long ≤ mostNames
   pub member : TyFits (m .ty)
 
-module _ (book type : List ℕ) (c : Cursor) (d : Decl) (row at : ℕ) (p : Placed) (e : p ≡ placed c d) where
+module _ (book type : List ℕ) (c : Cursor) (d : Decl) (row at : ℕ) {p : Placed} (e : p ≡ placed c d) where
   abbrev host : List ℕ
   host = hostName type (c .members)
 
@@ -109,10 +109,10 @@ module _ (book type : List ℕ) (c : Cursor) (d : Decl) (row at : ℕ) (p : Plac
         }
 
   -- after a host and its member the next row is two further, the next name after both names
-  pub next-hosted : {h m : Member} {c′ : Cursor} (k : ℕ) → p ≡ Hosted h m c′ → k ≡ length host
+  pub next-hosted : {h m : Member} {c′ : Cursor} {k : ℕ} → p ≡ Hosted h m c′ → k ≡ length host
       → Next c′ (row + 2) (at + k + d .name .long) ≡ storedOne type c d row at
   unfolding storedOne
-  next-hosted k q l = rw (← e, q, l)
+  next-hosted q l = rw (← e, q, l)
 
   -- after a member alone the next row is one further, the next name after its name
   pub next-alone : {m : Member} {c′ : Cursor} → p ≡ One m c′
@@ -131,18 +131,18 @@ module _ (book type : List ℕ) (c : Cursor) (d : Decl) (row at : ℕ) (p : Plac
   stop-far q = rw (← e, q)
 
   -- a host's part and then the member's are both
-  pub rows-hosted : {h m : Member} {c′ : Cursor} (t : List ℕ) (k : ℕ) → p ≡ Hosted h m c′ → k ≡ length host
+  pub rows-hosted : {h m : Member} {c′ : Cursor} (t : List ℕ) {k : ℕ} → p ≡ Hosted h m c′ → k ≡ length host
       → sets (sets t (8 * row) (rowsOf at (named host h ∷ []))) (8 * (row + 1)) (rowsOf (at + k) (named name m ∷ []))
       ≡ sets t (8 * row) (rowsOf at (oneParts book type c d))
-  rows-hosted {h} {m} t k q l =
+  rows-hosted {h} {m} t {k} q l =
       let n : k ≡ length (namesOf (named host h ∷ [])) = l ∙ ap length (one-name host h) in
       rw (hosted q, n) (sym (rows-then t row at (named host h ∷ []) (named name m ∷ [])))
 
   -- a host's name and then the member's are the names of both parts
-  pub names-hosted : {h m : Member} {c′ : Cursor} (t : List ℕ) (k : ℕ) → p ≡ Hosted h m c′ → k ≡ length host
+  pub names-hosted : {h m : Member} {c′ : Cursor} (t : List ℕ) {k : ℕ} → p ≡ Hosted h m c′ → k ≡ length host
       → sets (sets t at (namesOf (named host h ∷ []))) (at + k) (namesOf (named name m ∷ []))
       ≡ sets t at (namesOf (oneParts book type c d))
-  names-hosted {h} {m} t k q l =
+  names-hosted {h} {m} t {k} q l =
       let n : k ≡ length (namesOf (named host h ∷ [])) = l ∙ ap length (one-name host h) in
       rw (hosted q, n) (sym (names-then t at (named host h ∷ []) (named name m ∷ [])))
 
@@ -180,7 +180,8 @@ module _ (book type : List ℕ) (c : Cursor) (d : Decl) (row at : ℕ) (p : Plac
   names-kept t w = rw (refused w)
 
 -- the part of the book that is lent for a name is as long as the name
-pub lent-long : (book : List ℕ) (s : Span) (start long : ℕ) → start ≡ s .at → long ≡ s .long
+pub lent-name-long : (book : List ℕ) {s : Span} {start long : ℕ} → start ≡ s .at → long ≡ s .long
     → s .at + s .long ≤ length book
     → length (take (start + long - start) (drop start book)) ≡ s .long
-lent-long book s start long p q h = ap length (lent-name book s start long p q) ∙ length-part book (s .at) (s .long) h
+lent-name-long book {s} {start} {long} p q h =
+    ap length (lent-name book s start long p q) ∙ length-part book (s .at) (s .long) h

@@ -15,7 +15,7 @@ use Rattle.types.specs.declared.refusals.refusal.Refusal.the-variants.{N
 
 -- ---- the ways out
 
-module _ (s out : List ℕ) where
+module _ {s out : List ℕ} where
   -- where the buffer has room, the bytes are put at its start and their length is answered
   pub given-room : length s ≤ length out → Given true s out (Length (length s)) (sets out 0 s)
   unfolding lengthGiven bufferLeft

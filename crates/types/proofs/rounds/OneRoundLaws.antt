@@ -50,9 +50,9 @@ pub reached-shown : {book : List ℕ} {ds : List Def} → Bytes book → Reached
 reached-shown {book} {ds} b r = reached-begun book b ds r .good .shown
 
 -- a round goes from one to another
-pub reached-round : {book : List ℕ} {ds ds′ : List Def} (ws ws′ : List ℕ) → Reached book ds
+pub reached-round : {book : List ℕ} {ds ds′ : List Def} (ws : List ℕ) {ws′ : List ℕ} → Reached book ds
     → roundIn book ds ws ≡ went ds′ ws′ → Reached book ds′
-reached-round {book} {ds} {ds′} ws ws′ r e =
+reached-round {book} {ds} {ds′} ws {ws′} r e =
     round-keep stuckAt (readyIn book) (addIn book) (Reached book) (λ s s′ i p h q. more s s′ i p q) ds ws ds′ ws′
     r e
 

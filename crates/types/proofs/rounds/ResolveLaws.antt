@@ -67,7 +67,7 @@ pub record WordsLeft (known : List (List ℕ)) (book : List ℕ) (at n : ℕ) (t
       ≡ sets tys j (foundWords known (typeNames book at j (n - j)))
   pub long : length tys ≡ length tys₀
 
-module _ (known : List (List ℕ)) (book : List ℕ) (at n : ℕ) {tys₀ tys : List ℕ} (j : ℕ)
+module _ {known : List (List ℕ)} {book : List ℕ} {at n : ℕ} {tys₀ tys : List ℕ} (j : ℕ)
     (w : WordsLeft known book at n tys₀ tys j) where
   module _ (l : j < n) where
     names-cons : typeNames book at j (n - j) ≡ typeName book at j ∷ typeNames book at (j + 1) (n - (j + 1))

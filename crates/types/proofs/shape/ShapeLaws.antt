@@ -181,7 +181,7 @@ module _ (sizes : ℕ → ℕ) (t : Ty) (lengths : List ℕ) (used n : ℕ) {siz
   unfolding within
   within-over f = rw (← e) (simp f)
 
-module _ (sizes : ℕ → ℕ) (n up : ℕ) (e : up ≡ alignUp n 32) where
+module _ (sizes : ℕ → ℕ) (n : ℕ) {up : ℕ} (e : up ≡ alignUp n 32) where
   -- a BOOL tag whose rounded length is above 2^32 - 1: refusal 24
   pub bool-over : 2 ^ 32 - 1 < up → refusedShape 24 0 ≡ boolShape sizes n
   unfolding boolShape
@@ -211,9 +211,9 @@ module _ (sizes : ℕ → ℕ) (t : Ty) (s : List ℕ) {p : Product} (e : p ≡ 
   plain-over q = over-go (leb (product s) (2 ^ 64 - 1)) _ _ (sym e ∙ q)
 
   -- lengths whose product 64 bits hold give so many elements, if they are at most 2^26 bytes
-  pub plain-is : (n : ℕ) → p ≡ Is n → within sizes t (three s) (length s) n ≡ plainShape sizes t s
+  pub plain-is : {n : ℕ} → p ≡ Is n → within sizes t (three s) (length s) n ≡ plainShape sizes t s
   unfolding plainShape productOf
-  plain-is n q =
+  plain-is {n} q =
       is-go (leb (product s) (2 ^ 64 - 1)) _ n (λ (x : ℕ). within sizes t (three s) (length s) x) (sym e ∙ q)
 
 -- ---- the ways out

@@ -80,15 +80,15 @@ unfolding namesOf
 names-long p ps = length-append (p .name) (namesOf ps)
 
 -- the rows of some parts are the row of the first, then the rows of the others
-abbrev rowOf : ℕ → Part → List ℕ
-rowOf at p = memberRow (record { at = at; long = length (p .name) }) (p .member)
+abbrev partRow : ℕ → Part → List ℕ
+partRow at p = memberRow (record { at = at; long = length (p .name) }) (p .member)
 
 rows-first : (m : List ℕ) (row at : ℕ) (p : Part) (ps : List Part) → sets m (8 * row) (rowsOf at (p ∷ ps))
-    ≡ sets (sets m (8 * row) (rowOf at p)) (8 * (row + 1)) (rowsOf (at + length (p .name)) ps)
+    ≡ sets (sets m (8 * row) (partRow at p)) (8 * (row + 1)) (rowsOf (at + length (p .name)) ps)
 unfolding rowsOf memberRow
 rows-first m row at p ps =
     let e : 8 * (row + 1) ≡ 8 * row + 8 = omega arith in
-    rw e (sets-append m (8 * row) (rowOf at p) (rowsOf (at + length (p .name)) ps))
+    rw e (sets-append m (8 * row) (partRow at p) (rowsOf (at + length (p .name)) ps))
 
 names-first : (t : List ℕ) (at : ℕ) (p : Part) (ps : List Part)
     → sets t at (namesOf (p ∷ ps)) ≡ sets (sets t at (p .name)) (at + length (p .name)) (namesOf ps)
@@ -98,19 +98,19 @@ names-first t at p ps = sets-append t at (p .name) (namesOf ps)
 -- the first of some stored parts
 module _ (m : List ℕ) (row at : ℕ) (p : Part) (run : List ℕ) (l : 8 * row + 8 ≤ length m) where
   first-member : RowStorable (p .member)
-      → memberAt (sets (sets m (8 * row) (rowOf at p)) (8 * (row + 1)) run) row ≡ p .member
+      → memberAt (sets (sets m (8 * row) (partRow at p)) (8 * (row + 1)) run) row ≡ p .member
   first-member s =
-      member-stays (sets m (8 * row) (rowOf at p)) (8 * (row + 1)) run row (inl (omega arith))
+      member-stays (sets m (8 * row) (partRow at p)) (8 * (row + 1)) run row (inl (omega arith))
       ∙ member-back m row _ (p .member) l s
 
-  first-name : nameAt (sets (sets m (8 * row) (rowOf at p)) (8 * (row + 1)) run) row
+  first-name : nameAt (sets (sets m (8 * row) (partRow at p)) (8 * (row + 1)) run) row
       ≡ record { at = at; long = length (p .name) }
   first-name =
-      name-stays (sets m (8 * row) (rowOf at p)) (8 * (row + 1)) run row (inl (omega arith))
+      name-stays (sets m (8 * row) (partRow at p)) (8 * (row + 1)) run row (inl (omega arith))
       ∙ name-back m row (p .member) l
 
   first-part : (t bytes : List ℕ) → at + length (p .name) ≤ length t → RowStorable (p .member)
-      → partAt (sets (sets m (8 * row) (rowOf at p)) (8 * (row + 1)) run)
+      → partAt (sets (sets m (8 * row) (partRow at p)) (8 * (row + 1)) run)
       (sets (sets t at (p .name)) (at + length (p .name)) bytes) row
       ≡ p
   unfolding partAt
@@ -128,13 +128,13 @@ unfolding partsAt Every
 parts-back m t row at n [] h k f = refl
 parts-back m t row at n (p ∷ ps) h k f =
     let e : length (namesOf (p ∷ ps)) ≡ length (p .name) + length (namesOf ps) = names-long p ps in
-    let m1 = sets m (8 * row) (rowOf at p) in
+    let m1 = sets m (8 * row) (partRow at p) in
     let t1 = sets t at (p .name) in
     let rest : partsAt (sets m1 (8 * (row + 1)) (rowsOf (at + length (p .name)) ps))
     (sets t1 (at + length (p .name)) (namesOf ps)) (row + 1) (length ps)
     ≡ ps =
     parts-back m1 t1 (row + 1) (at + length (p .name)) n ps
-    (omega (arith, length-sets m (8 * row) (rowOf at p))) (omega (arith, length-sets t at (p .name))) (f .1) in
+    (omega (arith, length-sets m (8 * row) (partRow at p))) (omega (arith, length-sets t at (p .name))) (f .1) in
     rw (rows-first m row at p ps, names-first t at p ps)
     (rw (first-part m row at p _ (omega arith) t _ (omega arith) (storable (f .0)), rest))
 
@@ -202,8 +202,8 @@ rows-within m row at n (p ∷ ps) h f (suc k) l =
     let q : at + length (namesOf (p ∷ ps)) ≡ at + length (p .name) + length (namesOf ps) =
     omega (arith, names-long p ps) in
     rw (e, q, rows-first m row at p ps)
-    (rows-within (sets m (8 * row) (rowOf at p)) (row + 1) (at + length (p .name)) n ps
-    (omega (arith, length-sets m (8 * row) (rowOf at p))) (f .1) k (omega arith))
+    (rows-within (sets m (8 * row) (partRow at p)) (row + 1) (at + length (p .name)) n ps
+    (omega (arith, length-sets m (8 * row) (partRow at p))) (f .1) k (omega arith))
 
 -- with at most 200 types, an earlier type is an atomic or a structure below 200
 pub earlier-fits : (n : ℕ) → n ≤ mostTypes → (ty : Ty) → Earlier n ty → TyFits ty

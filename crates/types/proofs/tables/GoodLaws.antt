@@ -19,7 +19,7 @@ use Rattle.types.specs.layout.Laid.{Earlier, Lies, Laid}
 use Rattle.types.specs.layout.Placing.{mostSize, times}
 use Rattle.types.specs.layout.Structs.{namesOf, stringParts}
 use Rattle.types.specs.tables.Defs.{Part, Def, nameIn, partAt, partsAt, defOf}
-use Rattle.types.specs.tables.Lent.{kindOf, memberAt, nameAt, typeAt}
+use Rattle.types.specs.tables.Lent.{kindOfWord, memberAt, nameAt, typeAt}
 use Rattle.types.specs.tables.Limits.{mostNames}
 use Rattle.types.specs.tables.Registry.{typesTable, membersTable, namesTable, typeCount}
 use Rattle.types.specs.tables.Sizes.{sizeIn, sizesIn, bitsOf}
@@ -94,7 +94,7 @@ module _ (ds : List Def) (g : Good ds) where
 
   -- the rows after them are zero
   pub good-unused : (i : ℕ) → length ds ≤ i → typeAt types i ≡ noType
-  unfolding typeAt kindOf
+  unfolding typeAt kindOfWord
   good-unused i l =
       let word : (k : ℕ) → getD types (8 * i + k) 0 ≡ 0 = λ k. word-after ds (8 * i + k) (omega arith) in
       let first : getD types (8 * i) 0 ≡ 0 = rw add-zero at (word 0) in

@@ -90,7 +90,7 @@ proper-more = each-more Proper
 
 -- ---- the predefined types
 
-module _ (i : ℕ) (few : i < 4) (d : Def) (id : predefinedId (d .id) ≡ true) where
+module _ (i : ℕ) (few : i < 4) {d : Def} (id : predefinedId (d .id) ≡ true) where
   early-proper : FirstFour i (d .name) (d .kind) → goodName (d .name) ≡ true → Every PartFormed (d .parts) → Proper i d
   early-proper f g p =
       record {
@@ -107,21 +107,21 @@ module _ (ids : PredefinedIds) (good : predefinedIds ids ≡ true) where
   unfolding withTimer newDef timerParts every goodName nameBytes nameByte
   timer-proper =
       proper-more [] _ proper-none
-      (early-proper 0 (omega arith) _ (ids-allowed ids good .timer) (record { name = refl; kind = refl }) refl
+      (early-proper 0 (omega arith) (ids-allowed ids good .timer) (record { name = refl; kind = refl }) refl
       (control-formed _ _ _ refl))
 
   counter-proper : AllProper (withCounter ids)
   unfolding withTimer withCounter newDef counterParts every goodName nameBytes nameByte
   counter-proper =
       proper-more (withTimer ids) _ timer-proper
-      (early-proper 1 (omega arith) _ (ids-allowed ids good .counter) (record { name = refl; kind = refl }) refl
+      (early-proper 1 (omega arith) (ids-allowed ids good .counter) (record { name = refl; kind = refl }) refl
       (control-formed _ _ _ refl))
 
   control-proper : AllProper (withControl ids)
   unfolding withTimer withCounter withControl newDef controlTypeParts every goodName nameBytes nameByte
   control-proper =
       proper-more (withCounter ids) _ counter-proper
-      (early-proper 2 (omega arith) _ (ids-allowed ids good .control) (record { name = refl; kind = refl }) refl
+      (early-proper 2 (omega arith) (ids-allowed ids good .control) (record { name = refl; kind = refl }) refl
       (control-formed _ _ _ refl))
 
   -- all four are proper
@@ -129,5 +129,5 @@ module _ (ids : PredefinedIds) (good : predefinedIds ids ≡ true) where
   unfolding withTimer withCounter withControl predefined newDef goodName nameBytes nameByte
   predefined-proper =
       proper-more (withControl ids) _ control-proper
-      (early-proper 3 (omega arith) _ (ids-allowed ids good .string) (record { name = refl; kind = refl }) refl
+      (early-proper 3 (omega arith) (ids-allowed ids good .string) (record { name = refl; kind = refl }) refl
       (string-formed 82))

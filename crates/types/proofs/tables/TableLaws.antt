@@ -12,8 +12,8 @@ use lib.Seq.{sets}
 use Rattle.words.proofs.Lists.{getD-sets}
 use Rattle.types.specs.atomics.Atomic.{numOf}
 use Rattle.types.specs.inside.tables.Lent.{TyFits}
-use Rattle.types.specs.tables.Lent.{tyWord, tyOf, bitWord, bitOf, flagsOf, kindWord, kindOf, memberRow, memberAt}
-use Rattle.types.specs.tables.Lent.{nameAt, typeRow, typeAt}
+use Rattle.types.specs.tables.Lent.{tyWord, tyOfWord, bitWord, bitOfWord, flagsOf, kindWord, kindOfWord}
+use Rattle.types.specs.tables.Lent.{memberRow, memberAt, nameAt, typeRow, typeAt}
 use Rattle.types.specs.declared.tables.member.Bit.{Bit}
 use Rattle.types.specs.declared.tables.member.Bit.the-variants.{None, At}
 use Rattle.types.specs.declared.tables.member.Member.{Member}
@@ -28,8 +28,8 @@ use Rattle.types.proofs.atomics.AtomicLaws.{at-num, num-below}
 -- ---- words
 
 -- a type is read back from its word
-pub ty-back : (t : Ty) → tyOf (tyWord t) ≡ t
-unfolding tyOf
+pub ty-back : (t : Ty) → tyOfWord (tyWord t) ≡ t
+unfolding tyOfWord
 ty-back (atomic a) = simp (lt-ltb (numOf a) 0x8000 (omega (arith, num-below a)), at-num a)
 ty-back (Struct n) =
     let e : 0x8000 + n - 0x8000 ≡ n = omega arith in
@@ -45,8 +45,8 @@ abbrev pub BitFits : Bit → Type 0
 BitFits None = Unit {0}
 BitFits (At k) = k < 8
 
-pub bit-back : (b : Bit) → BitFits b → bitOf (bitWord b) ≡ b
-unfolding bitOf
+pub bit-back : (b : Bit) → BitFits b → bitOfWord (bitWord b) ≡ b
+unfolding bitOfWord
 bit-back None h = refl
 bit-back (At k) h =
     let e : (k + 1 - 1) % 8 ≡ k = omega arith in
@@ -67,8 +67,8 @@ local-back false true = refl
 local-back false false = refl
 
 -- a structure's kind is read back from its word
-pub kind-back : (k : StructKind) → kindOf (kindWord k) ≡ k
-unfolding kindOf
+pub kind-back : (k : StructKind) → kindOfWord (kindWord k) ≡ k
+unfolding kindOfWord
 kind-back Udt = refl
 kind-back Predefined = refl
 kind-back Str = refl
@@ -88,9 +88,9 @@ pub record Eight (t : List ℕ) (i : ℕ) (a b c d e f g h : ℕ) : Type 0 where
   pub w7 : getD t (8 * i + 7) 0 ≡ h
 
 -- a stored row has the words that were stored
-stored : (t : List ℕ) (i : ℕ) (a b c d e f g h : ℕ) → 8 * i + 8 ≤ length t
+stored : (t : List ℕ) (i : ℕ) {a b c d e f g h : ℕ} → 8 * i + 8 ≤ length t
     → Eight (sets t (8 * i) (a ∷ b ∷ c ∷ d ∷ e ∷ f ∷ g ∷ h ∷ [])) i a b c d e f g h
-stored t i a b c d e f g h l =
+stored t i {a} {b} {c} {d} {e} {f} {g} {h} l =
     let row = a ∷ b ∷ c ∷ d ∷ e ∷ f ∷ g ∷ h ∷ [] in
     let at : (k : ℕ) → k < 8 → getD (sets t (8 * i) row) (8 * i + k) 0 ≡ getD row k 0 =
     λ k m. getD-sets t (8 * i) row k 0 (omega arith) (omega arith) in
@@ -117,7 +117,7 @@ member-words : (t : List ℕ) (i : ℕ) (n : Span) (m : Member) → 8 * i + 8 �
     (bitWord (m .bit))
     (flagsOf (m .hidden) (m .local)) (m .access)
 unfolding memberRow
-member-words t i n m h = stored t i _ _ _ _ _ _ _ _ h
+member-words t i n m h = stored t i h
 
 -- a stored member is read back
 pub member-back : (t : List ℕ) (i : ℕ) (n : Span) (m : Member) → 8 * i + 8 ≤ length t → RowStorable m
@@ -161,7 +161,7 @@ type-words : (t : List ℕ) (i : ℕ) (d : StructDef) → 8 * i + 8 ≤ length t
     → Eight (sets t (8 * i) (typeRow d)) i (d .name .at) (d .name .long) (d .id) (d .handle) (d .size)
     (kindWord (d .kind)) (d .first) (d .count)
 unfolding typeRow
-type-words t i d h = stored t i _ _ _ _ _ _ _ _ h
+type-words t i d h = stored t i h
 
 -- a stored structure is read back
 pub type-back : (t : List ℕ) (i : ℕ) {d : StructDef} → 8 * i + 8 ≤ length t → TypeStorable d

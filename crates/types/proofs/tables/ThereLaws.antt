@@ -16,8 +16,8 @@ use Rattle.types.specs.declared.tables.member.Ty.the-variants.{Struct}
 use Rattle.types.proofs.tables.KeptLaws.{TypeRow, kept-used}
 
 -- a structure that is there is a row of the table
-pub there-below : (types : List ℕ) (n : ℕ) → hasTemplate types (Struct n) ≡ true → n < mostTypes
-there-below types n e = ltb-true _ _ (and-left (ltb n mostTypes) (not (eqb (typeAt types n .id) 0)) e)
+pub there-below : (types : List ℕ) {n : ℕ} → hasTemplate types (Struct n) ≡ true → n < mostTypes
+there-below types {n} e = ltb-true _ _ (and-left (ltb n mostTypes) (not (eqb (typeAt types n .id) 0)) e)
 
 -- and holds a type
 pub kept-there : {types members names : List ℕ} → Kept types members names → (n : ℕ)
@@ -27,10 +27,10 @@ kept-there {types} k n e =
     kept-used k n (λ z. true≢false (sym used ∙ ap not (eq-eqb _ _ z)))
 
 -- a member that is there is one of its type's
-pub member-there : (types : List ℕ) (i k : ℕ) → hasMember types i k ≡ true
+pub member-there : (types : List ℕ) (i : ℕ) {k : ℕ} → hasMember types i k ≡ true
     → (hasTemplate types (Struct i) ≡ true) × (k < typeAt types i .count)
 unfolding hasMember
-member-there types i k e = (
+member-there types i {k} e = (
   and-left (hasTemplate types (Struct i)) (ltb k (typeAt types i .count)) e,
   ltb-true _ _ (and-right (hasTemplate types (Struct i)) (ltb k (typeAt types i .count)) e),
 )

@@ -19,19 +19,19 @@ use Rattle.types.specs.declared.tables.member.Member.{Member}
 
 module _ (sizes : ℕ → ℕ) where
   -- how many bits of a part come before bit x, none of a hidden one
-  abbrev seen : Bool → ℕ → Member → ℕ
-  seen h x m = cond h 0 (below x (firstBit m) (pastBit sizes m))
+  abbrev seenBits : Bool → ℕ → Member → ℕ
+  seenBits h x m = cond h 0 (below x (firstBit m) (pastBit sizes m))
 
   bitsBelow : ℕ → List Part → ℕ
   bitsBelow x [] = 0
-  bitsBelow x (p ∷ ps) = seen (p .member .hidden) x (p .member) + bitsBelow x ps
+  bitsBelow x (p ∷ ps) = seenBits (p .member .hidden) x (p .member) + bitsBelow x ps
 
   bits-none : (ps : List Part) → bitsBelow 0 ps ≡ 0
   unfolding bitsBelow
   bits-none [] = refl
   bits-none (p ∷ ps) = go (p .member .hidden) (bits-none ps)
     where
-      go : (h : Bool) → bitsBelow 0 ps ≡ 0 → seen h 0 (p .member) + bitsBelow 0 ps ≡ 0
+      go : (h : Bool) → bitsBelow 0 ps ≡ 0 → seenBits h 0 (p .member) + bitsBelow 0 ps ≡ 0
       go true ih = omega arith
       go false ih = omega (arith, below-none (firstBit (p .member)) (pastBit sizes (p .member)))
 
@@ -46,7 +46,7 @@ module _ (sizes : ℕ → ℕ) where
       outside = ⊎-elim (λ q. inl (omega arith)) (λ q. inr (omega arith))
 
       go : (b : Bool) → (b ≡ false → Apart sizes m (p .member)) → bitsBelow (suc x) ps ≡ bitsBelow x ps
-          → seen b (suc x) (p .member) + bitsBelow (suc x) ps ≡ seen b x (p .member) + bitsBelow x ps
+          → seenBits b (suc x) (p .member) + bitsBelow (suc x) ps ≡ seenBits b x (p .member) + bitsBelow x ps
       go true f ih = rw ih
       go false f ih = rw (ih, below-same x (firstBit (p .member)) (pastBit sizes (p .member)) (outside (f refl)))
 
@@ -72,7 +72,7 @@ module _ (sizes : ℕ → ℕ) where
       visible v ih (no l) (no h) = omega (arith, ih, below-same x first past (inr (omega (arith, h))))
 
       go : (b : Bool) → p .member .hidden ≡ b → bitsBelow (suc x) ps ≤ suc (bitsBelow x ps)
-          → seen b (suc x) (p .member) + bitsBelow (suc x) ps ≤ suc (seen b x (p .member) + bitsBelow x ps)
+          → seenBits b (suc x) (p .member) + bitsBelow (suc x) ps ≤ suc (seenBits b x (p .member) + bitsBelow x ps)
       go true v ih = omega (arith, ih)
       go false v ih = visible v ih (decLt x first) (decLt x past)
 
@@ -90,7 +90,7 @@ module _ (sizes : ℕ → ℕ) where
       bits = bitsOf sizes (p .member .bit) (p .member)
 
       go : (b : Bool) → bitsBelow (8 * size) ps ≡ visibleBits sizes ps
-          → seen b (8 * size) (p .member) + bitsBelow (8 * size) ps ≡ cond b 0 bits + visibleBits sizes ps
+          → seenBits b (8 * size) (p .member) + bitsBelow (8 * size) ps ≡ cond b 0 bits + visibleBits sizes ps
       go true ih = rw ih
       go false ih = rw (ih, below-all (8 * size) (firstBit (p .member)) bits (d .inside))
 

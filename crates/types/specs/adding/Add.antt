@@ -40,8 +40,8 @@ pub data Verdict : Type 0 where
 -- ---- 13, or the new type
 
 -- the tables hold 200 types, 2,000 members and 32,768 bytes of names; so much is used, and so much is asked for
-unfoldable pub hasRoom : Used → ℕ → ℕ → Bool
-hasRoom u members bytes =
+unfoldable pub roomInTables : Used → ℕ → ℕ → Bool
+roomInTables u members bytes =
     ltb (u .types) mostTypes && leb (u .members + members) mostMembers && leb (u .bytes + bytes) mostNames
 
 abbrev pub usedIn : View → Used
@@ -63,7 +63,7 @@ newDef v name id size kind parts =
     }
 
 unfoldable pub fitted : View → ℕ → Def → Verdict
-fitted v i d = cond (hasRoom (usedIn v) (length (d .parts)) (length (ownNames d))) (yes d) (no (13, i))
+fitted v i d = cond (roomInTables (usedIn v) (length (d .parts)) (length (ownNames d))) (yes d) (no (13, i))
 
 -- ---- 11, 12
 

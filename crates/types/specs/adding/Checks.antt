@@ -4,7 +4,7 @@ use Prim.Native.Nat.{ℕ, _+_, _*_}
 use mathlib.Core.Bool.{Bool, false, cond, not, _&&_, _||_}
 use mathlib.Core.List.{List, [], _∷_}
 use lib.Dec.{eqb}
-use Rattle.types.specs.book.Contents.{entryAt, listFrom}
+use Rattle.types.specs.book.Contents.{memberEntryAt, listFrom}
 use Rattle.types.specs.book.Names.{sameName, goodName}
 use Rattle.types.specs.tables.Defs.{nameIn}
 use Rattle.types.specs.declared.adding.checks.Checked.{Checked}
@@ -13,7 +13,7 @@ use Rattle.types.specs.declared.book.contents.MemberEntry.{MemberEntry}
 
 -- a type's members stand one after the other from a place on: the j-th ..
 abbrev pub entryOf : List ℕ → ℕ → ℕ → MemberEntry
-entryOf book at j = entryAt book (at + 16 * j)
+entryOf book at j = memberEntryAt book (at + 16 * j)
 
 -- .. and n of them, from the j-th on
 abbrev pub entriesFrom : List ℕ → ℕ → ℕ → ℕ → List MemberEntry

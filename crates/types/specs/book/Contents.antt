@@ -32,8 +32,8 @@ typeEntry s i =
 
 -- then M member entries of 16: name place u32, name length u8, type name length u8, local u8, access u8, dim u32,
 -- type name place u32
-abbrev pub entryAt : List ℕ → ℕ → MemberEntry
-entryAt s at =
+abbrev pub memberEntryAt : List ℕ → ℕ → MemberEntry
+memberEntryAt s at =
     record {
       name = record { at = wordAt 4 s at; long = wordAt 1 s (at + 4) };
       ty = record { at = wordAt 4 s (at + 12); long = wordAt 1 s (at + 5) };
@@ -43,7 +43,7 @@ entryAt s at =
     }
 
 abbrev pub memberEntry : List ℕ → ℕ → ℕ → MemberEntry
-memberEntry s t i = entryAt s (4 + 16 * t + 16 * i)
+memberEntry s t i = memberEntryAt s (4 + 16 * t + 16 * i)
 
 -- the bodies begin after both
 abbrev pub bodiesAt : List ℕ → ℕ

@@ -48,9 +48,9 @@ typeLine name id size members template waste =
     line (typeWord ∷ name ∷ typeNumbers id size members template waste)
 
 -- hidden or visible: `h` or `v`
-abbrev pub seen : Bool → List ℕ
-seen true = 104 ∷ []
-seen false = 118 ∷ []
+abbrev pub seenLetter : Bool → List ℕ
+seenLetter true = 104 ∷ []
+seenLetter false = 118 ∷ []
 
 -- bit, `-` where none
 abbrev pub bitText : Bit → List ℕ
@@ -64,7 +64,7 @@ memberPlace m name = digits (m .count) ∷ digits (m .offset) ∷ bitText (m .bi
 -- number, hidden or visible, stored type, count, offset, bit, name
 unfoldable pub memberLine : ℕ → List ℕ → Member → List ℕ → List ℕ
 memberLine number type m name =
-    line (digits number ∷ seen (m .hidden) ∷ type ∷ memberPlace m name)
+    line (digits number ∷ seenLetter (m .hidden) ∷ type ∷ memberPlace m name)
 
 -- a refusal's number and place
 unfoldable pub refusedLine : ℕ → ℕ → List ℕ

@@ -20,16 +20,16 @@ abbrev pub tyWord : Ty → ℕ
 tyWord (Atomic a) = numOf a
 tyWord (Struct n) = 0x8000 + n
 
-unfoldable pub tyOf : ℕ → Ty
-tyOf w = cond (ltb w 0x8000) (Atomic (atomicAt w)) (Struct (w - 0x8000))
+unfoldable pub tyOfWord : ℕ → Ty
+tyOfWord w = cond (ltb w 0x8000) (Atomic (atomicAt w)) (Struct (w - 0x8000))
 
 -- 0, or one more than the bit
 abbrev pub bitWord : Bit → ℕ
 bitWord None = 0
 bitWord (At k) = k + 1
 
-unfoldable pub bitOf : ℕ → Bit
-bitOf w = cond (eqb w 0) None (At ((w - 1) % 8))
+unfoldable pub bitOfWord : ℕ → Bit
+bitOfWord w = cond (eqb w 0) None (At ((w - 1) % 8))
 
 -- 1 for hidden, and 2 for local
 abbrev pub flagsOf : Bool → Bool → ℕ
@@ -41,8 +41,8 @@ kindWord Predefined = 1
 kindWord Str = 2
 kindWord Aoi = 3
 
-unfoldable pub kindOf : ℕ → StructKind
-kindOf w = cond (eqb w 1) Predefined (cond (eqb w 2) Str (cond (eqb w 3) Aoi Udt))
+unfoldable pub kindOfWord : ℕ → StructKind
+kindOfWord w = cond (eqb w 1) Predefined (cond (eqb w 2) Str (cond (eqb w 3) Aoi Udt))
 
 -- a member's row: where its name stands, and the member
 unfoldable pub memberRow : Span → Member → List ℕ
@@ -56,10 +56,10 @@ nameAt t row = record { at = getD t (8 * row) 0; long = getD t (8 * row + 1) 0 }
 unfoldable pub memberAt : List ℕ → ℕ → Member
 memberAt t row =
     record {
-      ty = tyOf (getD t (8 * row + 2) 0);
+      ty = tyOfWord (getD t (8 * row + 2) 0);
       count = getD t (8 * row + 3) 0;
       offset = getD t (8 * row + 4) 0;
-      bit = bitOf (getD t (8 * row + 5) 0);
+      bit = bitOfWord (getD t (8 * row + 5) 0);
       hidden = eqb (getD t (8 * row + 6) 0 % 2) 1;
       local = eqb (getD t (8 * row + 6) 0 / 2 % 2) 1;
       access = getD t (8 * row + 7) 0 % 256;
@@ -77,7 +77,7 @@ typeAt t i =
       id = getD t (8 * i + 2) 0 % 65536;
       handle = getD t (8 * i + 3) 0 % 65536;
       size = getD t (8 * i + 4) 0;
-      kind = kindOf (getD t (8 * i + 5) 0);
+      kind = kindOfWord (getD t (8 * i + 5) 0);
       first = getD t (8 * i + 6) 0;
       count = getD t (8 * i + 7) 0;
     }

@@ -1,7 +1,7 @@
 // How much of the lent tables is used (document 01, "Declaration book": the tables; refusal 13).
 ghost use mathlib.Core.Path.{_≡_};
 ghost use Prim.Native.Nat.{_+_, _<_, _≤_, _^_};
-ghost use Rattle.types.specs.adding.Add.{hasRoom};
+ghost use Rattle.types.specs.adding.Add.{roomInTables};
 ghost use Rattle.types.specs.inside.tables.Registry.{usedWith};
 ghost use Rattle.types.specs.tables.Limits.{mostTypes, mostMembers, mostNames};
 use crate::tables::lent::MEMBERS;
@@ -18,7 +18,7 @@ pub struct Used {
 // The tables have room for one more type, with so many members and bytes of names.
 pub fn has_room(u: Used, members: usize, bytes: usize) -> bool
     requires { ⌜ (u .members + members ≤ 2 ^ 40) × (u .bytes + bytes ≤ 2 ^ 40) ⌝ }
-    ensures { λ r. ⌜ r ≡ hasRoom u members bytes ⌝ }
+    ensures { λ r. ⌜ r ≡ roomInTables u members bytes ⌝ }
 {
     if TYPES <= u.types {
         return false;

@@ -4,8 +4,8 @@ ghost use mathlib.Core.Path.{_≡_};
 ghost use Prim.Native.Nat.{_+_, _*_, _<_, _≤_};
 ghost use mathlib.Core.Bool.{_||_};
 ghost use lib.ListN.{length};
-ghost use Rattle.types.specs.book.Contents.{isAoi, isString, hasId, typeEntry, entryAt, memberEntry, inBodies};
-ghost use Rattle.types.specs.book.Contents.{typeOk, memberOk, every, listFrom, bookOk};
+ghost use Rattle.types.specs.book.Contents.{isAoi, isString, hasId, typeEntry, memberEntryAt, memberEntry};
+ghost use Rattle.types.specs.book.Contents.{inBodies, typeOk, memberOk, every, listFrom, bookOk};
 ghost use Rattle.types.specs.inside.book.Contents.{CountsSum};
 use crate::tables::member::Span;
 use words::load8;
@@ -66,7 +66,7 @@ pub fn type_entry(book: &[u8], i: usize) -> TypeEntry
 // The member entry at a place.
 pub fn entry_at(book: &[u8], at: usize) -> MemberEntry
     requires { ⌜ at + 16 ≤ length (now book) ⌝ }
-    ensures { λ r. ⌜ r ≡ entryAt (now (book .entry)) at ⌝ }
+    ensures { λ r. ⌜ r ≡ memberEntryAt (now (book .entry)) at ⌝ }
 {
     let place = load32(book, at);
     let long = wide8(load8(book, at + 4));

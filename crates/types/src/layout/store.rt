@@ -88,7 +88,7 @@ fn put_host(
 
 // Where the next member goes: the cursor, the row, and the place of its name. Nothing is left to store
 // where the layout was refused.
-pub enum Stored {
+pub enum StoreNext {
     Next(Cursor, usize, usize),
     Stop,
 }
@@ -103,7 +103,7 @@ fn store_one(
     row: usize,
     names: &mut NameTable,
     at: usize,
-) -> Stored
+) -> StoreNext
     requires { ⌜ StepFits (now book) (now name) c d row at ⌝ }
     ensures next { λ r. ⌜ r ≡ storedOne (now (name .entry)) c d row at ⌝ }
     ensures rows { λ _. ⌜ now (members .exit) ≡ sets (now (members .entry)) (8 * row)
@@ -119,14 +119,14 @@ fn store_one(
         Placed::Hosted(h, m, next) => {
             let host = put_host(members, row, names, at, name, c.members, h);
             put_part(members, row + 1, names, at + host, &book[start..end], m);
-            Stored::Next(next, row + 2, at + host + long)
+            StoreNext::Next(next, row + 2, at + host + long)
         }
         Placed::One(m, next) => {
             put_part(members, row, names, at, &book[start..end], m);
-            Stored::Next(next, row + 1, at + long)
+            StoreNext::Next(next, row + 1, at + long)
         }
-        Placed::AccessWrong => Stored::Stop,
-        Placed::TooFar => Stored::Stop,
+        Placed::AccessWrong => StoreNext::Stop,
+        Placed::TooFar => StoreNext::Stop,
     }
 }
 
@@ -161,12 +161,12 @@ pub fn store(
         let d = decl_at(types, book, tys, at, j);
         let one = store_one(book, name, c, d, members, next_row, names, next_place);
         match one {
-            Stored::Next(next, r, p) => {
+            StoreNext::Next(next, r, p) => {
                 c = next;
                 next_row = r;
                 next_place = p;
             }
-            Stored::Stop => {
+            StoreNext::Stop => {
                 return;
             }
         }

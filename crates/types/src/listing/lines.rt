@@ -8,8 +8,9 @@ ghost use lib.ListN.{length};
 ghost use Rattle.types.specs.atomics.Atomic.{nameOf};
 ghost use Rattle.types.specs.inside.listing.Lines.{TypeNamed, Listable, FieldFits, FieldPut, Lined};
 ghost use Rattle.types.specs.layout.HostNames.{digits};
-ghost use Rattle.types.specs.listing.Lines.{ended, line, typeNumbers, seen, bitText, memberPlace, refusedLine};
-ghost use Rattle.types.specs.listing.Lines.{printedType, structNames, typeLineIn, memberLineIn, hasMember};
+ghost use Rattle.types.specs.listing.Lines.{ended, line, typeNumbers, seenLetter, bitText, memberPlace};
+ghost use Rattle.types.specs.listing.Lines.{refusedLine, printedType, structNames, typeLineIn, memberLineIn};
+ghost use Rattle.types.specs.listing.Lines.{hasMember};
 ghost use Rattle.types.specs.refusals.Given.{Given};
 ghost use Rattle.types.specs.tables.Defs.{nameIn};
 ghost use Rattle.types.specs.tables.Kept.{Kept};
@@ -133,8 +134,8 @@ fn put_type_name(types: &TypeTable, names: &[u8], ty: Ty, out: &mut [u8], at: us
 
 // Whether a member is hidden or visible.
 fn put_seen(out: &mut [u8], at: usize, hidden: bool) -> usize
-    requires { ⌜ FieldFits (ended (seen hidden) 32) at (now out) ⌝ }
-    ensures { λ r. ⌜ FieldPut (ended (seen hidden) 32) at (now (out .entry)) r (now (out .exit)) ⌝ }
+    requires { ⌜ FieldFits (ended (seenLetter hidden) 32) at (now out) ⌝ }
+    ensures { λ r. ⌜ FieldPut (ended (seenLetter hidden) 32) at (now (out .entry)) r (now (out .exit)) ⌝ }
 {
     if hidden {
         return put_field(out, at, b"h", b' ');

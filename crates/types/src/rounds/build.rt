@@ -136,7 +136,7 @@ fn build_with(
     run(book, t, ids, types, members, names, tys, done, stuck, tried)
 }
 
-// The same with a scratch on the stack for a small book.
+// The same with a small scratch for a small book, for pace: it zeroes 5 KB where any other zeroes 384.
 fn build_small(
     book: &[u8],
     ids: PredefinedIds,

@@ -6,8 +6,8 @@ ghost use Prim.Native.Nat.{_+_, _<_, _≤_, _%_, _*_};
 ghost use lib.ListN.{length};
 ghost use lib.Seq.{sets};
 ghost use Rattle.types.specs.inside.tables.Lent.{TyFits};
-ghost use Rattle.types.specs.tables.Lent.{tyWord, tyOf, bitWord, bitOf, flagsOf, kindWord, kindOf, memberRow};
-ghost use Rattle.types.specs.tables.Lent.{memberAt, nameAt, typeRow, typeAt};
+ghost use Rattle.types.specs.tables.Lent.{tyWord, tyOfWord, bitWord, bitOfWord, flagsOf, kindWord, kindOfWord};
+ghost use Rattle.types.specs.tables.Lent.{memberRow, memberAt, nameAt, typeRow, typeAt};
 ghost use Rattle.types.specs.tables.Limits.{mostTypes, mostMembers, mostNames};
 ghost use Rattle.types.specs.tables.Registry.{noTypes, noMembers, noNames};
 use crate::atomics::atomic::Atomic;
@@ -76,7 +76,7 @@ pub fn word_of(ty: Ty) -> u16
 }
 
 pub fn ty_of(w: u32) -> Ty
-    ensures { λ r. ⌜ r ≡ tyOf w ⌝ }
+    ensures { λ r. ⌜ r ≡ tyOfWord w ⌝ }
 {
     if w < 0x8000 {
         return Ty::Atomic(Atomic::at(wide(w)));
@@ -96,7 +96,7 @@ fn bit_word(bit: Bit) -> u32
 
 // Any word reads as no bit or as one of the eight.
 fn bit_of(w: u32) -> Bit
-    ensures { λ r. ⌜ r ≡ bitOf w ⌝ }
+    ensures { λ r. ⌜ r ≡ bitOfWord w ⌝ }
 {
     if w == 0 {
         return Bit::None;
@@ -132,7 +132,7 @@ fn kind_word(kind: StructKind) -> u32
 }
 
 fn kind_of(w: u32) -> StructKind
-    ensures { λ r. ⌜ r ≡ kindOf w ⌝ }
+    ensures { λ r. ⌜ r ≡ kindOfWord w ⌝ }
 {
     match w {
         1 => StructKind::Predefined,

@@ -39,15 +39,15 @@ plain-whole e h b = rw (← e, h, b)
 -- ---- one row
 
 -- no visible BOOL: nothing is done
-pub unflagged-hidden : {m n : Member} (x y : Bits) → m ≡ n → m .hidden ≡ true → y ≡ cond (isFlag n) x y
+pub unflagged-hidden : {m n : Member} (x : Bits) {y : Bits} → m ≡ n → m .hidden ≡ true → y ≡ cond (isFlag n) x y
 unfolding isFlag
-unflagged-hidden x y e h = rw (← e, h) refl
+unflagged-hidden x {y} e h = rw (← e, h) refl
 
 -- a visible member without a bit of its own: nothing is done
-pub unflagged-whole : {m n : Member} (x y : Bits) → m ≡ n → m .hidden ≡ false → m .bit ≡ None
+pub unflagged-whole : {m n : Member} (x : Bits) {y : Bits} → m ≡ n → m .hidden ≡ false → m .bit ≡ None
     → y ≡ cond (isFlag n) x y
 unfolding isFlag
-unflagged-whole x y e h b = rw (← e, h, b) refl
+unflagged-whole x {y} e h b = rw (← e, h, b) refl
 
 -- the member of a row was read, with its place: a visible BOOL at bit b of its byte
 pub record FlagHere (members : List ℕ) (row base : ℕ) (image : List ℕ) (m : Member) (start b : ℕ) : Type 0 where
@@ -76,20 +76,20 @@ module _ {members : List ℕ} {row base : ℕ} {image : List ℕ} {m : Member} {
   chosen = rw (← w .is, w .shown, w .bit) refl
 
   -- kept as bit k
-  pub flag-kept : {new : Bits} (k r : ℕ) (v : Bool) (kept : Bits) → r ≡ k % 8
+  pub flag-kept : {new : Bits} (k : ℕ) {r : ℕ} {v : Bool} (kept : Bits) → r ≡ k % 8
       → v ≡ flat image (8 * (base + start) + b) → new ≡ stamp (8 * (k / 8) + r) 1 (λ i. v) kept
       → new ≡ cond (isFlag (memberAt members row))
       (stamp k 1 (from (8 * base + firstBit (memberAt members row)) (flat image)) kept) kept
-  flag-kept k r v kept e h f =
+  flag-kept k {r} {v} kept e h f =
       rw chosen (f ∙ one-bit (8 * (k / 8) + r) k (8 * base + firstBit (memberAt members row)) v (flat image) kept
       (omega arith) (h ∙ ap (flat image) flag-first))
 
   -- put back from bit k
-  pub flag-put : {new : Bits} (k r : ℕ) (v : Bool) (kept : List ℕ) → r ≡ k % 8 → v ≡ flat kept (8 * (k / 8) + r)
+  pub flag-put : {new : Bits} (k : ℕ) {r : ℕ} {v : Bool} (kept : List ℕ) → r ≡ k % 8 → v ≡ flat kept (8 * (k / 8) + r)
       → new ≡ stamp (8 * (base + start) + b) 1 (λ i. v) (flat image)
       → new ≡ cond (isFlag (memberAt members row))
       (stamp (8 * base + firstBit (memberAt members row)) 1 (from k (flat kept)) (flat image)) (flat image)
-  flag-put k r v kept e h f =
+  flag-put k {r} {v} kept e h f =
       let g : 8 * (k / 8) + r ≡ k = omega arith in
       rw chosen (f ∙ one-bit (8 * (base + start) + b) (8 * base + firstBit (memberAt members row)) k v (flat kept)
       (flat image) flag-first (h ∙ ap (flat kept) g))
@@ -98,8 +98,8 @@ module _ {members : List ℕ} {row base : ℕ} {image : List ℕ} {m : Member} {
 
 -- one of n rows
 pub one-row : {members : List ℕ} {first n base : ℕ} {image : List ℕ} (k : ℕ) → RowsHere members first n base image
-    → k < n → (new : List ℕ) → length new ≡ length image → RowsHere members (first + k) 1 base new
-one-row {members} {first} {n} {base} {image} k h l new e =
+    → k < n → {new : List ℕ} → length new ≡ length image → RowsHere members (first + k) 1 base new
+one-row {members} {first} {n} {base} {image} k h l {new} e =
     record {
       rows = omega (arith, h .rows);
       sizes = h .sizes;

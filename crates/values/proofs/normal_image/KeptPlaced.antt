@@ -18,7 +18,7 @@ use Rattle.values.specs.inside.normal_image.Placed.{BranchesPlaced, Clea
 use Rattle.values.specs.inside.normal_image.Placed.{TreePlaced}
 use Rattle.values.specs.reading.Leaf.{str}
 use Rattle.values.specs.reading.Tree.{Tree, leaf, struct, span}
-use Rattle.values.specs.reading.Trees.{bitTree, branchesFrom, isString, knownIn, membersAt, secondCount, seen}
+use Rattle.values.specs.reading.Trees.{bitTree, branchesFrom, isStringKind, knownIn, membersAt, secondCount, seen}
 use Rattle.values.specs.reading.Trees.{structTree, treeOf, treeWithin, valueTree}
 use Rattle.values.proofs.normal_image.DisjointLaws.{member-placed}
 use Rattle.values.proofs.reading.KeptWalkable.{kept-walkable}
@@ -104,7 +104,7 @@ module _ (types members names : List ℕ) (trees : ℕ → Tree) (i : ℕ) (soun
       (partsAt members names (typeAt types i .first) (typeAt types i .count))
       → TreePlaced (structTree trees (knownIn types members i))
   unfolding structTree knownIn TreePlaced
-  struct-placed d = go (isString (typeAt types i .kind))
+  struct-placed d = go (isStringKind (typeAt types i .kind))
     where
       go : (b : Bool)
           → TreePlaced

@@ -16,7 +16,7 @@ use Rattle.values.specs.inside.normal_image.InPlace.{RowsHere, isPlain}
 use Rattle.values.specs.inside.normal_image.Placed.{BranchesPlaced, TreePlaced, Sweepable}
 use Rattle.values.specs.inside.reading.Walkable.{Walkable}
 use Rattle.values.specs.inside.writing.Rows.{Here, branchesIn}
-use Rattle.values.specs.reading.Trees.{isString}
+use Rattle.values.specs.reading.Trees.{isStringKind}
 use Rattle.values.proofs.writing.BranchLaws.{members-tree}
 
 -- a member is plain where the test says so
@@ -36,7 +36,7 @@ module _ {types members : List ℕ} (s : Sweepable types members) where
 
   module _ (i : ℕ) (low : i < mostTypes) where
     -- a structure that is no string has branches that share no bit
-    pub sweepable-branches : isString (typeAt types i .kind) ≡ false
+    pub sweepable-branches : isStringKind (typeAt types i .kind) ≡ false
         → BranchesPlaced (8 * sizesIn types i) (branchesIn types members i)
     unfolding TreePlaced
     sweepable-branches e =

@@ -15,9 +15,9 @@ use Rattle.types.specs.declared.tables.member.StructKind.{StructKind}
 use Rattle.types.specs.declared.tables.member.StructKind.the-variants.{Udt, Predefined, Str, Aoi}
 use Rattle.types.proofs.Face.{row-lies, TypeRow, RowIs, holds, empty, kept-row, StringRow}
 use Rattle.values.specs.inside.reading.Walkable.{MemberWithin, IsString, WalkableType, Walkable}
-use Rattle.values.specs.reading.Trees.{isString}
+use Rattle.values.specs.reading.Trees.{isStringKind}
 
-string-kind : (k : StructKind) → isString k ≡ true → k ≡ Str
+string-kind : (k : StructKind) → isStringKind k ≡ true → k ≡ Str
 string-kind Str e = refl
 string-kind Udt e = cc
 string-kind Predefined e = cc

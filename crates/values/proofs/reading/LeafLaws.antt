@@ -10,9 +10,10 @@ use lib.ListN.{length, getD}
 use lib.Seq.{sets, length-sets}
 use Rattle.words.specs.Bits.{Bits, flat, digit}
 use Rattle.words.specs.Words.{part}
+use Rattle.words.proofs.Lists.{lent-part, lent-long}
 use Rattle.types.specs.atomics.Atomic.{bitString, sizeOf}
 use Rattle.types.specs.layout.Placing.{times}
-use Rattle.types.specs.tables.Lent.{memberAt, bitOf}
+use Rattle.types.specs.tables.Lent.{memberAt, bitOfWord}
 use Rattle.types.specs.tables.Sizes.{sizesIn}
 use Rattle.types.specs.declared.atomics.atomic.Atomic.{Atomic}
 use Rattle.types.specs.declared.atomics.atomic.Atomic.the-variants as atomic
@@ -27,7 +28,7 @@ use Rattle.values.specs.inside.reading.Walkable.{RowOf, ImageOf}
 use Rattle.values.specs.inside.stream.Laying.{EntriesPut}
 use Rattle.values.specs.reading.Leaf.{emit, leafOf}
 use Rattle.values.specs.stream.Stream.{Token, bool, member, entryBytes}
-use Rattle.values.proofs.reading.PartLaws.{lent, lent-part, lent-long}
+use Rattle.values.proofs.reading.PartLaws.{lent}
 use Rattle.values.proofs.stream.HeadLaws.{Textless, textless-none, textless-plain, textless-append, textless-up}
 use Rattle.values.proofs.stream.PutLaws.{put-none, put-one, put-first}
 
@@ -115,7 +116,7 @@ bit-low false n k e = let q : n % 8 ≡ k = cc in omega arith
 
 -- the bit that a row names is one of the eight of a byte
 pub row-bit : (members : List ℕ) (row k : ℕ) → memberAt members row .bit ≡ At k → k < 8
-unfolding memberAt bitOf
+unfolding memberAt bitOfWord
 row-bit members row k e =
     bit-low (eqb (getD members (8 * row + 5) 0) 0) (getD members (8 * row + 5) 0 - 1) k e
 

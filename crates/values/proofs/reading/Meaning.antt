@@ -34,7 +34,7 @@ use Rattle.values.specs.reading.Leaf.{Leaf, flag, str, leafOf, emit, cli
 use Rattle.values.specs.reading.Texts.{capacityAt}
 use Rattle.values.specs.reading.Tree.{Tree, leaf, bits, array, struct, Branches, allBits, span, each, oneFlag}
 use Rattle.values.specs.reading.Tree.{items, branchItems, read}
-use Rattle.values.specs.reading.Trees.{membersAt, knownIn, secondCount, isString, atomicsTree, bitTree, seen}
+use Rattle.values.specs.reading.Trees.{membersAt, knownIn, secondCount, isStringKind, atomicsTree, bitTree, seen}
 use Rattle.values.specs.reading.Trees.{structsTree, valueTree, branchesFrom, structTree, treeWithin, treeOf}
 use Rattle.values.specs.reading.Trees.{treeOfValue}
 use Rattle.values.specs.stream.Stream.{Token, bool, text, member}
@@ -236,9 +236,9 @@ module _ (types members : List ℕ) (trees : ℕ → Tree) (i : ℕ) (sound : Tr
   struct-read : WalkableType types members i → (image : List ℕ) → length image ≡ sizesIn types i → Bytes image
       → structBy types members rec i image ≡ read (items (structTree trees (knownIn types members i)) 0) (flat image)
   unfolding structBy structTree knownIn
-  struct-read w image h b = go (isString (typeAt types i .kind)) refl
+  struct-read w image h b = go (isStringKind (typeAt types i .kind)) refl
     where
-      go : (s : Bool) → isString (typeAt types i .kind) ≡ s
+      go : (s : Bool) → isStringKind (typeAt types i .kind) ≡ s
           → cond s (textOut (capacityAt members (typeAt types i .first)) image) (membersBy types members rec i image)
           ≡ read
           (items

@@ -1,13 +1,14 @@
 -- Parts of an image (document 01, "Reading"): an element of an array of structures, and the structure or the structures
 -- in a row, each with the bytes that its type asks, as the code lends them by start and end.
 use Prim.Native.Nat.{ℕ, _+_, _-_, _*_, _<_, _≤_}
-use native.Mathlib.Nat.{add-sub-cancel-left, mul-le-mul-left, mul-one, mul-suc}
+use native.Mathlib.Nat.{mul-le-mul-left, mul-one, mul-suc}
 use native.Mathlib.Omega.{arith}
 use borrow.Author.Tests.{eq-eqb, ne-eqb}
 use mathlib.Core.Path.{_≡_, sym, ap, _∙_, subst}
 use mathlib.Core.List.{List, _∷_}
-use lib.ListN.{length, take, drop, length-take, length-drop}
+use lib.ListN.{length, take, drop}
 use Rattle.words.specs.Words.{part}
+use Rattle.words.proofs.Lists.{lent-part, lent-long}
 use Rattle.types.specs.layout.Placing.{times}
 use Rattle.types.specs.tables.Lent.{memberAt}
 use Rattle.types.specs.tables.Limits.{mostTypes}
@@ -22,15 +23,6 @@ use Rattle.values.proofs.reading.MemberLaws.{nested-whole, nested-earli
 -- the bytes from a start to an end
 abbrev pub lent : List ℕ → ℕ → ℕ → List ℕ
 lent s start stop = take (stop - start) (drop start s)
-
--- the bytes from a start to an end n bytes later are the part of n bytes there
-pub lent-part : (s : List ℕ) (at n : ℕ) → lent s at (at + n) ≡ part s at n
-unfolding part
-lent-part s at n = ap (λ (k : ℕ). take k (drop at s)) (add-sub-cancel-left at n)
-
--- a part that lies in the list has as many bytes as were asked for
-pub lent-long : (s : List ℕ) (at n : ℕ) → at + n ≤ length s → length (lent s at (at + n)) ≡ n
-lent-long s at n h = simp (length-take, length-drop) (omega arith)
 
 -- ---- an element of an array
 

@@ -87,15 +87,15 @@ images types t {i} n image e v = let w = rw e at v in record { low = w .fits; lo
 
 module _ (types members : List ℕ) (n : ℕ) (image : List ℕ) where
   -- a value of an atomic type gives that atomic, or so many of them
-  pub value-atomic : (t : Ty) (a : Atomic) → t ≡ ty.Atomic a → valueOut types members t n image ≡ atomicsOut a n image
+  pub value-atomic : (t : Ty) {a : Atomic} → t ≡ ty.Atomic a → valueOut types members t n image ≡ atomicsOut a n image
   unfolding valueOut
-  value-atomic t a e = rw e refl
+  value-atomic t {a} e = rw e refl
 
   -- a value of a structure type gives that structure, or so many of them
-  pub value-struct : (t : Ty) (i : ℕ) → t ≡ ty.Struct i
+  pub value-struct : (t : Ty) {i : ℕ} → t ≡ ty.Struct i
       → valueOut types members t n image ≡ structsBy types members (structOut types members) i n image
   unfolding valueOut
-  value-struct t i e = rw e refl
+  value-struct t {i} e = rw e refl
 
   -- a structure with a count of 0 gives what one structure gives
   pub value-one : (i : ℕ) → n ≡ 0

@@ -27,7 +27,7 @@ use Rattle.values.specs.inside.reading.Walkable.{MemberWithin, IsString,
 use Rattle.values.specs.reading.Leaf.{str, leafOf}
 use Rattle.values.specs.reading.Texts.{capacityAt}
 use Rattle.values.specs.reading.Tree.{Tree, leaf, bits, array, struct, Branches, room, allBits, span}
-use Rattle.values.specs.reading.Trees.{membersAt, knownIn, secondCount, isString, atomicsTree, bitTree, seen}
+use Rattle.values.specs.reading.Trees.{membersAt, knownIn, secondCount, isStringKind, atomicsTree, bitTree, seen}
 use Rattle.values.specs.reading.Trees.{structsTree, valueTree, branchesFrom, structTree, treeWithin, treeOf}
 use Rattle.values.specs.reading.Trees.{treeOfValue}
 use Rattle.values.proofs.reading.TreeLaws.{Inside, AllInside}
@@ -170,7 +170,7 @@ module _ (types members : List ℕ) (trees : ℕ → Tree) (i : ℕ) (sound : Tr
 
   struct-inside : WalkableType types members i → Inside (structTree trees (knownIn types members i))
   unfolding structTree knownIn Inside
-  struct-inside w = go (isString (typeAt types i .kind))
+  struct-inside w = go (isStringKind (typeAt types i .kind))
     where
       go : (b : Bool)
           → Inside
@@ -192,9 +192,9 @@ capacity-is members first n e = rw e
 struct-span : (types members : List ℕ) (trees : ℕ → Tree) (i : ℕ) → WalkableType types members i
     → span (structTree trees (knownIn types members i)) ≡ 8 * sizesIn types i
 unfolding structTree knownIn span
-struct-span types members trees i w = go (isString (typeAt types i .kind)) refl
+struct-span types members trees i w = go (isStringKind (typeAt types i .kind)) refl
   where
-    go : (b : Bool) → isString (typeAt types i .kind) ≡ b
+    go : (b : Bool) → isStringKind (typeAt types i .kind) ≡ b
         → span
         (cond b (leaf (str (secondCount (membersAt members (typeAt types i .first) (typeAt types i .count)))))
         (struct (8 * typeAt types i .size)

@@ -22,7 +22,7 @@ use Rattle.values.specs.inside.reading.Texts.{TextHeld}
 use Rattle.values.specs.inside.reading.Walkable.{IsString, Walkable}
 use Rattle.values.specs.reading.Texts.{capacityAt, textLength, Address, Stored, capacityOf, stringNumber}
 use Rattle.values.specs.reading.Texts.{textNumber, textPart}
-use Rattle.values.specs.reading.Trees.{isString}
+use Rattle.values.specs.reading.Trees.{isStringKind}
 
 -- ---- the numbers
 
@@ -31,21 +31,22 @@ abbrev stringBy : Bool → Bool → ℕ
 stringBy b c = cond b (cond c 0 14) 15
 
 module _ (types : List ℕ) (i long : ℕ) {d : StructDef} (e : d ≡ typeAt types i) where
-  string-by : {b c : Bool} → isString (d .kind) ≡ b → eqb long (d .size) ≡ c → stringBy b c ≡ stringNumber types i long
+  string-by : {b c : Bool} → isStringKind (d .kind) ≡ b → eqb long (d .size) ≡ c
+      → stringBy b c ≡ stringNumber types i long
   unfolding stringNumber
   string-by p q =
-      sym (ap₂ stringBy p q) ∙ ap (λ (f : StructDef). stringBy (isString (f .kind)) (eqb long (f .size))) e
+      sym (ap₂ stringBy p q) ∙ ap (λ (f : StructDef). stringBy (isStringKind (f .kind)) (eqb long (f .size))) e
 
   -- a string type and an image of its size: the number is 0
-  pub string-fits : isString (d .kind) ≡ true → long ≡ d .size → 0 ≡ stringNumber types i long
+  pub string-fits : isStringKind (d .kind) ≡ true → long ≡ d .size → 0 ≡ stringNumber types i long
   string-fits p l = string-by p (eq-eqb long (d .size) l)
 
   -- a string type and an image of another length: the number is 14
-  pub string-misfits : isString (d .kind) ≡ true → (long ≡ d .size → ⊥) → 14 ≡ stringNumber types i long
+  pub string-misfits : isStringKind (d .kind) ≡ true → (long ≡ d .size → ⊥) → 14 ≡ stringNumber types i long
   string-misfits p l = string-by p (ne-eqb long (d .size) l)
 
   -- a structure that is no string type: the number is 15
-  pub no-string : isString (d .kind) ≡ false → 15 ≡ stringNumber types i long
+  pub no-string : isStringKind (d .kind) ≡ false → 15 ≡ stringNumber types i long
   no-string p = string-by p refl
 
 module _ (types : List ℕ) (t : Ty) (image : List ℕ) where
@@ -74,7 +75,7 @@ there-low types t h e = rw e at (there-fits types t h)
 -- what no refusal says of a structure and an image
 pub record Accepted (types : List ℕ) (i : ℕ) (image : List ℕ) : Type 0 where
   pub low : i < mostTypes
-  pub string : isString (typeAt types i .kind) ≡ true
+  pub string : isStringKind (typeAt types i .kind) ≡ true
   pub long : length image ≡ sizesIn types i
 
 record TextPassed (a b c : Bool) : Type 0 where
@@ -94,7 +95,7 @@ pub accepted : (types : List ℕ) (i : ℕ) (image : List ℕ) → textNumber ty
 unfolding textNumber stringNumber
 accepted types i image e =
     let long : Bool = eqb (length image) (sizesIn types i) in
-    let p = passed (isThere types (ty.Struct i)) (isString (typeAt types i .kind)) long e in
+    let p = passed (isThere types (ty.Struct i)) (isStringKind (typeAt types i .kind)) long e in
     record {
       low = there-fits types (ty.Struct i) (p .there);
       string = p .string;

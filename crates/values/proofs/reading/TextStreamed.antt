@@ -16,14 +16,14 @@ use Rattle.values.specs.inside.reading.Walk.{structBy, structOut, struct
 use Rattle.values.specs.inside.reading.Walkable.{ValueImage}
 use Rattle.values.specs.reading.Read.{valueStream}
 use Rattle.values.specs.reading.Texts.{Address, Stored, capacityOf, textNumber, textPart, capacityAt, textIn}
-use Rattle.values.specs.reading.Trees.{isString}
+use Rattle.values.specs.reading.Trees.{isStringKind}
 use Rattle.values.specs.stream.Stream.{streamBytes, text}
 use Rattle.values.proofs.reading.KeptWalkable.{kept-walkable}
 use Rattle.values.proofs.reading.ReadingLaws.{stream-is, value-one}
 use Rattle.values.proofs.reading.StoredLaws.{Accepted, accepted, no-atomic}
 
 -- a string is read as one text
-string-out : (types members : List ℕ) (i : ℕ) (image : List ℕ) → isString (typeAt types i .kind) ≡ true
+string-out : (types members : List ℕ) (i : ℕ) (image : List ℕ) → isStringKind (typeAt types i .kind) ≡ true
     → structOut types members i image ≡ textOut (capacityAt members (typeAt types i .first)) image
 unfolding structOut structWithin structBy
 string-out types members i image e = rw e refl

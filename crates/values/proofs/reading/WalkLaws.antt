@@ -20,7 +20,7 @@ use Rattle.values.specs.inside.reading.Walk.{bytesBy, memberBy, rowBy, m
 use Rattle.values.specs.inside.reading.Walk.{structOut}
 use Rattle.values.specs.inside.reading.Walkable.{WalkableType, Walkable}
 use Rattle.values.specs.reading.Texts.{capacityAt}
-use Rattle.values.specs.reading.Trees.{isString}
+use Rattle.values.specs.reading.Trees.{isStringKind}
 use Rattle.values.specs.stream.Stream.{Token, bool, member}
 use Rattle.values.proofs.reading.UpLaws.{up-ext}
 
@@ -57,7 +57,7 @@ module _ (types members : List ℕ) (f g : ℕ → List ℕ → List Token) (i :
       → structBy types members f i image ≡ structBy types members g i image
   unfolding structBy membersBy
   struct-same w image =
-      ap (λ (ts : List Token). cond (isString (typeAt types i .kind))
+      ap (λ (ts : List Token). cond (isStringKind (typeAt types i .kind))
       (textOut (capacityAt members (typeAt types i .first)) image) (wrap 8 9 ts))
       (up-ext (rowBy types members f (typeAt types i .first) image)
       (rowBy types members g (typeAt types i .first) image)

@@ -18,7 +18,7 @@ use Rattle.values.specs.inside.reading.Walk.{structBy, structWithin, str
 use Rattle.values.specs.inside.reading.Walkable.{Walkable}
 use Rattle.values.specs.inside.stream.Counting.{Counted, TextFree}
 use Rattle.values.specs.reading.Texts.{capacityAt}
-use Rattle.values.specs.reading.Trees.{isString}
+use Rattle.values.specs.reading.Trees.{isStringKind}
 use Rattle.values.specs.stream.Stream.{mostBytes, Token, member, bodies}
 use Rattle.values.proofs.reading.UpLaws.{up-length, up-least, up-first, up-bodies, wrap-length, wrap-bodies}
 use Rattle.values.proofs.reading.WalkLaws.{struct-out}
@@ -83,7 +83,7 @@ element types s image k = part image (sizesIn types s * k) (sizesIn types s)
 struct-some : (types members : List ℕ) (i : ℕ) (image : List ℕ) → 1 ≤ length (structOut types members i image)
 unfolding structOut structWithin structBy membersBy
 struct-some types members i image =
-    go (isString (typeAt types i .kind)) (textOut (capacityAt members (typeAt types i .first)) image)
+    go (isStringKind (typeAt types i .kind)) (textOut (capacityAt members (typeAt types i .first)) image)
     (membersBy types members (structWithin types members 199) i image) (omega arith) (omega arith)
   where
     go : (b : Bool) (xs ys : List Token) → 1 ≤ length xs → 1 ≤ length ys → 1 ≤ length (cond b xs ys)
@@ -166,7 +166,7 @@ module _ (types members : List ℕ) (s n : ℕ) where
 
 module _ {types members : List ℕ} {i most from : ℕ} (w : Walkable types members) (l : i < mostTypes) where
   -- a string
-  pub text-counted : {b : Bool} → isString (typeAt types i .kind) ≡ true
+  pub text-counted : {b : Bool} → isStringKind (typeAt types i .kind) ≡ true
       → Counted most from (structOut types members i) b true (from + 1)
   text-counted e =
       record {
@@ -180,7 +180,7 @@ module _ {types members : List ℕ} {i most from : ℕ} (w : Walkable types memb
       one image = ap length (struct-out types members w i image l) ∙ unfold structBy in rw e
 
   -- any other structure
-  pub members-counted : {b t : Bool} {sum : ℕ} → isString (typeAt types i .kind) ≡ false
+  pub members-counted : {b t : Bool} {sum : ℕ} → isStringKind (typeAt types i .kind) ≡ false
       → Counted most from (membersBy types members (structOut types members) i) b t sum
       → Counted most from (structOut types members i) b t sum
   members-counted e v =

@@ -312,7 +312,7 @@ loaded-same Malformed Malformed g h q = refl
 
 -- ---- at any place
 
-module _ {out : List ℕ} {at : ℕ} (e : Entry) where
+module _ {out : List ℕ} {at : ℕ} {e : Entry} where
   -- an entry that has room is stored, and the answer is true
   pub stored-there : {new : List ℕ} → leb (at + 12) (length out) ≡ true → new ≡ sets out at (bytesOfEntry e)
       → EntryStored out at e true new

@@ -14,7 +14,7 @@ use Rattle.words.specs.Words.{wordAt}
 use Rattle.words.proofs.TestLaws.{clash}
 use Rattle.words.proofs.WordLaws.{word-split, word-four}
 use Rattle.words.proofs.ArithLaws.{none-most, below-most}
-use Rattle.values.specs.inside.stream.Steps.{Moved, mostOf, nowhere, stepOf}
+use Rattle.values.specs.inside.stream.Steps.{Moved, mostOf, nowhere, textStepOf}
 use Rattle.values.specs.stream.Entry.{isEntry, kindAt, payloadAt, payloadRight, payloadsRight, threeZeros}
 use Rattle.values.specs.stream.Form.{TextStep, At, Broken, textStep, entryStep, stepAt, onStep, formed, countIn}
 use Rattle.values.specs.stream.Form.{baseIn, streamOk}
@@ -74,8 +74,9 @@ kind-most x l =
     then none
 
 module _ (kind x place : ℕ) where
-  tested : x < 2 ^ 64 → kind < 12 → (kind ≡ 6 → ⊥) → stepOf kind x place ≡ cond (leb x (mostOf kind)) (At place) Broken
-  unfolding stepOf
+  tested : x < 2 ^ 64 → kind < 12 → (kind ≡ 6 → ⊥)
+      → textStepOf kind x place ≡ cond (leb x (mostOf kind)) (At place) Broken
+  unfolding textStepOf
   tested l k n =
       rw (
         subst (λ (i : ℕ). (i ≡ 6 → ⊥) → payloadRight i x ≡ leb x (mostOf i)) (zero-add kind)
@@ -85,46 +86,46 @@ module _ (kind x place : ℕ) where
 
   -- no text, and a payload up to the greatest of its kind: the place stays
   pub plain-fits : x < 2 ^ 64 → kind < 12 → (kind ≡ 6 → ⊥) → x ≤ mostOf kind
-      → stepOf kind x place ≡ At place
+      → textStepOf kind x place ≡ At place
   plain-fits l k n h = tested l k n ∙ rw (le-leb x (mostOf kind) h) refl
 
   -- no text, and a payload above the greatest of its kind: malformed
   pub plain-broken : x < 2 ^ 64 → kind < 12 → (kind ≡ 6 → ⊥) → mostOf kind < x
-      → stepOf kind x place ≡ Broken
+      → textStepOf kind x place ≡ Broken
   plain-broken l k n h = tested l k n ∙ rw (lt-leb x (mostOf kind) h) refl
 
   -- the kinds that are tested first
   module _ (l : x < 2 ^ 64) where
     -- a bool that is 0 or 1: the place stays
-    pub bool-fits : kind ≡ 1 → x < 2 → stepOf kind x place ≡ At place
+    pub bool-fits : kind ≡ 1 → x < 2 → textStepOf kind x place ≡ At place
     unfolding mostOf
     bool-fits e h = plain-fits l (omega arith) (λ q. let z : ⊥ = omega arith in z) (rw e (omega arith))
 
     -- a bool above 1: malformed
-    pub bool-broken : kind ≡ 1 → 2 ≤ x → stepOf kind x place ≡ Broken
+    pub bool-broken : kind ≡ 1 → 2 ≤ x → textStepOf kind x place ≡ Broken
     unfolding mostOf
     bool-broken e h = plain-broken l (omega arith) (λ q. let z : ⊥ = omega arith in z) (rw e (omega arith))
 
     -- a signed number: the place stays
-    pub signed-fits : kind ≡ 2 → stepOf kind x place ≡ At place
+    pub signed-fits : kind ≡ 2 → textStepOf kind x place ≡ At place
     unfolding mostOf
     signed-fits e = plain-fits l (omega arith) (λ q. let z : ⊥ = omega arith in z) (rw e (omega arith))
 
     -- a member number of 32 bits: the place stays
-    pub member-fits : kind ≡ 7 → x < 2 ^ 32 → stepOf kind x place ≡ At place
+    pub member-fits : kind ≡ 7 → x < 2 ^ 32 → textStepOf kind x place ≡ At place
     unfolding mostOf
     member-fits e h = plain-fits l (omega arith) (λ q. let z : ⊥ = omega arith in z) (rw e (omega arith))
 
-    member-broken : kind ≡ 7 → 2 ^ 32 ≤ x → stepOf kind x place ≡ Broken
+    member-broken : kind ≡ 7 → 2 ^ 32 ≤ x → textStepOf kind x place ≡ Broken
     unfolding mostOf
     member-broken e h = plain-broken l (omega arith) (λ q. let z : ⊥ = omega arith in z) (rw e (omega arith))
 
     -- a bracket without payload: the place stays
-    pub mark-fits : 8 ≤ kind → kind < 12 → x ≡ 0 → stepOf kind x place ≡ At place
+    pub mark-fits : 8 ≤ kind → kind < 12 → x ≡ 0 → textStepOf kind x place ≡ At place
     mark-fits a b e = plain-fits l b (λ q. let z : ⊥ = omega arith in z) (omega arith)
 
     -- a bracket with a payload: malformed
-    pub mark-broken : 8 ≤ kind → kind < 12 → (x ≡ 0 → ⊥) → stepOf kind x place ≡ Broken
+    pub mark-broken : 8 ≤ kind → kind < 12 → (x ≡ 0 → ⊥) → textStepOf kind x place ≡ Broken
     unfolding mostOf
     mark-broken a b n =
         let not : (j : ℕ) → j < 8 → eqb kind j ≡ false = λ j h. ne-eqb kind j (λ q. let z : ⊥ = omega arith in z) in
@@ -140,46 +141,46 @@ module _ (kind x place : ℕ) where
         plain-broken l b (λ q. let z : ⊥ = omega arith in z) (omega (arith, n))
 
     -- members and brackets use no high half
-    pub high-broken : 7 ≤ kind → kind < 12 → 2 ^ 32 ≤ x → stepOf kind x place ≡ Broken
+    pub high-broken : 7 ≤ kind → kind < 12 → 2 ^ 32 ≤ x → textStepOf kind x place ≡ Broken
     high-broken a b h = go (ℕ-discrete kind 7)
       where
-        go : Dec (kind ≡ 7) → stepOf kind x place ≡ Broken
+        go : Dec (kind ≡ 7) → textStepOf kind x place ≡ Broken
         go (yes e) = member-broken e h
         go (no e) = mark-broken (omega (arith, e)) b (λ q. let z : ⊥ = omega arith in z)
 
   -- a text
-  text-step : kind ≡ 6 → stepOf kind x place ≡ textStep (x % 2 ^ 32) (x / 2 ^ 32) place
-  unfolding stepOf payloadRight
+  text-step : kind ≡ 6 → textStepOf kind x place ≡ textStep (x % 2 ^ 32) (x / 2 ^ 32) place
+  unfolding textStepOf payloadRight
   text-step e = rw e refl
 
   -- a text that begins at the place: the place goes on by its length
-  pub text-here : kind ≡ 6 → x % 2 ^ 32 ≡ place → stepOf kind x place ≡ At (place + x / 2 ^ 32)
+  pub text-here : kind ≡ 6 → x % 2 ^ 32 ≡ place → textStepOf kind x place ≡ At (place + x / 2 ^ 32)
   text-here e h = text-step e ∙ rw (eq-eqb (x % 2 ^ 32) place h) refl
 
   -- a text that begins anywhere else: malformed
-  pub text-elsewhere : kind ≡ 6 → (x % 2 ^ 32 ≡ place → ⊥) → stepOf kind x place ≡ Broken
+  pub text-elsewhere : kind ≡ 6 → (x % 2 ^ 32 ≡ place → ⊥) → textStepOf kind x place ≡ Broken
   text-elsewhere e h = text-step e ∙ rw (ne-eqb (x % 2 ^ 32) place h) refl
 
   -- no kind
-  pub kind-none : 12 ≤ kind → stepOf kind x place ≡ Broken
-  unfolding stepOf payloadRight
+  pub kind-none : 12 ≤ kind → textStepOf kind x place ≡ Broken
+  unfolding textStepOf payloadRight
   kind-none l = rw (List·getD-eq-default (payloadsRight x) false {n = kind} l) refl
 
 -- ---- the first four bytes: the kind, and a number above every kind where one of the three is not zero
 
 module _ (s : List ℕ) (at place : ℕ) (inside : at + 12 ≤ length s) where
   no-zeros : threeZeros s at ≡ false → 12 ≤ wordAt 4 s at
-      → stepAt s at place ≡ stepOf (wordAt 4 s at) (payloadAt s at) place
+      → stepAt s at place ≡ textStepOf (wordAt 4 s at) (payloadAt s at) place
   unfolding isEntry
   no-zeros z l = rw (le-leb (at + 12) (length s) inside, z) (sym (kind-none (wordAt 4 s at) (payloadAt s at) place l))
 
-  head-read : stepAt s at place ≡ stepOf (wordAt 4 s at) (payloadAt s at) place
-  unfolding isEntry threeZeros stepOf
+  head-read : stepAt s at place ≡ textStepOf (wordAt 4 s at) (payloadAt s at) place
+  unfolding isEntry threeZeros textStepOf
   head-read =
       go (ℕ-discrete (getD s (at + 1) 0) 0) (ℕ-discrete (getD s (at + 2) 0) 0) (ℕ-discrete (getD s (at + 3) 0) 0)
     where
       go : Dec (getD s (at + 1) 0 ≡ 0) → Dec (getD s (at + 2) 0 ≡ 0) → Dec (getD s (at + 3) 0 ≡ 0)
-          → stepAt s at place ≡ stepOf (wordAt 4 s at) (payloadAt s at) place
+          → stepAt s at place ≡ textStepOf (wordAt 4 s at) (payloadAt s at) place
       go (no a) d e = no-zeros (simp (ne-eqb _ 0 a)) (omega (arith, word-four s at))
       go (yes a) (no b) e = no-zeros (simp (eq-eqb _ 0 a, ne-eqb _ 0 b)) (omega (arith, word-four s at))
       go (yes a) (yes b) (no d) =
@@ -190,14 +191,15 @@ module _ (s : List ℕ) (at place : ℕ) (inside : at + 12 ≤ length s) where
 
 -- a step by the words that the code loads
 pub words-moved : {place r head low high : ℕ} (s : List ℕ) (at : ℕ) → at + 12 ≤ length s → head ≡ wordAt 4 s at
-    → low ≡ wordAt 4 s (at + 4) → high ≡ wordAt 4 s (at + 8) → Moved place (stepOf head (low + 2 ^ 32 * high) place) r
+    → low ≡ wordAt 4 s (at + 4) → high ≡ wordAt 4 s (at + 8)
+    → Moved place (textStepOf head (low + 2 ^ 32 * high) place) r
     → Moved place (stepAt s at place) r
 words-moved {place} {r} {head} {low} {high} s at inside e f g w =
     let far : at + 4 + 4 ≡ at + 8 = omega arith in
     let both : low + 2 ^ 32 * high ≡ payloadAt s at
     = ap₂ (λ (x y : ℕ). x + 2 ^ 32 * y) f (g ∙ ap (wordAt 4 s) (sym far)) ∙ sym (word-split 4 4 s (at + 4)) in
     subst (λ (step : TextStep). Moved place step r)
-    (ap₂ (λ (k x : ℕ). stepOf k x place) e both ∙ sym (head-read s at place inside)) w
+    (ap₂ (λ (k x : ℕ). textStepOf k x place) e both ∙ sym (head-read s at place inside)) w
 
 -- ---- the loop: what is left
 

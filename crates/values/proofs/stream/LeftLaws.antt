@@ -20,14 +20,14 @@ use Rattle.values.proofs.stream.EntryLaws.{EntryHeld, bool-right, entry
 use Rattle.values.proofs.stream.FormLaws.{EntryStepped, over, still}
 
 -- where an entry's payload stands
-abbrev pub payloadAt : List ℕ → ℕ → ℕ
-payloadAt s k = wordAt 8 s (8 + 12 * k)
+abbrev pub payloadOfEntry : List ℕ → ℕ → ℕ
+payloadOfEntry s k = wordAt 8 s (8 + 12 * k)
 
 -- a text lies among the bodies, where its entry says
 pub record TextThere (s : List ℕ) (k : ℕ) (t : Token) : Type 0 where
-  pub inside : baseIn s + payloadAt s k % 2 ^ 32 + payloadAt s k / 2 ^ 32 ≤ length s
-  pub body : bodyOf t ≡ part s (baseIn s + payloadAt s k % 2 ^ 32) (payloadAt s k / 2 ^ 32)
-  pub long : length (bodyOf t) ≡ payloadAt s k / 2 ^ 32
+  pub inside : baseIn s + payloadOfEntry s k % 2 ^ 32 + payloadOfEntry s k / 2 ^ 32 ≤ length s
+  pub body : bodyOf t ≡ part s (baseIn s + payloadOfEntry s k % 2 ^ 32) (payloadOfEntry s k / 2 ^ 32)
+  pub long : length (bodyOf t) ≡ payloadOfEntry s k / 2 ^ 32
 
 -- entry k is there
 pub record EntryThere (s : List ℕ) (k : ℕ) : Type 0 where
@@ -36,23 +36,23 @@ pub record EntryThere (s : List ℕ) (k : ℕ) : Type 0 where
   pub inside : k < countIn s
   pub kind : kindOf token ≡ getD s (4 + 12 * k) 0
   pub known : kindOf token < 12
-  pub payload : (kindOf token ≡ 6 → ⊥) → payloadOf 0 token ≡ payloadAt s k
-  pub truth : kindOf token ≡ 1 → payloadAt s k < 2
+  pub payload : (kindOf token ≡ 6 → ⊥) → payloadOf 0 token ≡ payloadOfEntry s k
+  pub truth : kindOf token ≡ 1 → payloadOfEntry s k < 2
   pub text : kindOf token ≡ 6 → TextThere s k token
 
 -- what an entry's bytes say of its token
 record TokenIs (s : List ℕ) (k : ℕ) (t : Token) : Type 0 where
   kind : kindOf t ≡ getD s (4 + 12 * k) 0
   known : kindOf t < 12
-  payload : (kindOf t ≡ 6 → ⊥) → payloadOf 0 t ≡ payloadAt s k
-  truth : kindOf t ≡ 1 → payloadAt s k < 2
+  payload : (kindOf t ≡ 6 → ⊥) → payloadOf 0 t ≡ payloadOfEntry s k
+  truth : kindOf t ≡ 1 → payloadOfEntry s k < 2
   text : kindOf t ≡ 6 → TextThere s k t
 
 module _ (s : List ℕ) (k : ℕ) where
   abbrev at : ℕ
   at = 4 + 12 * k
 
-  same : payloadIn s at ≡ payloadAt s k
+  same : payloadIn s at ≡ payloadOfEntry s k
   same = let n : 4 + 12 * k + 4 ≡ 8 + 12 * k = omega arith in ap (wordAt 8 s) n
 
   token-is : (place next : ℕ) → EntryStepped (kindAt s at) (payloadIn s at) place next → baseIn s + next ≤ length s

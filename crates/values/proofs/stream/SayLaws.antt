@@ -32,7 +32,7 @@ use Rattle.values.specs.inside.reading.Walk.{memberBy, rowBy, membersBy,
 use Rattle.values.specs.inside.reading.Walk.{valueOut, bytesBy}
 use Rattle.values.specs.inside.reading.Walkable.{Walkable, WalkableType}
 use Rattle.values.specs.reading.Leaf.{emit, isTrue, leafOf, signed}
-use Rattle.values.specs.reading.Trees.{isString}
+use Rattle.values.specs.reading.Trees.{isStringKind}
 use Rattle.values.specs.stream.Entry.{payloadRight}
 use Rattle.values.specs.stream.Stream.{Token, bool, member, mark, streamBytes, mostBytes}
 use Rattle.values.proofs.stream.DecodeBack.{SaidWell, DecodedBack, decode-back}
@@ -148,7 +148,7 @@ module _ (types members : List ℕ) (rec : ℕ → List ℕ → List Token) (i :
   unfolding structBy membersBy Every payloadRight
   struct-sound image w =
       let row : ℕ → List Token = rowBy types members rec (typeAt types i .first) image in
-      picked (Every SaidWell) (isString (typeAt types i .kind)) _ _ (tt, tt)
+      picked (Every SaidWell) (isStringKind (typeAt types i .kind)) _ _ (tt, tt)
       (every-wrap 8 9 (upTo row (typeAt types i .count)) (refl, (refl, omega arith)) (refl, (refl, omega arith))
       (every-up row (typeAt types i .count)
       (λ k h. member-sound k (memberAt members (typeAt types i .first + k)) image (omega (arith, w .rows, h))

@@ -15,7 +15,7 @@ use Rattle.values.specs.inside.reading.Walk.{structOut}
 use Rattle.values.specs.inside.reading.Walkable.{IsString, Walkable, ImageOf}
 use Rattle.values.specs.inside.stream.Counting.{Texts}
 use Rattle.values.specs.reading.Texts.{textLength, capacityAt}
-use Rattle.values.specs.reading.Trees.{isString}
+use Rattle.values.specs.reading.Trees.{isStringKind}
 use Rattle.values.specs.stream.Stream.{Token, member, bodies}
 use Rattle.values.proofs.reading.LeafLaws.{textless-leaf}
 use Rattle.values.proofs.reading.MemberLaws.{member-leaf}
@@ -174,7 +174,7 @@ module _ {types members : List ℕ} {i room j t : ℕ} {image : List ℕ}
 
 -- a structure that is no string has the texts of its members
 pub members-texts : {types members : List ℕ} {i room r : ℕ} {image : List ℕ} → Walkable types members
-    → ImageOf types i image → isString (typeAt types i .kind) ≡ false
+    → ImageOf types i image → isStringKind (typeAt types i .kind) ≡ false
     → Texts room (membersBy types members (structOut types members) i image) r
     → Texts room (structOut types members i image) r
 unfolding structBy
@@ -184,7 +184,7 @@ members-texts {types} {members} {i} {image = image} w v e h = rw (struct-out typ
 pub record StringAt (types members : List ℕ) (i : ℕ) (image : List ℕ) (first : ℕ) : Type 0 where
   pub tables : Walkable types members
   pub whole : ImageOf types i image
-  pub kind : isString (typeAt types i .kind) ≡ true
+  pub kind : isStringKind (typeAt types i .kind) ≡ true
   pub at : first ≡ typeAt types i .first
 
 module _ {types members : List ℕ} {i first : ℕ} {image : List ℕ} (w : StringAt types members i image first) where

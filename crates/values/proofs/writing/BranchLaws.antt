@@ -20,7 +20,7 @@ use Rattle.values.specs.inside.writing.Rows.{branchesIn, memberTree, tre
 use Rattle.values.specs.reading.Leaf.{str}
 use Rattle.values.specs.reading.Texts.{capacityAt}
 use Rattle.values.specs.reading.Tree.{Tree, leaf, array, struct, Branches}
-use Rattle.values.specs.reading.Trees.{isString, membersAt, knownIn, secondCount, bitTree, seen, structsTree}
+use Rattle.values.specs.reading.Trees.{isStringKind, membersAt, knownIn, secondCount, bitTree, seen, structsTree}
 use Rattle.values.specs.reading.Trees.{valueTree, branchesFrom, structTree, treeWithin, treeOf}
 use Rattle.values.specs.stream.Stream.{Token, payloadOf}
 use Rattle.values.specs.writing.Writing.{bad, write, writeBranch}
@@ -50,7 +50,7 @@ module _ (types members : List ℕ) (f g : ℕ → Tree) (i : ℕ) (same : (s : 
       → structTree f (knownIn types members i) ≡ structTree g (knownIn types members i)
   unfolding structTree knownIn
   struct-same w =
-      ap (λ (bs : Branches). cond (isString (typeAt types i .kind))
+      ap (λ (bs : Branches). cond (isStringKind (typeAt types i .kind))
       (leaf (str (secondCount (membersAt members (typeAt types i .first) (typeAt types i .count)))))
       (struct (8 * typeAt types i .size) bs))
       (rows-same 0 (typeAt types i .first) (typeAt types i .count) (λ k l. w .each k l .earlier))
@@ -75,7 +75,7 @@ module _ (types members : List ℕ) (w : Walkable types members) (i : ℕ) (low 
       (w .each i low)
 
   -- a string's tree is a leaf of its capacity
-  pub string-tree : isString (typeAt types i .kind) ≡ true
+  pub string-tree : isStringKind (typeAt types i .kind) ≡ true
       → treeIn types members i ≡ leaf (str (capacityAt members (typeAt types i .first)))
   unfolding structTree knownIn
   string-tree e =
@@ -83,7 +83,7 @@ module _ (types members : List ℕ) (w : Walkable types members) (i : ℕ) (low 
       ∙ rw (e, capacity-is members (typeAt types i .first) (typeAt types i .count) (w .each i low .string e .rows)) refl
 
   -- the tree of any other structure has its size and its rows' branches
-  pub members-tree : isString (typeAt types i .kind) ≡ false
+  pub members-tree : isStringKind (typeAt types i .kind) ≡ false
       → treeIn types members i ≡ struct (8 * sizesIn types i) (branchesIn types members i)
   unfolding structTree knownIn
   members-tree e = tree-is ∙ rw e refl

@@ -29,7 +29,7 @@ use Rattle.values.specs.writing.Effects.{Effect, keep, put, refuse, payl
 use Rattle.values.specs.writing.Effects.{inRange, whole, taken, orNull, asText}
 use Rattle.values.specs.writing.Writing.{onEffect, writeOne}
 use Rattle.values.specs.declared.writing.limits.Limits.{Limits}
-use Rattle.values.proofs.stream.LeftLaws.{EntryThere, kind-there, payloadAt, there}
+use Rattle.values.proofs.stream.LeftLaws.{EntryThere, kind-there, payloadOfEntry, there}
 use Rattle.values.proofs.writing.StepLaws.{one-missing, one-refused}
 
 -- ---- null
@@ -199,11 +199,11 @@ atomic-judged a t x l e = go (ℕ-discrete (kindOf t) 0)
 
 -- the same of entry k, by what the code reads of it
 pub atomic-here : {s : List ℕ} {k : ℕ} → Bytes s → (a : Atomic) (t : EntryThere s k) {f : Limits} {kind x number : ℕ}
-    → f ≡ limitsOf a → kind ≡ firstKind (leftAt s k) → x ≡ payloadAt s k → number ≡ misfit f kind x
+    → f ≡ limitsOf a → kind ≡ firstKind (leftAt s k) → x ≡ payloadOfEntry s k → number ≡ misfit f kind x
     → Judged (orNull (atomicTakes a) (t .token)) number
 atomic-here {s} {k} bytes a t e g h i =
     rw (i, e, g, kind-there t, h)
-    (atomic-judged a (t .token) (payloadAt s k) (word-below 8 s (8 + 12 * k) bytes) (t .payload))
+    (atomic-judged a (t .token) (payloadOfEntry s k) (word-below 8 s (8 + 12 * k) bytes) (t .payload))
 
 -- the number that the limits say is below 20
 pub misfit-small : (f : Limits) (kind x : ℕ) {number : ℕ} → number ≡ misfit f kind x → number < 20

@@ -27,7 +27,7 @@ use Rattle.values.specs.inside.reading.Walkable.{IsString, NestedRow, Va
 use Rattle.values.specs.inside.writing.Rows.{AllHere, Here, branchesIn, memberTree, treeIn}
 use Rattle.values.specs.reading.Texts.{capacityAt}
 use Rattle.values.specs.reading.Tree.{Tree, array, struct}
-use Rattle.values.specs.reading.Trees.{atomicsTree, isString, knownIn, structsTree, treeOfValue}
+use Rattle.values.specs.reading.Trees.{atomicsTree, isStringKind, knownIn, structsTree, treeOfValue}
 use Rattle.values.specs.stream.Stream.{Token}
 use Rattle.values.specs.writing.Effects.{asText, orNull}
 use Rattle.values.specs.writing.Writing.{write, writeOne}
@@ -38,9 +38,9 @@ use Rattle.values.proofs.writing.BranchLaws.{string-tree, members-tree}
 
 module _ {types members : List ℕ} (w : Walkable types members) {i base : ℕ} {image : List ℕ}
     (here : Here types i base image) {d : StructDef} (is : d ≡ typeAt types i) {b : Bool}
-    (test : b ≡ isString (d .kind)) where
-  kind-is : isString (typeAt types i .kind) ≡ b
-  kind-is = ap (λ (x : StructDef). isString (x .kind)) (sym is) ∙ sym test
+    (test : b ≡ isStringKind (d .kind)) where
+  kind-is : isStringKind (typeAt types i .kind) ≡ b
+  kind-is = ap (λ (x : StructDef). isStringKind (x .kind)) (sym is) ∙ sym test
 
   -- it is its members
   pub rows-write : b ≡ false → (p : ℕ) (ts : List Token) (z : Bits)

@@ -9,7 +9,7 @@ use Rattle.types.specs.layout.HostNames.{hostName}
 use Rattle.types.specs.layout.Placing.{alignUp}
 use Rattle.types.specs.layout.Structs.{rowsOf, stringParts, stringSize}
 use Rattle.types.specs.tables.Defs.{Def}
-use Rattle.types.specs.tables.Lent.{bitOf, kindOf, memberAt, memberRow, tyOf, typeAt, typeRow}
+use Rattle.types.specs.tables.Lent.{bitOfWord, kindOfWord, memberAt, memberRow, tyOfWord, typeAt, typeRow}
 use Rattle.types.specs.tables.Registry.{memberRows, typeRows}
 use Rattle.types.specs.declared.atomics.atomic.Atomic.the-variants.{Int}
 use Rattle.types.specs.declared.layout.placing.Decl.{Decl}
@@ -62,5 +62,5 @@ membersOf d = memberRows 0 (d ∷ [])
 
 -- what values ask of the type, read from its rows
 unfoldable pub knownOf : Def → ℕ → KnownStruct
-unfolding knownIn membersAt memberAt typeAt tyOf bitOf kindOf atomicAt typesOf membersOf chanDef string82Def
+unfolding knownIn membersAt memberAt typeAt tyOfWord bitOfWord kindOfWord atomicAt typesOf membersOf chanDef string82Def
 knownOf d i = knownIn (typesOf d) (membersOf d) i

@@ -15,7 +15,7 @@ use Rattle.types.specs.tables.There.{isThere}
 use Rattle.types.specs.declared.tables.member.Ty.{Ty}
 use Rattle.types.specs.declared.tables.member.Ty.the-variants as ty
 use Rattle.values.specs.reading.Leaf.{clipped}
-use Rattle.values.specs.reading.Trees.{isString}
+use Rattle.values.specs.reading.Trees.{isStringKind}
 
 -- min(LEN, capacity)
 abbrev pub textLength : ℕ → List ℕ → ℕ
@@ -32,7 +32,7 @@ capacityAt members first = memberAt members (first + 1) .count
 -- the number for structure i and an image of so many bytes
 unfoldable pub stringNumber : List ℕ → ℕ → ℕ → ℕ
 stringNumber types i long =
-    cond (isString (typeAt types i .kind)) (cond (eqb long (sizesIn types i)) 0 14) 15
+    cond (isStringKind (typeAt types i .kind)) (cond (eqb long (sizesIn types i)) 0 14) 15
 
 -- an atomic is no string type
 abbrev pub typeNumber : List ℕ → Ty → ℕ → ℕ

@@ -45,11 +45,11 @@ secondCount [] = 0
 secondCount (len ∷ []) = 0
 secondCount (len ∷ chars ∷ rest) = chars .count
 
-abbrev pub isString : StructKind → Bool
-isString Str = true
-isString Udt = false
-isString Predefined = false
-isString Aoi = false
+abbrev pub isStringKind : StructKind → Bool
+isStringKind Str = true
+isStringKind Udt = false
+isStringKind Predefined = false
+isStringKind Aoi = false
 
 -- an atomic, or n of them where n is not 0: bit strings give one array of all their bits
 unfoldable pub atomicsTree : Atomic → ℕ → Tree
@@ -85,7 +85,7 @@ module _ (rec : ℕ → Tree) where
   -- a string is a leaf
   unfoldable pub structTree : KnownStruct → Tree
   structTree s =
-      cond (isString (s .kind)) (leaf (str (secondCount (s .members))))
+      cond (isStringKind (s .kind)) (leaf (str (secondCount (s .members))))
       (struct (8 * s .size) (branchesFrom 0 (s .members)))
 
 -- nested at most so deep

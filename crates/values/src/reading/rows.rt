@@ -8,7 +8,7 @@ ghost use Rattle.types.specs.tables.Sizes.{sizesIn};
 ghost use Rattle.values.specs.inside.normal_image.InPlace.{isPlain};
 ghost use Rattle.values.specs.inside.reading.Walk.{isNested};
 ghost use Rattle.values.specs.reading.Texts.{capacityAt};
-ghost use Rattle.values.specs.reading.Trees.{isString};
+ghost use Rattle.values.specs.reading.Trees.{isStringKind};
 use types::Bit;
 use types::MemberTable;
 use types::StructKind;
@@ -38,7 +38,7 @@ pub fn struct_size(types: &TypeTable, i: usize) -> usize
 }
 
 pub fn is_string(kind: StructKind) -> bool
-    ensures { λ r. ⌜ r ≡ isString kind ⌝ }
+    ensures { λ r. ⌜ r ≡ isStringKind kind ⌝ }
 {
     match kind {
         StructKind::Udt => false,

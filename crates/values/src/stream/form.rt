@@ -3,7 +3,7 @@
 ghost use mathlib.Core.Path.{_≡_};
 ghost use Prim.Native.Nat.{_+_, _*_, _^_, _≤_};
 ghost use lib.ListN.{length};
-ghost use Rattle.values.specs.inside.stream.Steps.{Moved, mostOf, stepOf};
+ghost use Rattle.values.specs.inside.stream.Steps.{Moved, mostOf, textStepOf};
 ghost use Rattle.values.specs.stream.Form.{formed, streamOk};
 ghost use Rattle.values.specs.stream.Stream.{mostBytes};
 use crate::stream::kinds;
@@ -55,7 +55,7 @@ fn most_of(kind: u32) -> u64
 // ended.
 fn other_place(head: u32, x: u64, place: usize) -> usize
     requires { ⌜ place ≤ 1152921504606846976 ⌝ }
-    ensures { λ r. ⌜ Moved place (stepOf head x place) r ⌝ }
+    ensures { λ r. ⌜ Moved place (textStepOf head x place) r ⌝ }
 {
     if NO_KIND <= head {
         return NOWHERE;
@@ -77,7 +77,7 @@ fn other_place(head: u32, x: u64, place: usize) -> usize
 // since these kinds need no more than a look at each.
 fn next_place(head: u32, low: u32, high: u32, place: usize) -> usize
     requires { ⌜ place ≤ 1152921504606846976 ⌝ }
-    ensures { λ r. ⌜ Moved place (stepOf head (low + 2 ^ 32 * high) place) r ⌝ }
+    ensures { λ r. ⌜ Moved place (textStepOf head (low + 2 ^ 32 * high) place) r ⌝ }
 {
     if head == SIGNED {
         return place;

@@ -43,11 +43,11 @@ module _ {types book tys : List ℕ} {at n count j : ℕ} (c : CountingBools typ
       }
 
   -- the j-th member adds one to the count where it is a BOOL, else nothing
-  pub count-on : j < n → (d : Decl) (b : Bool) → d ≡ declAt types book tys at j → b ≡ isBool (d .ty) → {r : ℕ}
+  pub count-on : j < n → {d : Decl} {b : Bool} → d ≡ declAt types book tys at j → b ≡ isBool (d .ty) → {r : ℕ}
       → OneIf b r
       → CountingBools types book tys at n (count + r) (j + 1)
   unfolding bools
-  count-on l d b e f {r} o =
+  count-on l {d} {b} e f {r} o =
       let g : r ≡ cond (isBool (declAt types book tys at j .ty)) 1 0 =
       o .is ∙ ap (λ (x : Bool). cond x 1 0) (f ∙ ap (λ (x : Decl). isBool (x .ty)) e) in
       record {

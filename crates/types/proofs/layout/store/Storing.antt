@@ -23,8 +23,8 @@ use Rattle.types.specs.declared.layout.placing.Cursor.{Cursor}
 use Rattle.types.specs.declared.layout.placing.Decl.{Decl}
 use Rattle.types.specs.declared.layout.placing.Placed.{Placed}
 use Rattle.types.specs.declared.layout.placing.Placed.the-variants.{Hosted, One, AccessWrong, TooFar}
-use Rattle.types.specs.declared.layout.store.Stored.{Stored}
-use Rattle.types.specs.declared.layout.store.Stored.the-variants.{Next, Stop}
+use Rattle.types.specs.declared.layout.store.StoreNext.{StoreNext}
+use Rattle.types.specs.declared.layout.store.StoreNext.the-variants.{Next, Stop}
 use Rattle.types.proofs.book.DeclLaws.{decls-cons, decls-none, found-first, decl-fair, decl-ty}
 use Rattle.types.proofs.layout.DigitLaws.{host-most}
 use Rattle.types.proofs.layout.MeasureLaws.{far-on, near}
@@ -193,7 +193,7 @@ module _ {types book tys type m₀ t₀ m t : List ℕ} {at n row₀ place₀ ro
           );
         }
 
-    module _ (one : Stored) (e : one ≡ storedOne type c d row place) where
+    module _ (one : StoreNext) (e : one ≡ storedOne type c d row place) where
       stopped : one ≡ Stop → partsFrom (namedIn book) (hostName type) c (declsFrom types book tys at j (n - j)) ≡ []
       unfolding storedOne
       stopped q = split ∙ stops (placed c d) _ _ _ _ rest row place (sym e ∙ q)

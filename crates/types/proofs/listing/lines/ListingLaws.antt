@@ -11,8 +11,8 @@ use Rattle.words.proofs.Lists.{sets-append, drop-set, part-most}
 use Rattle.types.specs.atomics.Atomic.{nameOf}
 use Rattle.types.specs.inside.listing.Lines.{Short, StructNamed, TypeNamed, Listable, FieldFits, FieldPut, Lined}
 use Rattle.types.specs.layout.HostNames.{digits}
-use Rattle.types.specs.listing.Lines.{ended, line, typeWord, typeNumbers, typeLine, seen, bitText, memberPlace}
-use Rattle.types.specs.listing.Lines.{memberLine, refusedWord, refusedLine, printedType, structNames}
+use Rattle.types.specs.listing.Lines.{ended, line, typeWord, typeNumbers, typeLine, seenLetter, bitText}
+use Rattle.types.specs.listing.Lines.{memberPlace, memberLine, refusedWord, refusedLine, printedType, structNames}
 use Rattle.types.specs.tables.Defs.{nameIn}
 use Rattle.types.specs.tables.Lent.{memberAt, nameAt}
 use Rattle.types.specs.declared.atomics.atomic.Atomic.{Atomic as AtomicType}
@@ -116,7 +116,7 @@ bit-20 : (b : Bit) → length (bitText b) ≤ 20
 bit-20 None = omega arith
 bit-20 (At k) = digits-20 k
 
-seen-1 : (b : Bool) → length (seen b) ≡ 1
+seen-1 : (b : Bool) → length (seenLetter b) ≡ 1
 seen-1 true = refl
 seen-1 false = refl
 
@@ -181,7 +181,7 @@ module _ (types names : List ℕ) (number : ℕ) (m : Member) (name : Span) wher
   -- the fields of a member's line: its number, hidden or visible, its type, and its place with its name
   abbrev pub memberFields : List (List ℕ)
   memberFields =
-      digits number ∷ seen (m .hidden) ∷ printedType (structNames types names) (m .ty)
+      digits number ∷ seenLetter (m .hidden) ∷ printedType (structNames types names) (m .ty)
       ∷ memberPlace m (nameIn names name)
 
   pub member-left : {out : List ℕ} → TypeNamed types (m .ty) → Short name → 512 ≤ length out

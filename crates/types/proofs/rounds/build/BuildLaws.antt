@@ -150,7 +150,7 @@ module _ {book tys₀ f₀ k₀ r₀ t m n tys f k r : List ℕ} {start : List D
           let o = g .outer in
           record {
             const = const-kept (g .const) kept;
-            outer = outer-next o l (goes .is) (reached-round _ _ (o .reached) (goes .is)) (goes .stands)
+            outer = outer-next o l (goes .is) (reached-round _ (o .reached) (goes .is)) (goes .stands)
                 (goes .count) (rw kept-f (o .flags)) (going-less q);
             words = kept ∙ g .words;
             flags = kept-f ∙ g .flags;

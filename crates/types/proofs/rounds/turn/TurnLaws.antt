@@ -25,7 +25,7 @@ use Rattle.types.specs.rounds.Order.{allKnown}
 use Rattle.types.specs.rounds.Resolve.{typeName, typeNames, isFound, hasName}
 use Rattle.types.specs.rounds.Turns.{countOf, thenDecl, declsOf}
 use Rattle.types.specs.tables.Defs.{nameIn}
-use Rattle.types.specs.tables.Lent.{tyWord, tyOf}
+use Rattle.types.specs.tables.Lent.{tyWord, tyOfWord}
 use Rattle.types.specs.tables.Registry.{View, sizeAt}
 use Rattle.types.specs.tables.Sizes.{sizesIn}
 use Rattle.types.specs.declared.adding.progress.Progress.{Progress}
@@ -67,9 +67,9 @@ known-one : (known : List (List ℕ)) (s : List ℕ) (f : FoundTy) (b : Bool) �
 known-one known s (Is ty) b e q = record { ty = ty; is = e }
 known-one known s Nothing b e q = absurd (true≢false (sym q))
 
-known-rest : (f : FoundTy) (b : Bool) → (isFound f && b) ≡ true → b ≡ true
-known-rest (Is ty) b q = q
-known-rest Nothing b q = absurd (true≢false (sym q))
+known-rest : (f : FoundTy) {b : Bool} → (isFound f && b) ≡ true → b ≡ true
+known-rest (Is ty) {b} q = q
+known-rest Nothing {b} q = absurd (true≢false (sym q))
 
 module _ (known : List (List ℕ)) (f : ℕ → List ℕ) where
   -- the first word, and a later one
@@ -91,7 +91,7 @@ module _ (known : List (List ℕ)) (f : ℕ → List ℕ) where
   words-at j (suc n) a zero l = first-word j n (known-one known (f j) (typeAmong known (f j)) _ refl a)
   words-at j (suc n) a (suc k) l =
       later-word j n k (known-one known (f j) (typeAmong known (f j)) _ refl a)
-      (words-at (j + 1) n (known-rest (typeAmong known (f j)) _ a) k (omega arith))
+      (words-at (j + 1) n (known-rest (typeAmong known (f j)) a) k (omega arith))
 
   words-long : (j n : ℕ) → allKnown hasName known (listFrom f j n) ≡ true
       → length (foundWords known (listFrom f j n)) ≡ n
@@ -99,7 +99,7 @@ module _ (known : List (List ℕ)) (f : ℕ → List ℕ) where
   words-long j zero a = refl
   words-long j (suc n) a =
       let w = known-one known (f j) (typeAmong known (f j)) _ refl a in
-      rw (w .is) (ap suc (words-long (j + 1) n (known-rest (typeAmong known (f j)) _ a)))
+      rw (w .is) (ap suc (words-long (j + 1) n (known-rest (typeAmong known (f j)) a)))
 
 -- ---- the scratch after a turn's search
 
@@ -115,7 +115,7 @@ module _ (types names book tys : List ℕ) (u : Used) (at n : ℕ) where
 
   module _ (a : allKnown hasName (view .names) uses ≡ true) (l : n ≤ length tys) where
     word-at : (k : ℕ) → k < n
-        → (w : KnownName (view .names) (typeName book at k)) × (tyOf (getD scratch k 0) ≡ w .ty)
+        → (w : KnownName (view .names) (typeName book at k)) × (tyOfWord (getD scratch k 0) ≡ w .ty)
     word-at k h =
         let long = words-long (view .names) (typeName book at) 0 n a in
         let r : (w : KnownName (view .names) (typeName book at k))
@@ -125,13 +125,13 @@ module _ (types names book tys : List ℕ) (u : Used) (at n : ℕ) where
         = rw zero-add at (getD-sets tys 0 (foundWords (view .names) uses) k 0 (omega (arith, long)) (omega
         (arith, long)))
         in
-        (r .0, ap tyOf (s ∙ r .1) ∙ ty-back (r .0 .ty))
+        (r .0, ap tyOfWord (s ∙ r .1) ∙ ty-back (r .0 .ty))
 
     names-long : length (view .names) ≡ u .types
     unfolding viewIn
     names-long = length-list (rowName types names) 0 (u .types)
 
-    word-earlier : (k : ℕ) → k < n → Earlier (u .types) (tyOf (getD scratch k 0))
+    word-earlier : (k : ℕ) → k < n → Earlier (u .types) (tyOfWord (getD scratch k 0))
     word-earlier k h =
         let r = word-at k h in
         rw (r .1) (rw names-long at (found-earlier (view .names) (typeName book at k) (r .0 .ty) (r .0 .is)))
@@ -157,10 +157,10 @@ module _ (types names book tys : List ℕ) (u : Used) (at n : ℕ) where
     decls-from j zero h = refl
     decls-from j (suc m) h = go (word-at j (omega arith)) (decls-from (j + 1) m (omega arith))
       where
-        go : ((w : KnownName (view .names) (typeName book at j)) × (tyOf (getD scratch j 0) ≡ w .ty))
+        go : ((w : KnownName (view .names) (typeName book at j)) × (tyOfWord (getD scratch j 0) ≡ w .ty))
             → declsFrom types book scratch at (j + 1) m ≡ declsOf view book (entriesFrom book at (j + 1) m)
             → _≡_ {A = List Decl}
-            (declared (sizesIn types) (tyOf (getD scratch j 0)) (entryOf book at j)
+            (declared (sizesIn types) (tyOfWord (getD scratch j 0)) (entryOf book at j)
             ∷ declsFrom types book scratch at (j + 1) m)
             (thenDecl (typeAmong (view .names) (typeName book at j)) (λ ty. declared (sizeAt view) ty
             (entryOf book at j))

@@ -6,19 +6,19 @@ use lib.ListN.{length, List·getD-eq-default}
 use Rattle.words.proofs.Lists.{getD-past}
 use Rattle.types.specs.atomics.Atomic.{atomicAt}
 use Rattle.types.specs.inside.tables.Lent.{noMember, noName, noType}
-use Rattle.types.specs.tables.Lent.{bitOf, kindOf, memberAt, nameAt, tyOf, typeAt}
+use Rattle.types.specs.tables.Lent.{bitOfWord, kindOfWord, memberAt, nameAt, tyOfWord, typeAt}
 
 module _ (t : List ℕ) (i : ℕ) (past : length t ≤ 8 * i) where
   -- the structure of such a row is that of a row of zeros
   pub type-past : noType ≡ typeAt t i
-  unfolding typeAt kindOf
+  unfolding typeAt kindOfWord
   type-past =
       let word = getD-past t (8 * i) past in
       rw (List·getD-eq-default t 0 past, word 1, word 2, word 3, word 4, word 5, word 6, word 7)
 
   -- the member of such a row is that of a row of zeros
   pub member-past : noMember ≡ memberAt t i
-  unfolding memberAt tyOf bitOf atomicAt
+  unfolding memberAt tyOfWord bitOfWord atomicAt
   member-past = let word = getD-past t (8 * i) past in rw (word 2, word 3, word 4, word 5, word 6, word 7)
 
   -- the name of such a row is at place 0 and has length 0

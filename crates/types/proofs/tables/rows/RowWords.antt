@@ -12,8 +12,9 @@ use lib.Dec.{eqb, ltb}
 use lib.ListN.{getD, List·getD-map}
 use Rattle.types.specs.atomics.Atomic.{atomics, atomicAt, numOf}
 use Rattle.types.specs.rounds.Turns.{upFrom}
-use Rattle.types.specs.tables.Lent.{bitOf, bitRead, bitWord, flagsOf, kindOf, kindRead, kindWord, memberAt}
-use Rattle.types.specs.tables.Lent.{memberSaid, memberSays, tyOf, tyRead, tyWord, typeAt, typeRow, typeSaid}
+use Rattle.types.specs.tables.Lent.{bitOfWord, bitRead, bitWord, flagsOf, kindOfWord, kindRead, kindWord}
+use Rattle.types.specs.tables.Lent.{memberAt, memberSaid, memberSays, tyOfWord, tyRead, tyWord, typeAt, typeRow}
+use Rattle.types.specs.tables.Lent.{typeSaid}
 use Rattle.types.specs.declared.atomics.atomic.Atomic.the-variants.{Bool as BOOL}
 use Rattle.types.specs.declared.tables.member.Bit.{Bit}
 use Rattle.types.specs.declared.tables.member.Bit.the-variants.{None, At}
@@ -42,8 +43,8 @@ num-at w h =
     let e : getD (upFrom 0 15) w 0 ≡ 0 + w = nth-up 0 15 w h in
     sym (List·getD-map numOf atomics w BOOL) ∙ e ∙ omega arith
 
-ty-said : (w : ℕ) → tyWord (tyOf w) ≡ tyRead w
-unfolding tyOf tyRead
+ty-said : (w : ℕ) → tyWord (tyOfWord w) ≡ tyRead w
+unfolding tyOfWord tyRead
 ty-said w = go (decLt w 0x8000) (decLt w 15)
   where
     go : Dec (w < 0x8000) → Dec (w < 15) → tyWord (cond (ltb w 0x8000) (Atomic (atomicAt w)) (Struct (w - 0x8000)))
@@ -56,26 +57,26 @@ ty-said w = go (decLt w 0x8000) (decLt w 15)
         let c : 0x8000 ≤ w = omega (arith, a) in
         rw (le-ltb w 0x8000 c) (omega arith)
 
-bit-said : (w : ℕ) → bitWord (bitOf w) ≡ bitRead w
-unfolding bitOf bitRead
+bit-said : (w : ℕ) → bitWord (bitOfWord w) ≡ bitRead w
+unfolding bitOfWord bitRead
 bit-said w = go (eqb w 0)
   where
     go : (b : Bool) → bitWord (cond b None (At ((w - 1) % 8))) ≡ cond b 0 ((w - 1) % 8 + 1)
     go true = refl
     go false = refl
 
-kind-said : (w : ℕ) → kindWord (kindOf w) ≡ kindRead w
-unfolding kindOf kindRead
+kind-said : (w : ℕ) → kindWord (kindOfWord w) ≡ kindRead w
+unfolding kindOfWord kindRead
 kind-said w = go (decLt w 4)
   where
-    small : (v : ℕ) → v < 4 → kindWord (kindOf v) ≡ v
+    small : (v : ℕ) → v < 4 → kindWord (kindOfWord v) ≡ v
     small zero h = refl
     small (suc zero) h = refl
     small (suc (suc zero)) h = refl
     small (suc (suc (suc zero))) h = refl
     small (suc (suc (suc (suc v)))) h = absurd (let z : ⊥ = omega arith in z)
 
-    go : Dec (w < 4) → kindWord (kindOf w) ≡ cond (ltb w 4) w 0
+    go : Dec (w < 4) → kindWord (kindOfWord w) ≡ cond (ltb w 4) w 0
     go (yes a) = rw (lt-ltb w 4 a) (small w a)
     go (no a) =
         let one = ne-eqb w 1 (λ e. a (omega arith)) in
@@ -140,7 +141,7 @@ member-same m n e =
     let count : m .count ≡ n .count = cc in
     let offset : m .offset ≡ n .offset = cc in
     let access : m .access ≡ n .access = cc in
-    let ty : m .ty ≡ n .ty = sym (ty-back (m .ty)) ∙ ap tyOf words ∙ ty-back (n .ty) in
+    let ty : m .ty ≡ n .ty = sym (ty-back (m .ty)) ∙ ap tyOfWord words ∙ ty-back (n .ty) in
     let bit = bit-same (m .bit) (n .bit) bits in
     let hidden : m .hidden ≡ n .hidden = sym (hidden-back (m .hidden) (m .local))
     ∙ ap (λ (w : ℕ). eqb (w % 2) 1) flags ∙ hidden-back (n .hidden) (n .local) in
@@ -179,7 +180,7 @@ type-same d e q =
     let size : d .size ≡ e .size = cc in
     let first : d .first ≡ e .first = cc in
     let count : d .count ≡ e .count = cc in
-    let kind : d .kind ≡ e .kind = sym (kind-back (d .kind)) ∙ ap kindOf words ∙ kind-back (e .kind) in
+    let kind : d .kind ≡ e .kind = sym (kind-back (d .kind)) ∙ ap kindOfWord words ∙ kind-back (e .kind) in
     let made : structOf (d .name .at) (d .name .long) (d .id) (d .handle) (d .size) (d .kind) (d .first) (d .count)
     ≡ structOf (e .name .at) (e .name .long) (e .id) (e .handle) (e .size) (e .kind) (e .first) (e .count) = cc in
     sym (struct-eta d) ∙ made ∙ struct-eta e

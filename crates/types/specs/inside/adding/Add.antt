@@ -13,7 +13,7 @@ use Rattle.types.specs.inside.tables.Registry.{usedMore}
 use Rattle.types.specs.layout.Laid.{Earlier}
 use Rattle.types.specs.layout.Structs.{rowsOf}
 use Rattle.types.specs.refusals.Said.{Why, whyOf}
-use Rattle.types.specs.tables.Lent.{typeRow, tyOf}
+use Rattle.types.specs.tables.Lent.{typeRow, tyOfWord}
 use Rattle.types.specs.tables.Limits.{mostTypes, mostMembers, mostNames, memberWords}
 use Rattle.types.specs.tables.Registry.{ownNames, headOf}
 use Rattle.types.specs.declared.adding.progress.Progress.{Progress}
@@ -73,7 +73,7 @@ pub record Declared (book tys : List ℕ) (known at n : ℕ) : Type 0 where
   pub inside : EntriesInside book at n
   pub few : n ≤ 65536
   pub room : n ≤ length tys
-  pub earlier : (k : ℕ) → k < n → Earlier known (tyOf (getD tys k 0))
+  pub earlier : (k : ℕ) → k < n → Earlier known (tyOfWord (getD tys k 0))
 
 -- all of it, with tables of their length
 pub record AddableEntry (types members names book tys : List ℕ) (u : Used) (at n : ℕ) : Type 0 where

@@ -23,8 +23,8 @@ use Rattle.types.specs.declared.layout.placing.Cursor.{Cursor}
 use Rattle.types.specs.declared.layout.placing.Decl.{Decl}
 use Rattle.types.specs.declared.layout.placing.Placed.{Placed}
 use Rattle.types.specs.declared.layout.placing.Placed.the-variants.{Hosted, One, AccessWrong, TooFar}
-use Rattle.types.specs.declared.layout.store.Stored.{Stored}
-use Rattle.types.specs.declared.layout.store.Stored.the-variants.{Next, Stop}
+use Rattle.types.specs.declared.layout.store.StoreNext.{StoreNext}
+use Rattle.types.specs.declared.layout.store.StoreNext.the-variants.{Next, Stop}
 
 -- ---- the parts, and how far they come
 
@@ -111,13 +111,13 @@ unfoldable pub oneParts : List ℕ → List ℕ → Cursor → Decl → List Par
 oneParts book type c d = thenParts (placed c d) (hostName type (c .members)) (nameIn book (d .name)) (λ c′. [])
 
 -- where the next member goes: the cursor, the row, and the place of its name
-abbrev pub thenNext : Placed → ℕ → ℕ → ℕ → ℕ → Stored
+abbrev pub thenNext : Placed → ℕ → ℕ → ℕ → ℕ → StoreNext
 thenNext (Hosted h m c) host name row at = Next c (row + 2) (at + host + name)
 thenNext (One m c) host name row at = Next c (row + 1) (at + name)
 thenNext AccessWrong host name row at = Stop
 thenNext TooFar host name row at = Stop
 
-unfoldable pub storedOne : List ℕ → Cursor → Decl → ℕ → ℕ → Stored
+unfoldable pub storedOne : List ℕ → Cursor → Decl → ℕ → ℕ → StoreNext
 storedOne type c d row at = thenNext (placed c d) (length (hostName type (c .members))) (d .name .long) row at
 
 -- what one declared member's parts ask of the book and the tables

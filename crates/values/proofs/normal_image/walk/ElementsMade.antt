@@ -25,9 +25,9 @@ elementsMade n tree p x = eachMade n (made tree) (span tree) p x
 
 -- elements of no bytes have no bit
 pub elements-none : {types members : List ℕ} {i size : ℕ} (count : ℕ) → Sweepable types members → i < mostTypes
-    → size ≡ sizesIn types i → size ≡ 0 → (p : ℕ) (x : Bits) → x ≡ made (array count (treeIn types members i)) p x
+    → size ≡ sizesIn types i → size ≡ 0 → (p : ℕ) {x : Bits} → x ≡ made (array count (treeIn types members i)) p x
 unfolding span
-elements-none {types} {members} {i} count s low z n p x =
+elements-none {types} {members} {i} count s low z n p {x} =
     fun-ext (λ k. sym (made-beside (array count tree) p x k
     (not-inside p (count * span tree) k (λ a b. omega (arith, all)))))
   where

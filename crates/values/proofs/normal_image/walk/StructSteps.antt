@@ -20,7 +20,7 @@ use Rattle.values.specs.inside.writing.Rows.{Here, treeIn}
 use Rattle.values.specs.reading.Leaf.{str}
 use Rattle.values.specs.reading.Texts.{capacityAt}
 use Rattle.values.specs.reading.Tree.{Tree, leaf}
-use Rattle.values.specs.reading.Trees.{isString, membersAt}
+use Rattle.values.specs.reading.Trees.{isStringKind, membersAt}
 use Rattle.values.proofs.normal_image.SweepableLaws.{sweepable-branches, sweepable-rows, sweepable-walkable}
 use Rattle.values.proofs.normal_image.walk.FlagLaws.{same-rows}
 use Rattle.values.proofs.normal_image.walk.StructMade.{struct-made}
@@ -42,9 +42,9 @@ module _ {types members : List ℕ} (s : Sweepable types members) {i base : ℕ}
 
     -- ---- a string
 
-    module _ {b : Bool} (test : b ≡ isString (d .kind)) (string : b ≡ true) where
-      kind-is : isString (typeAt types i .kind) ≡ true
-      kind-is = ap (λ (x : StructDef). isString (x .kind)) (sym is) ∙ sym test ∙ string
+    module _ {b : Bool} (test : b ≡ isStringKind (d .kind)) (string : b ≡ true) where
+      kind-is : isStringKind (typeAt types i .kind) ≡ true
+      kind-is = ap (λ (x : StructDef). isStringKind (x .kind)) (sym is) ∙ sym test ∙ string
 
       type-string : IsString members (typeAt types i)
       type-string = walkable .each i (here .low) .string kind-is
@@ -84,7 +84,7 @@ module _ {types members : List ℕ} (s : Sweepable types members) {i base : ℕ}
       rows-few = omega (arith, count-is, walkable .each i (here .low) .rows)
 
       -- BOOLs kept, plain members swept and BOOLs put back are the structure made normal
-      pub members-made : {b : Bool} → b ≡ isString (d .kind) → b ≡ false → {kept clean new : Bits}
+      pub members-made : {b : Bool} → b ≡ isStringKind (d .kind) → b ≡ false → {kept clean new : Bits}
           → ((k : ℕ) → k < count → isFlag (memberAt members (first + k)) ≡ true
           → kept k ≡ flat image (8 * base + firstBit (memberAt members (first + k))))
           → clean
@@ -93,8 +93,8 @@ module _ {types members : List ℕ} (s : Sweepable types members) {i base : ℕ}
           → new ≡ flagged kept (8 * base) 0 (membersAt members first count) clean
           → new ≡ made (treeIn types members i) (8 * base) (flat image)
       members-made test e {kept} keeps sweeps puts =
-          let kind : isString (typeAt types i .kind) ≡ false
-          = ap (λ (x : StructDef). isString (x .kind)) (sym is) ∙ sym test ∙ e in
+          let kind : isStringKind (typeAt types i .kind) ≡ false
+          = ap (λ (x : StructDef). isStringKind (x .kind)) (sym is) ∙ sym test ∙ e in
           let ms : List Member = membersAt members (typeAt types i .first) (typeAt types i .count) in
           puts ∙ ap₂ (flagged kept (8 * base) 0) members-are sweeps
           ∙ struct-made (treeIn types members) (8 * base) (8 * sizesIn types i) ms (s .stairs i (here .low))

@@ -78,8 +78,8 @@ pub record FirstBytes (s first : List ℕ) (at : ℕ) (out : List ℕ) (p i : �
   pub put : EntriesPut first at (upTo (bitToken s) (8 * i)) out p
 
 -- before the first byte nothing is put
-pub no-byte : (s out : List ℕ) (at : ℕ) → FirstBytes s out at out at 0
-no-byte s out at =
+pub no-byte : {s out : List ℕ} {at : ℕ} → FirstBytes s out at out at 0
+no-byte {s} {out} {at} =
     record { inside = omega arith; next = omega arith; long = refl; put = unfold upTo in put-none out at }
 
 -- the eight bits of the next byte are put: one byte more

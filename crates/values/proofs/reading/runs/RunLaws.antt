@@ -108,11 +108,12 @@ module _ {a : Atomic} {f : Form} {w n : ℕ} {s : List ℕ} (e : f ≡ formOf a)
 -- ---- BOOLs, a byte each
 
 -- the entry of BOOL k: true where its byte is not 0
-abbrev pub truths : List ℕ → ℕ → Token
-truths s k = bool (isTrue (getD s k 0))
+abbrev pub truthTokens : List ℕ → ℕ → Token
+truthTokens s k = bool (isTrue (getD s k 0))
 
 -- all BOOLs are put: the elements of the array
-pub truths-done : (s : List ℕ) {n at p i : ℕ} {first out : List ℕ} → Bytes s → NumbersRun (truths s) n first at out p i
+pub truths-done : (s : List ℕ) {n at p i : ℕ} {first out : List ℕ} → Bytes s
+    → NumbersRun (truthTokens s) n first at out p i
     → n ≤ i → EntriesPut first at (upTo (elementOut atomic.Bool s) n) out p
 unfolding sizeOf
 truths-done s b v l =

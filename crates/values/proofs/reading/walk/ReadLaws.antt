@@ -19,7 +19,7 @@ use Rattle.values.specs.inside.reading.Walk.{memberBy, rowBy, membersBy,
 use Rattle.values.specs.inside.reading.Walkable.{IsString, Walkable, RowOf, NestedRow, ImageOf, ImagesOf}
 use Rattle.values.specs.inside.stream.Laying.{EntriesPut, StreamRoom, TokensLaid}
 use Rattle.values.specs.reading.Texts.{capacityAt}
-use Rattle.values.specs.reading.Trees.{isString}
+use Rattle.values.specs.reading.Trees.{isStringKind}
 use Rattle.values.specs.stream.Stream.{Token, member, entryBytes}
 use Rattle.values.specs.declared.stream.place.Place.{Place}
 use Rattle.values.proofs.reading.LeafLaws.{textless-leaf}
@@ -34,7 +34,7 @@ use Rattle.values.proofs.stream.PutLaws.{put-wrote}
 -- ---- a structure, where d was read from its row
 
 module _ {types members : List ℕ} (w : Walkable types members) {i : ℕ} {image : List ℕ} (whole : ImageOf types i image)
-    {d : StructDef} (is : d ≡ typeAt types i) {b : Bool} (test : b ≡ isString (d .kind)) where
+    {d : StructDef} (is : d ≡ typeAt types i) {b : Bool} (test : b ≡ isStringKind (d .kind)) where
   struct-is : structOut types members i image
       ≡ cond b (textOut (capacityAt members (d .first)) image)
       (membersBy types members (structOut types members) i image)
@@ -49,7 +49,7 @@ module _ {types members : List ℕ} (w : Walkable types members) {i : ℕ} {imag
   module _ (string : b ≡ true) {first : ℕ} (p : first ≡ d .first) where
     type-string : IsString members (typeAt types i)
     type-string =
-        w .each i (whole .low) .string (ap (λ (x : StructDef). isString (x .kind)) (sym is) ∙ sym test ∙ string)
+        w .each i (whole .low) .string (ap (λ (x : StructDef). isStringKind (x .kind)) (sym is) ∙ sym test ∙ string)
 
     first-is : first ≡ typeAt types i .first
     first-is = p ∙ ap (λ (x : StructDef). x .first) is

@@ -21,7 +21,7 @@ use Rattle.values.specs.stream.Form.{countIn, streamOk}
 use Rattle.values.specs.stream.Stream.{Token, kindOf, payloadOf}
 use Rattle.values.specs.writing.Writing.{Outcome, andThen, opened, membersIn, write, writeBranch}
 use Rattle.values.proofs.reading.MemberLaws.{row-of}
-use Rattle.values.proofs.stream.LeftLaws.{EntryThere, few-entries, left-long, payloadAt, kind-there}
+use Rattle.values.proofs.stream.LeftLaws.{EntryThere, few-entries, left-long, payloadOfEntry, kind-there}
 use Rattle.values.proofs.writing.ApplyLaws.{Setting, accepted-as, accepted-first, applied-as, not-accepted}
 use Rattle.values.proofs.writing.ApplyLaws.{setting-from, setting-on, setting-then, opened-there, opened-kept}
 use Rattle.values.proofs.writing.ApplyLaws.{opened-set, members-there, members-closed, members-seven}
@@ -174,7 +174,7 @@ module _ {types members : List ℕ} {i : ℕ} {s : List ℕ} {k : ℕ} {image : 
               setting = t;
             }
 
-    module _ {x : ℕ} (e : x ≡ payloadAt s p) where
+    module _ {x : ℕ} (e : x ≡ payloadOfEntry s p) where
       number : payloadOf 0 (member-there .token) ≡ x
       number = member-there .payload (λ q. let z : ⊥ = omega (arith, seven) in z) ∙ sym e
 

@@ -116,11 +116,11 @@ laid-byte {s} {k} {image} {new} base b {x} a l e =
     (λ i h. ap (λ y. bitOf y i) e ∙ bit-val 8 (truths s (k + 8 * b)) i h ∙ truths-from s k (8 * b) i)
 
 -- one bit
-pub laid-bit : {s : List ℕ} {k : ℕ} {image new : List ℕ} (newer : List ℕ) (at j : ℕ) (v : Bool)
+pub laid-bit : {s : List ℕ} {k : ℕ} {image new : List ℕ} {newer : List ℕ} (at j : ℕ) {v : Bool}
     → BoolsSet s k (8 * at) image j new → length newer ≡ length new
     → flat newer ≡ stamp (8 * at + j) 1 (λ i. v) (flat new) → v ≡ eqb (getD s (8 + 12 * (k + j)) 0) 1
     → BoolsSet s k (8 * at) image (j + 1) newer
-laid-bit {s} {k} {image} {new} newer at j v a long e t =
+laid-bit {s} {k} {image} {new} {newer} at j {v} a long e t =
     laid-more (8 * at + j) 1 (λ i. v) newer (j + 1) a refl refl long e (λ i h. t ∙ same i h)
   where
     same : (i : ℕ) → i < 1 → eqb (getD s (8 + 12 * (k + j)) 0) 1 ≡ truths s k (j + i)
@@ -153,12 +153,12 @@ parts-of {s} {k} {image} {base} b {m} e =
     }
 
 -- what is set of both is set of the run
-pub laid-both : {s : List ℕ} {k : ℕ} {image newer : List ℕ} (new : List ℕ) (base m : ℕ)
+pub laid-both : {s : List ℕ} {k : ℕ} {image newer : List ℕ} (new : List ℕ) (base : ℕ) {m : ℕ}
     → length new ≡ length image
     → flat new ≡ stamp (8 * base) (8 * (m / 8)) (truths s k) (flat image) → length newer ≡ length new
     → flat newer ≡ stamp (8 * (base + m / 8)) (m % 8) (truths s (k + 8 * (m / 8))) (flat new)
     → BoolsSet s k (8 * base) image m newer
-laid-both {s} {k} {image} {newer} new base m long e more f =
+laid-both {s} {k} {image} {newer} new base {m} long e more f =
     laid-more (8 * (base + m / 8)) (m % 8) (truths s (k + 8 * (m / 8))) newer m (record { long = long; bits = e })
     (omega arith) (omega arith) more f (λ i l. truths-from s k (8 * (m / 8)) i)
 

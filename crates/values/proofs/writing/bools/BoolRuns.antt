@@ -19,7 +19,8 @@ use Rattle.values.specs.stream.Form.{streamOk}
 use Rattle.values.specs.stream.Stream.{kindOf, payloadOf}
 use Rattle.values.specs.writing.Effects.{ofKind, payloadBits, taken}
 use Rattle.values.specs.writing.Writing.{Outcome, ok, bad, andThen, boolsIn, elements, writeOne}
-use Rattle.values.proofs.stream.LeftLaws.{EntryThere, entries-inside, few-entries, kind-there, payloadAt, there}
+use Rattle.values.proofs.stream.LeftLaws.{EntryThere, entries-inside, few-entries, kind-there, payloadOfEntry}
+use Rattle.values.proofs.stream.LeftLaws.{there}
 use Rattle.values.proofs.writing.ApplyLaws.{accepted-as, elements-there, not-accepted}
 use Rattle.values.proofs.writing.OutcomeLaws.{elements-close, elements-full, elements-next, one-is}
 
@@ -27,7 +28,7 @@ use Rattle.values.proofs.writing.OutcomeLaws.{elements-close, elements-
 
 module _ {s : List ℕ} {k : ℕ} (t : EntryThere s k) (one : kindOf (t .token) ≡ 1) where
   -- the first byte of its payload is the payload
-  bool-byte : getD s (8 + 12 * k) 0 ≡ payloadAt s k
+  bool-byte : getD s (8 + 12 * k) 0 ≡ payloadOfEntry s k
   bool-byte = low-byte 7 s (8 + 12 * k) (t .truth one)
 
   bool-small : getD s (8 + 12 * k) 0 < 2

@@ -20,7 +20,7 @@ use Rattle.values.specs.inside.writing.Rows.{branchesIn, memberTree, tre
 use Rattle.values.specs.reading.Leaf.{str, width}
 use Rattle.values.specs.reading.Texts.{capacityAt}
 use Rattle.values.specs.reading.Tree.{Tree, leaf, array, struct, Branches, span}
-use Rattle.values.specs.reading.Trees.{isString, structsTree}
+use Rattle.values.specs.reading.Trees.{isStringKind, structsTree}
 use Rattle.values.specs.stream.Form.{streamOk}
 use Rattle.values.specs.stream.Stream.{Token}
 use Rattle.values.specs.writing.Effects.{asText, orNull}
@@ -52,9 +52,9 @@ checked-earlier l c =
 -- ---- a structure, where d was read from its row
 
 module _ {types members : List ℕ} (w : Walkable types members) {i : ℕ} (low : i < mostTypes) {d : StructDef}
-    (is : d ≡ typeAt types i) {b : Bool} (test : b ≡ isString (d .kind)) where
-  kind-is : isString (typeAt types i .kind) ≡ b
-  kind-is = ap (λ (x : StructDef). isString (x .kind)) (sym is) ∙ sym test
+    (is : d ≡ typeAt types i) {b : Bool} (test : b ≡ isStringKind (d .kind)) where
+  kind-is : isStringKind (typeAt types i .kind) ≡ b
+  kind-is = ap (λ (x : StructDef). isStringKind (x .kind)) (sym is) ∙ sym test
 
   -- no string: what the check answers of the members it answers of the structure
   pub struct-checked : {s : List ℕ} {k r : ℕ} → b ≡ false

@@ -30,7 +30,7 @@ use Rattle.values.specs.stream.Stream.{Token, kindOf, payloadOf, bodyOf}
 use Rattle.values.specs.writing.Effects.{Effect, put, refuse, payloadBits, ofKind, textBits, asText, taken}
 use Rattle.values.specs.writing.Effects.{orNull}
 use Rattle.values.specs.writing.Writing.{onEffect, writeOne}
-use Rattle.values.proofs.stream.LeftLaws.{EntryThere, TextThere, kind-there, payloadAt}
+use Rattle.values.proofs.stream.LeftLaws.{EntryThere, TextThere, kind-there, payloadOfEntry}
 use Rattle.values.proofs.writing.ApplyLaws.{accepted-as, applied-keeps, applied-one, not-accepted}
 use Rattle.values.proofs.writing.FitLaws.{above-refused, atomic-sets, not-null, null-keeps}
 use Rattle.values.proofs.writing.OutcomeLaws.{one-is}
@@ -141,7 +141,7 @@ module _ {s : List ℕ} {k : ℕ} (t : EntryThere s k) (takes : Token → Effect
 pub atomic-set : {s : List ℕ} {k : ℕ} (t : EntryThere s k) (a : Atomic) (base : ℕ) {image new : List ℕ}
     → (firstKind (leftAt s k) ≡ 0 → ⊥) → base + sizeOf a ≤ length image
     → accepted (writeOne (orNull (atomicTakes a)) (8 * sizeOf a) (8 * base) (leftAt s k) (flat image)) ≡ true
-    → new ≡ sets image base (bytesOf (sizeOf a) (payloadAt s k))
+    → new ≡ sets image base (bytesOf (sizeOf a) (payloadOfEntry s k))
     → Applied s k (k + 1) image new (writeOne (orNull (atomicTakes a)) (8 * sizeOf a) (8 * base) (leftAt s k))
 atomic-set {s} {k} t a base {image} {new} n room h e =
     let takes : Token → Effect = atomicTakes a in
@@ -153,14 +153,14 @@ atomic-set {s} {k} t a base {image} {new} n room h e =
     atomic-sets a w p (t .token) (leftAt s (k + 1)) (flat image) (not-null-token t takes w p n)
     (accepted-as (one-is (orNull takes) w p (t .token) (leftAt s (k + 1)) (flat image) (t .left)) h) in
     one-set t takes w p (payloadBits (t .token)) puts
-    (ap length e ∙ length-sets image base (bytesOf (sizeOf a) (payloadAt s k)))
-    (ap flat e ∙ flat-word image base (sizeOf a) (payloadAt s k) room
+    (ap length e ∙ length-sets image base (bytesOf (sizeOf a) (payloadOfEntry s k)))
+    (ap flat e ∙ flat-word image base (sizeOf a) (payloadOfEntry s k) room
     ∙ ap (λ (x : ℕ). stamp p w (bitOf x) (flat image)) (sym (t .payload six-not)))
 
 -- the truth of an accepted entry that is no null, put in one bit, is what writing the BOOL sets
 pub flag-set : {s : List ℕ} {k : ℕ} (t : EntryThere s k) (p x : ℕ) {image new : List ℕ}
     → (firstKind (leftAt s k) ≡ 0 → ⊥)
-    → accepted (writeOne (orNull (taken flag)) 1 p (leftAt s k) (flat image)) ≡ true → x ≡ payloadAt s k
+    → accepted (writeOne (orNull (taken flag)) 1 p (leftAt s k) (flat image)) ≡ true → x ≡ payloadOfEntry s k
     → length new ≡ length image → flat new ≡ stamp p 1 (λ j. eqb x 1) (flat image)
     → Applied s k (k + 1) image new (writeOne (orNull (taken flag)) 1 p (leftAt s k))
 flag-set {s} {k} t p x {image} {new} n h d long e = go (ℕ-discrete (kindOf (t .token)) 1)
@@ -194,7 +194,7 @@ module _ (capacity : ℕ) (t : Token) where
 pub record TextFits (s : List ℕ) (k capacity : ℕ) (t : Token) : Type 0 where
   pub takes : orNull (asText capacity) t ≡ put (textBits (bodyOf t))
   pub there : TextThere s k t
-  pub short : payloadAt s k / 2 ^ 32 ≤ capacity
+  pub short : payloadOfEntry s k / 2 ^ 32 ≤ capacity
 
 -- an accepted entry that is no null is a text that lies in the stream and is not too long
 pub text-fits : {s : List ℕ} {k : ℕ} (t : EntryThere s k) (capacity p : ℕ) (z : Bits)
@@ -220,11 +220,11 @@ text-fits {s} {k} t capacity p z n h =
 
 -- the part that the code takes
 pub body-part : {s : List ℕ} {k : ℕ} {t : Token} (start long : ℕ) → TextThere s k t
-    → start ≡ baseIn s + payloadAt s k % 2 ^ 32 → long ≡ payloadAt s k / 2 ^ 32
+    → start ≡ baseIn s + payloadOfEntry s k % 2 ^ 32 → long ≡ payloadOfEntry s k / 2 ^ 32
     → take (start + long - start) (drop start s) ≡ bodyOf t
 unfolding part
 body-part {s} {k} {t} start long w d e =
-    let f : start + long - start ≡ payloadAt s k / 2 ^ 32 = omega arith in
+    let f : start + long - start ≡ payloadOfEntry s k / 2 ^ 32 = omega arith in
     ap₂ (λ (n b : ℕ). take n (drop b s)) f d ∙ sym (w .body)
 
 -- LEN, the text, and zeros
@@ -256,14 +256,15 @@ text-bits image base capacity text {one} {two} {new} l room a b c =
 -- the three stores of the code, where m and n are the length, and c the capacity
 pub text-set : {s : List ℕ} {k : ℕ} (t : EntryThere s k) (capacity base : ℕ) {start n m c : ℕ}
     {image one two new : List ℕ}
-    → TextFits s k capacity (t .token) → start ≡ baseIn s + payloadAt s k % 2 ^ 32 → n ≡ payloadAt s k / 2 ^ 32
-    → m ≡ payloadAt s k / 2 ^ 32 → c ≡ capacity → base + 4 + capacity ≤ length image
+    → TextFits s k capacity (t .token) → start ≡ baseIn s + payloadOfEntry s k % 2 ^ 32
+    → n ≡ payloadOfEntry s k / 2 ^ 32
+    → m ≡ payloadOfEntry s k / 2 ^ 32 → c ≡ capacity → base + 4 + capacity ≤ length image
     → one ≡ sets image base (bytesOf 4 m) → two ≡ sets one (base + 4) (take (start + n - start) (drop start s))
     → new ≡ sets two (base + 4 + n) (replicate (c - n) 0)
     → Applied s k (k + 1) image new (writeOne (orNull (asText capacity)) (32 + 8 * capacity) (8 * base) (leftAt s k))
 text-set {s} {k} t capacity base {start} {n} {m} {c} {image} {one} {two} {new} w d e f g room x y z =
     let text : List ℕ = bodyOf (t .token) in
-    let long : payloadAt s k / 2 ^ 32 ≡ length text = sym (w .there .long) in
+    let long : payloadOfEntry s k / 2 ^ 32 ≡ length text = sym (w .there .long) in
     let r = text-bits image base capacity text (omega (arith, w .short)) room
     (x ∙ ap (λ (v : ℕ). sets image base (bytesOf 4 v)) (f ∙ long))
     (y ∙ ap (sets one (base + 4)) (body-part start n (w .there) d e))

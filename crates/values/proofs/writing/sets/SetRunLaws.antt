@@ -27,7 +27,7 @@ use Rattle.values.specs.stream.Form.{countIn, streamOk}
 use Rattle.values.specs.stream.Stream.{Token}
 use Rattle.values.specs.writing.Effects.{orNull}
 use Rattle.values.specs.writing.Writing.{Outcome, andThen, writeOne, elements, boolsIn, noBits, write}
-use Rattle.values.proofs.stream.LeftLaws.{EntryThere, kind-none, none-left, payloadAt, there}
+use Rattle.values.proofs.stream.LeftLaws.{EntryThere, kind-none, none-left, payloadOfEntry, there}
 use Rattle.values.proofs.writing.ApplyLaws.{Setting, accepted-as, accepted-first, elements-closed, elements-end}
 use Rattle.values.proofs.writing.ApplyLaws.{elements-there, not-accepted, setting-from, setting-on}
 use Rattle.values.proofs.writing.ApplyLaws.{setting-start, setting-then}
@@ -154,7 +154,7 @@ module _ {n : ℕ} {s : List ℕ} {k : ℕ} {image : List ℕ} {base size : ℕ}
 
   -- a number
   pub numbers-put : {x : ℕ} {new : List ℕ} → p - k < n → (firstKind (leftAt s p) ≡ 11 → ⊥)
-      → (firstKind (leftAt s p) ≡ 0 → ⊥) → x ≡ payloadAt s p
+      → (firstKind (leftAt s p) ≡ 0 → ⊥) → x ≡ payloadOfEntry s p
       → new ≡ sets now (base + size * (p - k)) (bytesOf size x) → Numbers n s k image base size new (p + 1)
   numbers-put {x} {new} l c e d b =
       numbers-on l c

@@ -19,7 +19,7 @@ use Rattle.types.specs.declared.tables.member.Ty.{Ty}
 use Rattle.types.specs.declared.tables.member.Ty.the-variants as ty
 use Rattle.values.specs.reading.Leaf.{emit, leafOf}
 use Rattle.values.specs.reading.Texts.{textIn, capacityAt}
-use Rattle.values.specs.reading.Trees.{isString}
+use Rattle.values.specs.reading.Trees.{isStringKind}
 use Rattle.values.specs.stream.Stream.{Token, bool, text, member, mark}
 
 -- g 0, and so on up to g (n - 1)
@@ -129,7 +129,7 @@ module _ (types members : List ℕ) (rec : ℕ → List ℕ → List Token) wher
   -- structure i
   unfoldable pub structBy : ℕ → List ℕ → List Token
   structBy i image =
-      cond (isString (typeAt types i .kind)) (textOut (capacityAt members (typeAt types i .first)) image)
+      cond (isStringKind (typeAt types i .kind)) (textOut (capacityAt members (typeAt types i .first)) image)
       (membersBy i image)
 
 -- nested at most so deep

@@ -17,7 +17,7 @@ use Rattle.types.specs.declared.tables.member.StructDef.{StructDef}
 use Rattle.types.specs.declared.tables.member.Ty.{Ty}
 use Rattle.values.specs.inside.reading.Walk.{isNested}
 use Rattle.values.specs.reading.Texts.{capacityAt}
-use Rattle.values.specs.reading.Trees.{isString}
+use Rattle.values.specs.reading.Trees.{isStringKind}
 
 -- a member of structure i, of so many bytes
 pub record MemberWithin (types : List ℕ) (i size : ℕ) (m : Member) : Type 0 where
@@ -32,7 +32,7 @@ pub record IsString (members : List ℕ) (d : StructDef) : Type 0 where
 pub record WalkableType (types members : List ℕ) (i : ℕ) : Type 0 where
   pub rows : typeAt types i .first + typeAt types i .count ≤ mostMembers
   pub most : typeAt types i .size ≤ mostSize + 224
-  pub string : isString (typeAt types i .kind) ≡ true → IsString members (typeAt types i)
+  pub string : isStringKind (typeAt types i .kind) ≡ true → IsString members (typeAt types i)
   pub each : (k : ℕ) → k < typeAt types i .count
       → MemberWithin types i (typeAt types i .size) (memberAt members (typeAt types i .first + k))
 

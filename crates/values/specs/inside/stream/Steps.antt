@@ -8,8 +8,8 @@ use Rattle.values.specs.stream.Entry.{payloadRight}
 use Rattle.values.specs.stream.Form.{TextStep, At, Broken, entryStep}
 
 -- of a kind and a payload: malformed where the payload is not right
-unfoldable pub stepOf : ℕ → ℕ → ℕ → TextStep
-stepOf kind x place = cond (payloadRight kind x) (entryStep kind x place) Broken
+unfoldable pub textStepOf : ℕ → ℕ → ℕ → TextStep
+textStepOf kind x place = cond (payloadRight kind x) (entryStep kind x place) Broken
 
 -- of a kind that is no text: a bool is 0 or 1, REAL bits and a member number have 32 bits, the numbers and LREAL bits
 -- 64, null and the brackets none

@@ -74,23 +74,23 @@ returns-2 : tie.Need-returns-2
 returns-2 c =
     let free = c .before .before .before .before .before in
     let picked = free .before .before in
-    took-so (is-new (new picked) _ ∙ fresh-free _ _ _ _ _ _ _ _ (picked-id picked) _ (free .p .given .1))
+    took-so (is-new (new picked) _ ∙ fresh-free _ _ _ _ _ _ _ (picked-id picked) (free .p .given .1))
     (c .add-named .ensures)
 
 returns-3 : tie.Need-returns-3
 returns-3 c =
     let picked = c .before .before in
-    took-no (is-new (new picked) _ ∙ fresh-outside _ _ _ _ _ _ _ _ (picked-id picked) (c .enum-told3 .given .1))
+    took-no (is-new (new picked) _ ∙ fresh-outside _ _ _ _ _ _ _ (picked-id picked) (c .enum-told3 .given .1))
 
 returns-4 : tie.Need-returns-4
 returns-4 c =
     let picked = c .before .before in
-    took-no (is-new (new picked) _ ∙ fresh-used _ _ _ _ _ _ _ _ (picked-id picked) (c .enum-told4 .given .1))
+    took-no (is-new (new picked) _ ∙ fresh-used _ _ _ _ _ _ _ (picked-id picked) (c .enum-told4 .given .1))
 
 returns-5 : tie.Need-returns-5
 returns-5 c =
     let picked = c .before .before in
-    took-no (is-new (new picked) _ ∙ fresh-none _ _ _ _ _ _ _ _ (picked-id picked) (c .enum-told5 .given .1))
+    took-no (is-new (new picked) _ ∙ fresh-none _ _ _ _ _ _ _ (picked-id picked) (c .enum-told5 .given .1))
 
 returns-6 : tie.Need-returns-6
 returns-6 c = took-no (entry-bad _ _ _ _ _ _ _ _ (c .before .good-name .ensures) (c .if1 .left))

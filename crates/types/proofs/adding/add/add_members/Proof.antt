@@ -9,22 +9,22 @@ returns : tie.Need-returns
 returns c =
     let told = c .before .before .before .before in
     took-so
-    (members-laid _ _ _ _ _ _ _ _ _ _ (told .before .before .check-members .ensures) (told .enum-told .given .1))
+    (members-laid _ _ _ _ _ _ _ _ _ (told .before .before .check-members .ensures) (told .enum-told .given .1))
     (c .add-laid .ensures)
 
 returns-2 : tie.Need-returns-2
 returns-2 c =
-    took-no (members-name _ _ _ _ _ _ _ _ _ _ (c .before .before .check-members .ensures)
+    took-no (members-name _ _ _ _ _ _ _ _ _ (c .before .before .check-members .ensures)
     (c .enum-told2 .given .1))
 
 returns-3 : tie.Need-returns-3
 returns-3 c =
-    took-no (members-twice _ _ _ _ _ _ _ _ _ _ (c .before .before .check-members .ensures)
+    took-no (members-twice _ _ _ _ _ _ _ _ _ (c .before .before .check-members .ensures)
     (c .enum-told3 .given .1))
 
 returns-4 : tie.Need-returns-4
 returns-4 c =
-    took-no (members-local _ _ _ _ _ _ _ _ _ _ (c .before .before .check-members .ensures)
+    took-no (members-local _ _ _ _ _ _ _ _ _ (c .before .before .check-members .ensures)
     (c .enum-told4 .given .1))
 
 pub add-members-spec : {M : Type 1} → statement M

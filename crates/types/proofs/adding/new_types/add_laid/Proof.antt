@@ -6,7 +6,7 @@ use mathlib.Core.Path.{_≡_, sym, _∙_}
 use lib.ListN.{length}
 use Rattle.words.specs.Words.{Bytes}
 use Rattle.words.proofs.ArithLaws.{same-counts}
-use Rattle.types.specs.adding.Add.{hasRoom}
+use Rattle.types.specs.adding.Add.{roomInTables}
 use Rattle.types.specs.inside.book.Decls.{declsFrom}
 use Rattle.types.specs.inside.layout.Passes.{partsOf, measuredOf}
 use Rattle.types.specs.inside.tables.Registry.{usedWith}
@@ -42,9 +42,9 @@ laid c =
 room : (c : tie.After-has-room)
     → let m = measured c .m .given .0 in
     let a = start c .args in
-    c .has-room .result ≡ hasRoom (a .new .used) (m .0 .members) (length (a .name .now) + m .1 .0)
+    c .has-room .result ≡ roomInTables (a .new .used) (m .0 .members) (length (a .name .now) + m .1 .0)
 room c =
-    same-counts (hasRoom _) _ (c .has-room .ensures) (c .before .wide2 .ensures) (c .before .before .wide .ensures)
+    same-counts (roomInTables _) _ (c .has-room .ensures) (c .before .wide2 .ensures) (c .before .before .wide .ensures)
 
 -- its name and parts are counted
 counted : (c : tie.After-has-room)

@@ -11,14 +11,14 @@ returns : tie.Need-returns
 unfolding typeAmong
 returns c =
     let found = c .before .before .before in
-    rw (sym (named-is _ _ (found .from-name .ensures)) ∙ c .before .atomic .given .1)
+    rw (sym (named-is _ (found .from-name .ensures)) ∙ c .before .atomic .given .1)
 
 returns-2 : tie.Need-returns-2
 unfolding typeAmong
 returns-2 c =
     let found = c .before .before .before in
     (rw sub-zero at (c .find-type .ensures))
-    ∙ rw (sym (named-is _ _ (found .from-name .ensures)) ∙ c .before .enum-told .given .1)
+    ∙ rw (sym (named-is _ (found .from-name .ensures)) ∙ c .before .enum-told .given .1)
 
 pub lookup-spec : {M : Type 1} → statement M
 lookup-spec =

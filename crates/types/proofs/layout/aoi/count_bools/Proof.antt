@@ -42,7 +42,7 @@ loop-again : tie.Need-loop-again Inv-loop μ-loop
 loop-again c =
     let at-loop = c .before .before .before .before in
     let a = at-loop .before .before .before .args in
-    count-on (at-loop .loop .inv) (c .before .before .before .loop-test .taken) _ _
+    count-on (at-loop .loop .inv) (c .before .before .before .loop-test .taken)
     (c .before .before .decl-at .ensures) (c .before .is-bool .ensures)
     (c .one-if .ensures)
 

@@ -50,7 +50,7 @@ returns c =
       long = long;
       rows = c .put-member .ensures
           ∙ ap (sets (a .members .now) (8 * a .row))
-          (one-row-of (a .at) (bitHostName (a .i)) (bitHostAt (a .i)) _ long);
+          (one-row-of (a .at) (bitHostName (a .i)) (bitHostAt (a .i)) long);
       names = rw (second .put-bytes2 .ensures, first .put-bytes .ensures)
           (bit-host-put (a .i) (spelled two) (a .names .now) (a .at)
           ∙ ap (sets (a .names .now) (a .at)) (one-name (bitHostName (a .i)) (bitHostAt (a .i))));

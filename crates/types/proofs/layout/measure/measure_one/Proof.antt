@@ -10,7 +10,7 @@ returns c =
     let way = c .before .before in
     let placed = way .before .before in
     let a = placed .before .before .args in
-    one-hosted (hostName (a .name .now)) (a .c) (a .names) (a .d) (placed .place .ensures) _ (way .p .given .1)
+    one-hosted (hostName (a .name .now)) (a .c) (a .names) (a .d) (placed .place .ensures) (way .p .given .1)
     (c .host-long .ensures .is)
 
 returns-2 : tie.Need-returns-2

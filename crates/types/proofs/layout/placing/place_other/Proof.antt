@@ -20,7 +20,7 @@ returns-2 c =
     let end = way .before .before .before in
     let a = end .before .before .args in
     other-at (a .c) (a .d) (end .member-end .result) (end .before .align-up .ensures) (end .member-end .ensures)
-    _ _ (way .end .given .1)
+    (way .end .given .1)
     (way .before .before .close .ensures)
 
 pub place-other-spec : {M : Type 1} → statement M

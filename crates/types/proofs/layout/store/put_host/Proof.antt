@@ -18,7 +18,7 @@ returns c =
       (
         c .put-member .ensures
             ∙ ap (sets (a .members .now) (8 * a .row))
-            (one-row-of (a .at) host (a .m) _ (long .host-long .ensures .is)),
+            (one-row-of (a .at) host (a .m) (long .host-long .ensures .is)),
         put .put-host-name .ensures ∙ ap (sets (a .names .now) (a .at)) (one-name host (a .m)),
       ),
     )

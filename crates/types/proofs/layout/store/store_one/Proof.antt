@@ -6,7 +6,7 @@ use mathlib.Core.Path.{_≡_}
 use mathlib.Core.Logic.{inl, inr}
 use lib.ListN.{length, take, drop}
 use Rattle.types.specs.tables.Defs.{nameIn}
-use Rattle.types.proofs.layout.StoreOneLaws.{lent-name, lent-long, TwoFit, OneFits, two-fit, one-fits}
+use Rattle.types.proofs.layout.StoreOneLaws.{lent-name, lent-name-long, TwoFit, OneFits, two-fit, one-fits}
 use Rattle.types.proofs.layout.StoreOneLaws.{next-hosted, next-alone, stop-access, stop-far, rows-hosted}
 use Rattle.types.proofs.layout.StoreOneLaws.{names-hosted, rows-alone, names-alone, rows-kept, names-kept}
 use Rattle.types.proofs.layout.store.store_one.Statement.{statement}
@@ -18,7 +18,7 @@ two : (c : tie.After-p)
 two c =
     let start = c .before .before .before .before .before .before .before in
     let a = start .args in
-    two-fit (a .book .now) (a .name .now) (a .c) (a .d) (a .row) (a .at) _ (c .before .before .place .ensures)
+    two-fit (a .book .now) (a .name .now) (a .c) (a .d) (a .row) (a .at) (c .before .before .place .ensures)
     (start .pre) (c .p .given .1)
 
 one : (c : tie.After-p2) → let a =
@@ -27,7 +27,7 @@ one : (c : tie.After-p2) → let a =
 one c =
     let start = c .before .before .before .before .before .before .before in
     let a = start .args in
-    one-fits (a .book .now) (a .name .now) (a .c) (a .d) (a .row) (a .at) _ (c .before .before .place .ensures)
+    one-fits (a .book .now) (a .name .now) (a .c) (a .d) (a .row) (a .at) (c .before .before .place .ensures)
     (start .pre) (c .p2 .given .1)
 
 name : (c : tie.After-place)
@@ -41,7 +41,7 @@ long : (c : tie.After-place)
     let s = c .before .before .wide .result in
     length (take (s + c .before .wide2 .result - s) (drop s (a .book .now))) ≡ a .d .name .long
 long c =
-    lent-long _ _ _ _ (c .before .before .wide .ensures) (c .before .wide2 .ensures)
+    lent-name-long _ (c .before .before .wide .ensures) (c .before .wide2 .ensures)
     (c .before .before .before .before .before .pre .name)
 
 put-host-requires : tie.Need-put-host-requires
@@ -107,13 +107,13 @@ returns c =
     let e = placed .place .ensures in
     let k = host .put-host .ensures .0 in (
       rw (placed .before .wide2 .ensures)
-          (next-hosted (a .book .now) (a .name .now) (a .c) (a .d) (a .row) (a .at) _ e _ (p .p .given .1) k),
+          (next-hosted (a .book .now) (a .name .now) (a .c) (a .d) (a .row) (a .at) e (p .p .given .1) k),
       (
         rw (c .put-part .ensures .0, host .put-host .ensures .1 .0, name placed)
-            (rows-hosted (a .book .now) (a .name .now) (a .c) (a .d) (a .row) (a .at) _ e (a .members .now) _
+            (rows-hosted (a .book .now) (a .name .now) (a .c) (a .d) (a .row) (a .at) e (a .members .now)
             (p .p .given .1) k),
         rw (c .put-part .ensures .1, host .put-host .ensures .1 .1, name placed)
-            (names-hosted (a .book .now) (a .name .now) (a .c) (a .d) (a .row) (a .at) _ e (a .names .now) _
+            (names-hosted (a .book .now) (a .name .now) (a .c) (a .d) (a .row) (a .at) e (a .names .now)
             (p .p .given .1) k),
       ),
     )
@@ -125,13 +125,13 @@ returns-2 c =
     let a = placed .before .before .before .before .before .args in
     let e = placed .place .ensures in (
       rw (placed .before .wide2 .ensures)
-          (next-alone (a .book .now) (a .name .now) (a .c) (a .d) (a .row) (a .at) _ e (p .p2 .given .1)),
+          (next-alone (a .book .now) (a .name .now) (a .c) (a .d) (a .row) (a .at) e (p .p2 .given .1)),
       (
         rw (c .put-part2 .ensures .0, name placed)
-            (rows-alone (a .book .now) (a .name .now) (a .c) (a .d) (a .row) (a .at) _ e (a .members .now)
+            (rows-alone (a .book .now) (a .name .now) (a .c) (a .d) (a .row) (a .at) e (a .members .now)
             (p .p2 .given .1)),
         rw (c .put-part2 .ensures .1, name placed)
-            (names-alone (a .book .now) (a .name .now) (a .c) (a .d) (a .row) (a .at) _ e (a .names .now)
+            (names-alone (a .book .now) (a .name .now) (a .c) (a .d) (a .row) (a .at) e (a .names .now)
             (p .p2 .given .1)),
       ),
     )
@@ -142,10 +142,10 @@ returns-3 c =
     let a = placed .before .before .before .before .before .args in
     let e = placed .place .ensures in
     let q = c .enum-told .given .1 in (
-      stop-access (a .book .now) (a .name .now) (a .c) (a .d) (a .row) (a .at) _ e q,
+      stop-access (a .book .now) (a .name .now) (a .c) (a .d) (a .row) (a .at) e q,
       (
-        rows-kept (a .book .now) (a .name .now) (a .c) (a .d) (a .row) (a .at) _ e (a .members .now) (inl q),
-        names-kept (a .book .now) (a .name .now) (a .c) (a .d) (a .row) (a .at) _ e (a .names .now) (inl q),
+        rows-kept (a .book .now) (a .name .now) (a .c) (a .d) (a .row) (a .at) e (a .members .now) (inl q),
+        names-kept (a .book .now) (a .name .now) (a .c) (a .d) (a .row) (a .at) e (a .names .now) (inl q),
       ),
     )
 
@@ -155,10 +155,10 @@ returns-4 c =
     let a = placed .before .before .before .before .before .args in
     let e = placed .place .ensures in
     let q = c .enum-told2 .given .1 in (
-      stop-far (a .book .now) (a .name .now) (a .c) (a .d) (a .row) (a .at) _ e q,
+      stop-far (a .book .now) (a .name .now) (a .c) (a .d) (a .row) (a .at) e q,
       (
-        rows-kept (a .book .now) (a .name .now) (a .c) (a .d) (a .row) (a .at) _ e (a .members .now) (inr q),
-        names-kept (a .book .now) (a .name .now) (a .c) (a .d) (a .row) (a .at) _ e (a .names .now) (inr q),
+        rows-kept (a .book .now) (a .name .now) (a .c) (a .d) (a .row) (a .at) e (a .members .now) (inr q),
+        names-kept (a .book .now) (a .name .now) (a .c) (a .d) (a .row) (a .at) e (a .names .now) (inr q),
       ),
     )
 

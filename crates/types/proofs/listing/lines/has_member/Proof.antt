@@ -7,7 +7,7 @@ use Rattle.types.proofs.listing.lines.has_member.Statement.{statement}
 use Rattle.types.proofs.listing.lines.has_member.Tie as tie
 
 type-row-requires : tie.Need-type-row-requires
-type-row-requires c κs = there-below _ _ (sym (c .before .is-there .ensures) ∙ c .if1 .taken)
+type-row-requires c κs = there-below _ (sym (c .before .is-there .ensures) ∙ c .if1 .taken)
 
 returns : tie.Need-returns
 unfolding hasMember

@@ -18,7 +18,7 @@ there c = sym (c .before .has-member .ensures) ∙ c .if1 .taken
 member-line-requires : tie.Need-member-line-requires
 member-line-requires c κs =
     let start = c .before .before .before .before in
-    let m = member-there _ _ _ (there (c .before)) in
+    let m = member-there _ _ (there (c .before)) in
     let row = kept-there (start .pre) (start .args .i) (m .0) in
     (row .few, (row .listable, (m .1, omega arith)))
 
@@ -38,7 +38,7 @@ returns c =
     line-given (lined .member-line .ensures) (there (lined .before .before)) (given .give .ensures)
 
 returns-2 : tie.Need-returns-2
-returns-2 c = given-absent _ _ (sym (c .before .has-member .ensures) ∙ c .if1 .left)
+returns-2 c = given-absent (sym (c .before .has-member .ensures) ∙ c .if1 .left)
 
 pub put-member-line-spec : {M : Type 1} → statement M
 put-member-line-spec =

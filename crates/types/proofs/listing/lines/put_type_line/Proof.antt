@@ -38,7 +38,7 @@ returns c =
     line-given (lined .type-line .ensures) (there (lined .before .before)) (given .give .ensures)
 
 returns-2 : tie.Need-returns-2
-returns-2 c = given-absent _ _ (sym (c .before .is-there .ensures) ∙ c .if1 .left)
+returns-2 c = given-absent (sym (c .before .is-there .ensures) ∙ c .if1 .left)
 
 pub put-type-line-spec : {M : Type 1} → statement M
 put-type-line-spec =

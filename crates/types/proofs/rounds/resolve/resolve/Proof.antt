@@ -90,7 +90,7 @@ returns : tie.Need-returns Inv-loop μ-loop
 returns c =
     let found = c .before .before in
     let at-loop = found .before .before .before .before .before .before .before in
-    left-stop _ _ _ _ (at-loop .loop .j) (at-loop .loop .inv .1 .1)
+    left-stop (at-loop .loop .j) (at-loop .loop .inv .1 .1)
     (found .before .before .before .before .before .before .loop-test .taken) (sym (looked found)
     ∙ c .enum-told .given .1)
 
@@ -111,7 +111,7 @@ loop-again c =
       (
         at-loop .loop .inv .1 .0,
         rw (c .word-of .ensures)
-            (left-on _ _ _ _ (at-loop .loop .j) (at-loop .loop .inv .1 .1) taken _
+            (left-on (at-loop .loop .j) (at-loop .loop .inv .1 .1) taken _
             (sym (looked found) ∙ c .before .before .found .given .1)),
       ),
     )
@@ -122,7 +122,7 @@ same-length-2 c = c .before .loop .inv .1 .1 .long
 returns-2 : tie.Need-returns-2 Inv-loop μ-loop
 returns-2 c =
     let at-loop = c .before in
-    left-end _ _ _ _ (at-loop .loop .j) (at-loop .loop .inv .1 .1) (c .loop-test .left)
+    left-end (at-loop .loop .j) (at-loop .loop .inv .1 .1) (c .loop-test .left)
 
 pub resolve-spec : {M : Type 1} → statement M
 resolve-spec =

@@ -14,12 +14,12 @@ rounded c = rw (c .wide64 .ensures)
 returns : tie.Need-returns
 returns c =
     let at-up = c .before .before in
-    c .refused .ensures ∙ bool-over _ (at-up .before .args .n) _ (rounded at-up) (c .before .if1 .taken)
+    c .refused .ensures ∙ bool-over _ (at-up .before .args .n) (rounded at-up) (c .before .if1 .taken)
 
 returns-2 : tie.Need-returns-2
 returns-2 c =
     let at-up = c .before .before in
-    c .tag-within .ensures ∙ bool-within _ (at-up .before .args .n) _ (rounded at-up) (c .before .if1 .left)
+    c .tag-within .ensures ∙ bool-within _ (at-up .before .args .n) (rounded at-up) (c .before .if1 .left)
 
 pub bool-shape-spec : {M : Type 1} → statement M
 bool-shape-spec =

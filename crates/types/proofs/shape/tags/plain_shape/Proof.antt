@@ -12,7 +12,7 @@ returns c =
     let a = at-all .before .before .args in
     c .tag-within .ensures
     ∙ rw (c .before .three-of .ensures)
-    (plain-is _ (a .ty) (a .lengths .now) (at-all .multiplied .ensures) _ (arm .all .given .1))
+    (plain-is _ (a .ty) (a .lengths .now) (at-all .multiplied .ensures) (arm .all .given .1))
 
 returns-2 : tie.Need-returns-2
 returns-2 c =

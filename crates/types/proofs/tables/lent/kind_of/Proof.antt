@@ -1,24 +1,24 @@
 -- `types::kind_of` meets its contract.
 use mathlib.Core.Path.{sym, ap}
 use borrow.Author.Tests.{ne-eqb}
-use Rattle.types.specs.tables.Lent.{kindOf}
+use Rattle.types.specs.tables.Lent.{kindOfWord}
 use Rattle.types.proofs.tables.lent.kind_of.Statement.{statement}
 use Rattle.types.proofs.tables.lent.kind_of.Tie as tie
 
 returns : tie.Need-returns
-unfolding kindOf
-returns c = sym (ap kindOf (c .match .keys1))
+unfolding kindOfWord
+returns c = sym (ap kindOfWord (c .match .keys1))
 
 returns-2 : tie.Need-returns-2
-unfolding kindOf
-returns-2 c = sym (ap kindOf (c .match .keys2))
+unfolding kindOfWord
+returns-2 c = sym (ap kindOfWord (c .match .keys2))
 
 returns-3 : tie.Need-returns-3
-unfolding kindOf
-returns-3 c = sym (ap kindOf (c .match .keys3))
+unfolding kindOfWord
+returns-3 c = sym (ap kindOfWord (c .match .keys3))
 
 returns-4 : tie.Need-returns-4
-unfolding kindOf
+unfolding kindOfWord
 returns-4 c =
     simp (ne-eqb _ _ (c .match .rest .0 .0 .1), ne-eqb _ _ (c .match .rest .0 .1), ne-eqb _ _ (c .match .rest .1))
 

@@ -1,17 +1,17 @@
 -- `types::ty_of` meets its contract.
 use borrow.Author.Needs.{needs}
 use borrow.Author.Tests.{lt-ltb, le-ltb}
-use Rattle.types.specs.tables.Lent.{tyOf}
+use Rattle.types.specs.tables.Lent.{tyOfWord}
 use Rattle.types.proofs.atomics.AtomicLaws.{at-is}
 use Rattle.types.proofs.tables.lent.ty_of.Statement.{statement}
 use Rattle.types.proofs.tables.lent.ty_of.Tie as tie
 
 returns : tie.Need-returns
-unfolding tyOf
-returns c = simp (lt-ltb _ _ (c .before .before .if1 .taken), at-is _ _ (c .at .ensures), c .before .wide .ensures)
+unfolding tyOfWord
+returns c = simp (lt-ltb _ _ (c .before .before .if1 .taken), at-is _ (c .at .ensures), c .before .wide .ensures)
 
 returns-2 : tie.Need-returns-2
-unfolding tyOf
+unfolding tyOfWord
 returns-2 c = simp (le-ltb _ _ (c .before .if1 .left), c .wide2 .ensures)
 
 pub ty-of-spec : {M : Type 1} → statement M

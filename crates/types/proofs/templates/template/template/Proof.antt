@@ -12,10 +12,10 @@ use Rattle.types.proofs.templates.template.template.Tie as tie
 
 returns : tie.Need-returns
 returns c =
-    rw (c .enum-told .given .1) (given-absent _ _ refl)
+    rw (c .enum-told .given .1) (given-absent refl)
 
 type-row-requires : tie.Need-type-row-requires
-type-row-requires c κs = there-below _ _ (sym (c .before .is-there .ensures) ∙ c .if1 .taken)
+type-row-requires c κs = there-below _ (sym (c .before .is-there .ensures) ∙ c .if1 .taken)
 
 -- the structure that is there
 abbrev start : tie.After-ty → tie.Start
@@ -41,7 +41,7 @@ returns-2 : tie.Need-returns-2
 returns-2 c =
     let row = c .before .before in
     rw (known (row .before) .ty .given .1, there (row .before))
-    (given-none _ _ (rw (c .before .template-bytes .ensures, row .type-row .ensures) at (c .if2 .taken)))
+    (given-none (rw (c .before .template-bytes .ensures, row .type-row .ensures) at (c .if2 .taken)))
 
 write-template-requires : tie.Need-write-template-requires
 write-template-requires c κs =
@@ -61,12 +61,12 @@ returns-3 c =
       long .template-bytes .ensures,
       row .type-row .ensures,
     )
-    (given-room _ _ (rw (long .template-bytes .ensures, row .type-row .ensures) at (room .if2 .left)))
+    (given-room (rw (long .template-bytes .ensures, row .type-row .ensures) at (room .if2 .left)))
 
 returns-4 : tie.Need-returns-4
 returns-4 c =
     rw (c .before .before .before .ty .given .1)
-    (given-absent _ _ (sym (c .before .is-there .ensures) ∙ c .if1 .left))
+    (given-absent (sym (c .before .is-there .ensures) ∙ c .if1 .left))
 
 pub template-spec : {M : Type 1} → statement M
 template-spec =

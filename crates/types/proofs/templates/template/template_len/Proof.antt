@@ -7,7 +7,7 @@ use Rattle.types.proofs.templates.template.template_len.Statement.{stat
 use Rattle.types.proofs.templates.template.template_len.Tie as tie
 
 type-row-requires : tie.Need-type-row-requires
-type-row-requires c κs = there-below _ _ (sym (c .before .is-there .ensures) ∙ c .if1 .taken)
+type-row-requires c κs = there-below _ (sym (c .before .is-there .ensures) ∙ c .if1 .taken)
 
 template-bytes-requires : tie.Need-template-bytes-requires
 template-bytes-requires c κs =

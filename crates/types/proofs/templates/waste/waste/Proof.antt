@@ -7,7 +7,7 @@ use Rattle.types.proofs.templates.waste.waste.Statement.{statement}
 use Rattle.types.proofs.templates.waste.waste.Tie as tie
 
 type-row-requires : tie.Need-type-row-requires
-type-row-requires c κs = there-below _ _ (sym (c .before .is-there .ensures) ∙ c .if1 .taken)
+type-row-requires c κs = there-below _ (sym (c .before .is-there .ensures) ∙ c .if1 .taken)
 
 lost-bits-requires : tie.Need-lost-bits-requires
 lost-bits-requires c κs =

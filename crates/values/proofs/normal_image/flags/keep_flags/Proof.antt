@@ -28,7 +28,7 @@ add-keep-flag c = omega (arith, start c .pre .0 .rows, c .loop-test .taken)
 keep-flag-requires : tie.Need-keep-flag-requires Inv-loop μ-loop
 keep-flag-requires c κs =
     let turn = c .before in (
-      one-row (turn .before .loop .k) (start turn .pre .0) (turn .loop-test .taken) _ refl,
+      one-row (turn .before .loop .k) (start turn .pre .0) (turn .loop-test .taken) refl,
       omega (arith, start turn .pre .1, turn .loop-test .taken, turn .before .loop .inv .1 .long),
     )
 

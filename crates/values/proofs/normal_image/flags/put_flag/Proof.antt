@@ -29,7 +29,7 @@ here c =
     }
 
 returns : tie.Need-returns
-returns c = unflagged-hidden _ _ (c .before .member-row .ensures) (c .if1 .taken)
+returns c = unflagged-hidden _ (c .before .member-row .ensures) (c .if1 .taken)
 
 add-put-bit : tie.Need-add-put-bit
 add-put-bit c = omega (arith, flag-inside (here c) .0, start c .good)
@@ -42,13 +42,13 @@ returns-2 c =
     let put = c .before .before in
     let got = put .before in
     let place = got .before .before in
-    flag-put (here place) (start place .args .k) _ _ _ (got .before .bit-in-byte .ensures .0) (got .bit-at .ensures)
+    flag-put (here place) (start place .args .k) _ (got .before .bit-in-byte .ensures .0) (got .bit-at .ensures)
     (put .put-bit .ensures)
 
 returns-3 : tie.Need-returns-3
 returns-3 c =
     let seen = c .before .before in
-    unflagged-whole _ _ (seen .before .member-row .ensures) (seen .if1 .left) (c .enum-told .given .1)
+    unflagged-whole _ (seen .before .member-row .ensures) (seen .if1 .left) (c .enum-told .given .1)
 
 pub put-flag-spec : {M : Type 1} → statement M
 put-flag-spec =

@@ -31,7 +31,7 @@ put-flag-requires : tie.Need-put-flag-requires Inv-loop μ-loop
 put-flag-requires c κs =
     let turn = c .before in
     let at-loop = turn .before in (
-      one-row (at-loop .loop .k) (start turn .pre .0) (turn .loop-test .taken) _ (at-loop .loop .inv .1 .long),
+      one-row (at-loop .loop .k) (start turn .pre .0) (turn .loop-test .taken) (at-loop .loop .inv .1 .long),
       omega (arith, start turn .pre .1, turn .loop-test .taken),
     )
 

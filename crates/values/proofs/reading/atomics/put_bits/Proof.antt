@@ -41,7 +41,7 @@ add-p : tie.Need-add-p Inv-loop μ-loop
 add-p c = omega (arith, fits (c .before .before .before .before .before .before))
 
 loop-holds : tie.Need-loop-holds Inv-loop μ-loop
-loop-holds c = no-byte _ _ _
+loop-holds c = no-byte
 
 shared-slice-read-put-eight : tie.Need-shared-slice-read-put-eight Inv-loop μ-loop
 shared-slice-read-put-eight c = omega arith

@@ -23,14 +23,14 @@ returns c =
     let at-start = c .before .before .before .before in
     let a = at-start .args in
     counted-same (c .count-atomics .ensures (a .texts .now)) (λ image. sym
-    (value-atomic (a .types .now) (a .members .now) (a .n) image (a .ty) _ (c .before .before .ty .given .1)))
+    (value-atomic (a .types .now) (a .members .now) (a .n) image (a .ty) (c .before .before .ty .given .1)))
 
 returns-2 : tie.Need-returns-2
 returns-2 c =
     let at-ty = c .before .before .before in
     let a = at-ty .before .before .args in
     counted-same (c .count-structs .ensures) (λ image. sym
-    (value-struct (a .types .now) (a .members .now) (a .n) image (a .ty) _ (at-ty .ty2 .given .1)))
+    (value-struct (a .types .now) (a .members .now) (a .n) image (a .ty) (at-ty .ty2 .given .1)))
 
 pub count-value-spec : {M : Type 1} → statement M
 count-value-spec =

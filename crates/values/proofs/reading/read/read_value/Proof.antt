@@ -18,7 +18,7 @@ put-atomics-requires c κs =
     let a = at-start .args in
     let is = at-ty .ty .given .1 in
     let v = rw is at (at-start .pre .0 .1) in
-    let r = room-as (value-atomic (a .types .now) (a .members .now) (a .n) (a .image .now) (a .ty) _ is)
+    let r = room-as (value-atomic (a .types .now) (a .members .now) (a .n) (a .image .now) (a .ty) is)
     (at-start .pre .1) in
     (v .long, omega (arith, r .entries, r .texts))
 
@@ -28,7 +28,7 @@ returns c =
     let at-ty = at-put .before .before .before in
     let at-start = at-ty .before .before .before .before in
     let a = at-start .args in
-    wrote-as (value-atomic (a .types .now) (a .members .now) (a .n) (a .image .now) (a .ty) _ (at-ty .ty .given .1))
+    wrote-as (value-atomic (a .types .now) (a .members .now) (a .n) (a .image .now) (a .ty) (at-ty .ty .given .1))
     (put-wrote (a .base) 0 (textless-atomics _ (a .n) (a .image .now)) (at-put .put-atomics .ensures))
 
 read-structs-requires : tie.Need-read-structs-requires

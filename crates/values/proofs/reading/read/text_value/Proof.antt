@@ -29,7 +29,7 @@ text-structs-requires c κs =
 returns-2 : tie.Need-returns-2
 returns-2 c =
     let a = c .before .before .before .before .args in
-    no-texts (ap bodies (value-atomic (a .types .now) (a .members .now) (a .n) (a .image .now) (a .ty) _
+    no-texts (ap bodies (value-atomic (a .types .now) (a .members .now) (a .n) (a .image .now) (a .ty)
     (c .enum-told .given .1)) ∙ textless-atomics _ (a .n) (a .image .now) .none)
 
 returns-3 : tie.Need-returns-3

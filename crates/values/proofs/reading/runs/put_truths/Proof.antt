@@ -3,13 +3,13 @@ use native.Mathlib.Omega.{arith}
 use borrow.Author.Needs.{needs}
 use Prim.Native.Nat.{_-_}
 use mathlib.Core.Path.{refl, sym}
-use Rattle.values.proofs.reading.runs.RunLaws.{NumbersRun, truths, run-start, run-room, run-on, run-length}
+use Rattle.values.proofs.reading.runs.RunLaws.{NumbersRun, truthTokens, run-start, run-room, run-on, run-length}
 use Rattle.values.proofs.reading.runs.RunLaws.{truths-done}
 use Rattle.values.proofs.reading.runs.put_truths.Statement.{statement}
 use Rattle.values.proofs.reading.runs.put_truths.Tie as tie
 
 abbrev Inv-loop : tie.InvT-loop
-Inv-loop n s out₀ at p₀ i₀ out p i = NumbersRun (truths s) n out₀ at out p i
+Inv-loop n s out₀ at p₀ i₀ out p i = NumbersRun (truthTokens s) n out₀ at out p i
 
 abbrev μ-loop : tie.MeasureT-loop
 μ-loop n s out₀ at p₀ i₀ out p i = n - i

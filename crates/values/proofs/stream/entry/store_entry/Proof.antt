@@ -15,11 +15,11 @@ returns : tie.Need-returns
 returns c =
     let put = c .before .before in
     let then1 = put .before .before .before .before in
-    stored-there _ (sym (then1 .before .is-inside .ensures) ∙ then1 .if1 .taken)
+    stored-there (sym (then1 .before .is-inside .ensures) ∙ then1 .if1 .taken)
     (rw (← put .before .before .kind .ensures, ← put .before .payload .ensures) (put .put-entry .ensures))
 
 returns-2 : tie.Need-returns-2
-returns-2 c = stored-nowhere _ (sym (c .before .is-inside .ensures) ∙ c .if1 .left)
+returns-2 c = stored-nowhere (sym (c .before .is-inside .ensures) ∙ c .if1 .left)
 
 pub store-entry-spec : {M : Type 1} → statement M
 store-entry-spec =

@@ -4,7 +4,7 @@ use Prim.Native.Nat.{ℕ, _+_, _*_, _^_, _<_}
 use native.Mathlib.Omega.{arith}
 use mathlib.Core.Path.{_≡_, ap₂, subst}
 use borrow.Author.Needs.{needs}
-use Rattle.values.specs.inside.stream.Steps.{Moved, stepOf}
+use Rattle.values.specs.inside.stream.Steps.{Moved, textStepOf}
 use Rattle.values.proofs.stream.FormLaws.{bool-broken, bool-fits, high-broken, kind-none, mark-broken, mark-fits}
 use Rattle.values.proofs.stream.FormLaws.{member-fits, moved-none, moved-to, signed-fits}
 use Rattle.values.proofs.stream.form.next_place.Statement.{statement}
@@ -101,7 +101,7 @@ returns-10 c =
     let a = low .before .before .before .before .args in
     let same : low .wide64 .result + 2 ^ 32 * high .wide642 .result ≡ a .low + 2 ^ 32 * a .high =
     ap₂ (λ (x y : ℕ). x + 2 ^ 32 * y) (low .wide64 .ensures) (high .wide642 .ensures) in
-    subst (λ (x : ℕ). Moved (a .place) (stepOf (a .head) x (a .place)) (c .other-place .result)) same
+    subst (λ (x : ℕ). Moved (a .place) (textStepOf (a .head) x (a .place)) (c .other-place .result)) same
     (c .other-place .ensures)
 
 pub next-place-spec : {M : Type 1} → statement M

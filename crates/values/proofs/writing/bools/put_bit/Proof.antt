@@ -7,7 +7,7 @@ use Rattle.values.proofs.writing.bools.put_bit.Tie as tie
 returns : tie.Need-returns
 returns c =
     let start = c .before .before .before .before in
-    flat-bit (start .args .image .now) (start .args .at) (start .args .bit) _ (start .args .value) (c .set-bit .ensures)
+    flat-bit (start .args .image .now) (start .args .at) (start .args .bit) (start .args .value) (c .set-bit .ensures)
     (start .pre .0) (start .pre .1)
 
 pub put-bit-spec : {M : Type 1} → statement M

@@ -69,7 +69,7 @@ returns c total taken =
     let closed = eights .before .before in
     let run = accepts (start closed .pre .form) total (start closed .args .k) _ _ taken in
     bools-applied (closed .close-of .result) (start closed .args .base)
-    (laid-both _ (start closed .args .base) _ (eights .set-eights .kept .1 .1 .1 .0) (eights .set-eights .ensures)
+    (laid-both _ (start closed .args .base) (eights .set-eights .kept .1 .1 .1 .0) (eights .set-eights .ensures)
     (few .set-few .kept .1 .1 .1 .0) (few .set-few .ensures)) run (closed .close-of .ensures (run .many) (run .run))
 
 pub set-bools-spec : {M : Type 1} → statement M

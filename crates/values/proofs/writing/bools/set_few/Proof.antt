@@ -58,7 +58,7 @@ loop-again c =
     let put = c .before .before in
     let at-loop = in-loop c .before in (
       omega (arith, in-loop c .loop-test .taken),
-      laid-bit _ (start (in-loop c) .args .at) (at-loop .loop .j) _ (at-loop .loop .inv .1) (put .put-bit .kept .0)
+      laid-bit (start (in-loop c) .args .at) (at-loop .loop .j) (at-loop .loop .inv .1) (put .put-bit .kept .0)
           (put .put-bit .ensures) refl,
     )
 

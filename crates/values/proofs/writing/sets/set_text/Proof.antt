@@ -7,7 +7,7 @@ use lib.ListN.{length}
 use Rattle.words.specs.Bits.{flat}
 use Rattle.values.specs.stream.Form.{baseIn}
 use Rattle.values.specs.writing.Effects.{asText, orNull}
-use Rattle.values.proofs.stream.LeftLaws.{EntryThere, entries-inside, few-entries, payloadAt}
+use Rattle.values.proofs.stream.LeftLaws.{EntryThere, entries-inside, few-entries, payloadOfEntry}
 use Rattle.values.proofs.writing.ApplyLaws.{one-there}
 use Rattle.values.proofs.writing.sets.SetLaws.{TextFits, body-part, one-kept, text-fits, text-set}
 use Rattle.values.proofs.writing.sets.set_text.Statement.{statement}
@@ -36,7 +36,7 @@ abbrev else-long : tie.After-wide → tie.Else1
 else-long c = c .before .before .before
 
 long-is : (c : tie.After-wide)
-    → c .wide .result ≡ payloadAt (start-of (else-long c) .args .s .now) (start-of (else-long c) .args .k) / 2 ^ 32
+    → c .wide .result ≡ payloadOfEntry (start-of (else-long c) .args .s .now) (start-of (else-long c) .args .k) / 2 ^ 32
 long-is c =
     c .wide .ensures ∙ c .before .high32 .ensures
     ∙ ap (λ (x : ℕ). x / 2 ^ 32) (c .before .before .payload-of .ensures)
@@ -50,7 +50,7 @@ else-start c = else-long (wide-at c)
 start-is : (c : tie.After-wide3)
     → 4 + 12 * (c .before .before .wide2 .result) + c .wide3 .result
     ≡ baseIn (start-of (else-start c) .args .s .now)
-    + payloadAt (start-of (else-start c) .args .s .now) (start-of (else-start c) .args .k) % 2 ^ 32
+    + payloadOfEntry (start-of (else-start c) .args .s .now) (start-of (else-start c) .args .k) % 2 ^ 32
 start-is c =
     ap₂ (λ (m n : ℕ). 4 + 12 * m + n) (c .before .before .wide2 .ensures ∙ c .before .before .before .load32 .ensures)
     (c .wide3 .ensures ∙ c .before .low32 .ensures

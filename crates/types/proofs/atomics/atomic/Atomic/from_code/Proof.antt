@@ -33,8 +33,8 @@ unfolding rowOf
 returns c =
     let at-loop = c .before .before .before .before .before in
     let l = at-loop .loop in
-    let e = ap (λ (r : AtomicRow). r .0) (table-row _ (l .i) _ (l .inv .1 .0) (omega arith)) in
-    ap saidBy (ap Is (at-is _ _ (c .at .ensures))
+    let e = ap (λ (r : AtomicRow). r .0) (table-row (l .i) _ (l .inv .1 .0) (omega arith)) in
+    ap saidBy (ap Is (at-is _ (c .at .ensures))
     ∙ first-hit (λ a. eqb (codeOf a) (at-loop .before .before .args .code)) (l .i) (omega arith) true
     (sym (eq-eqb _ _ (sym e ∙ c .before .if1 .taken))) refl)
     ∙ sym (l .inv .1 .1)
@@ -51,7 +51,7 @@ loop-again c =
     let at-loop = c .before .before .before .before in
     let l = at-loop .loop in
     let next : l .i + 1 ≤ 15 = omega arith in
-    let e = ap (λ (r : AtomicRow). r .0) (table-row _ (l .i) _ (l .inv .1 .0) (omega arith)) in (
+    let e = ap (λ (r : AtomicRow). r .0) (table-row (l .i) _ (l .inv .1 .0) (omega arith)) in (
       next,
       (
         l .inv .1 .0,

@@ -31,12 +31,12 @@ loop-holds c = (omega arith, (c .table .ensures, refl))
 array-share-prefix-bytes : tie.Need-array-share-prefix-bytes Inv-loop μ-loop
 array-share-prefix-bytes c =
     let l = c .before .before .before .before .loop in
-    row-long (atomicAt (l .i)) (table-row _ (l .i) _ (l .inv .1 .0) (omega arith))
+    row-long (atomicAt (l .i)) (table-row (l .i) _ (l .inv .1 .0) (omega arith))
 
 slice-aggregate-same-name : tie.Need-slice-aggregate-same-name Inv-loop μ-loop
 slice-aggregate-same-name c =
     let l = c .before .before .before .before .before .loop in
-    sym (length-take-le _ _ (row-long (atomicAt (l .i)) (table-row _ (l .i) _ (l .inv .1 .0) (omega arith))))
+    sym (length-take-le _ _ (row-long (atomicAt (l .i)) (table-row (l .i) _ (l .inv .1 .0) (omega arith))))
 
 returns : tie.Need-returns Inv-loop μ-loop
 returns c =
@@ -44,8 +44,8 @@ returns c =
     let at-loop = same .before .before .before .before .before .before in
     let l = at-loop .loop in
     let name = at-loop .before .before .before .args .name .now in
-    let row = table-row _ (l .i) _ (l .inv .1 .0) (omega arith) in
-    ap saidBy (ap Is (at-is _ _ (c .at .ensures))
+    let row = table-row (l .i) _ (l .inv .1 .0) (omega arith) in
+    ap saidBy (ap Is (at-is _ (c .at .ensures))
     ∙ first-hit (λ a. sameName (nameOf a) name) (l .i) (omega arith) _
     (same .same-name .ensures ∙ ap (λ (s : List ℕ). sameName s name) (row-name (atomicAt (l .i)) row))
     (c .before .if1 .taken)
@@ -64,7 +64,7 @@ loop-again c =
     let l = at-loop .loop in
     let name = at-loop .before .before .before .args .name .now in
     let next : l .i + 1 ≤ 15 = omega arith in
-    let row = table-row _ (l .i) _ (l .inv .1 .0) (omega arith) in (
+    let row = table-row (l .i) _ (l .inv .1 .0) (omega arith) in (
       next,
       (
         l .inv .1 .0,

@@ -10,7 +10,7 @@ use Rattle.types.proofs.atomics.atomic.Atomic.row.Tie as tie
 returns : tie.Need-returns
 returns c =
     let num = c .before .num in
-    table-row _ (num .result) _ (c .before .before .table .ensures) (num .ensures .small)
+    table-row (num .result) _ (c .before .before .table .ensures) (num .ensures .small)
     ∙ ap (λ (i : ℕ). rowOf (atomicAt i)) (num .ensures .is) ∙ ap rowOf (at-num (c .before .before .before .args .self))
 
 pub row-spec : {M : Type 1} → statement M

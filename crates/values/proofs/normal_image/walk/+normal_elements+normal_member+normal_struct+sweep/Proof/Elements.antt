@@ -43,7 +43,7 @@ module _ (t : ℕ) where
   returns c =
       let at-size = c .before in
       let asked = at-size .before .before .pre .1 in
-      elements-none _ (asked .0) (asked .1 .low) (at-size .struct-size .ensures) (c .if1 .taken) _ _
+      elements-none _ (asked .0) (asked .1 .low) (at-size .struct-size .ensures) (c .if1 .taken) _
 
   loop-holds : so lts.Need-loop-holds
   loop-holds c = elements-start (c .before .struct-size .ensures)

@@ -8,7 +8,7 @@ use denote.Ref.{now}
 use mathlib.Core.Path.{_≡_, sym, ap, _∙_}
 use Rattle.types.specs.tables.Lent.{typeAt}
 use Rattle.types.specs.declared.tables.member.StructDef.{StructDef}
-use Rattle.values.specs.reading.Trees.{isString}
+use Rattle.values.specs.reading.Trees.{isStringKind}
 use Rattle.values.proofs.stream.CountLaws.{text-counted, members-counted}
 use Rattle.types.proofs.type_row.Reads as type-row-reads
 use Rattle.values.proofs.reading.rows.is_string.Reads as is-string-reads
@@ -38,9 +38,9 @@ module _ (t : ℕ) where
 
   kind-is : (c : so lts.After-is-string)
       → let a = c .before .before .args in
-      isString (typeAt (now (a .types)) (a .i) .kind) ≡ c .is-string .result
+      isStringKind (typeAt (now (a .types)) (a .i) .kind) ≡ c .is-string .result
   kind-is c =
-      ap (λ (d : StructDef). isString (d .kind)) (sym (c .before .type-row .ensures)) ∙ sym (c .is-string .ensures)
+      ap (λ (d : StructDef). isStringKind (d .kind)) (sym (c .before .type-row .ensures)) ∙ sym (c .is-string .ensures)
 
   type-row-requires : so lts.Need-type-row-requires
   type-row-requires c κs = c .pre .1 .1 .0

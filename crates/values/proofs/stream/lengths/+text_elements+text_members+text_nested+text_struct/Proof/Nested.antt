@@ -81,9 +81,9 @@ module _ (t : ℕ) where
       HeldRow (a .types .now) (a .members .now) (a .i) (a .row) (a .image .now) (c .before .ty .given .0 .0)
       (at-match .before .wide .result) (at-match .wide2 .result) size
 
-  row : (c : so lts.After-known-told) (size : ℕ)
+  row : (c : so lts.After-known-told) {size : ℕ}
       → size ≡ sizesIn (start c .args .types .now) (c .before .ty .given .0 .0) → Row c size
-  row c size e =
+  row c {size} e =
       let at-match = c .before .before .before in
       let same = at-match .before .before .member-row .ensures in
       record {
@@ -96,10 +96,10 @@ module _ (t : ℕ) where
       }
 
   struct-size-requires : so lts.Need-struct-size-requires
-  struct-size-requires c κs = omega (arith, held-earlier (row c _ refl), start c .pre .1 .1 .0 .row-of .low)
+  struct-size-requires c κs = omega (arith, held-earlier (row c refl), start c .pre .1 .1 .0 .row-of .low)
 
   held : (c : so lts.After-struct-size) → Row (c .before) (c .struct-size .result)
-  held c = row (c .before) _ (c .struct-size .ensures)
+  held c = row (c .before) (c .struct-size .ensures)
 
   -- ---- one structure
 

@@ -7,7 +7,7 @@ use borrow.Fn.Kinds.{In, Out}
 use mathlib.Core.Path.{_≡_, sym, ap, _∙_}
 use Rattle.types.specs.tables.Lent.{typeAt}
 use Rattle.types.specs.declared.tables.member.StructDef.{StructDef}
-use Rattle.values.specs.reading.Trees.{isString}
+use Rattle.values.specs.reading.Trees.{isStringKind}
 use Rattle.values.proofs.stream.TextCountLaws.{members-texts, StringAt, string-row, string-fits, string-texts}
 use Rattle.values.proofs.stream.lengths.text_struct.Reads as reads
 use
@@ -58,8 +58,10 @@ module _ (t : ℕ) where
 
   -- what the test says of the table's row
   kind : (c : so lts.After-is-string) → let a = start c .args in
-      isString (typeAt (a .types .now) (a .i) .kind) ≡ c .is-string .result
-  kind c = ap (λ (d : StructDef). isString (d .kind)) (sym (c .before .type-row .ensures)) ∙ sym (c .is-string .ensures)
+      isStringKind (typeAt (a .types .now) (a .i) .kind) ≡ c .is-string .result
+  kind c =
+      ap (λ (d : StructDef). isStringKind (d .kind)) (sym (c .before .type-row .ensures))
+      ∙ sym (c .is-string .ensures)
 
   string : (c : so lts.After-wide) → let a = start (c .before .before) .args in
       StringAt (a .types .now) (a .members .now) (a .i) (a .image .now) (c .wide .result)
