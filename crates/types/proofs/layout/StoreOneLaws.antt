@@ -1,13 +1,11 @@
 -- Laws of one stored member: what its parts ask of the tables, and what they leave there.
 use Prim.Native.Nat.{ℕ, _+_, _-_, _*_, _≤_}
-use native.Mathlib.Nat.{add-sub-cancel-left}
 use native.Mathlib.Omega.{arith}
 use mathlib.Core.Path.{_≡_, sym, ap, _∙_}
 use mathlib.Core.List.{List, [], _∷_}
 use mathlib.Core.Logic.{_⊎_, ⊎-elim}
-use lib.ListN.{length, take, drop, length-append}
+use lib.ListN.{length, length-append}
 use lib.Seq.{sets}
-use Rattle.words.specs.Words.{part}
 use Rattle.words.proofs.Lists.{length-part}
 use Rattle.types.specs.inside.layout.Passes.{oneParts, storedOne, StepFits}
 use Rattle.types.specs.inside.tables.Lent.{TyFits}
@@ -22,15 +20,8 @@ use Rattle.types.specs.declared.layout.placing.Placed.{Placed}
 use Rattle.types.specs.declared.layout.placing.Placed.the-variants.{Hosted, One, AccessWrong, TooFar}
 use Rattle.types.specs.declared.layout.store.StoreNext.the-variants.{Next, Stop}
 use Rattle.types.specs.declared.tables.member.Member.{Member}
-use Rattle.types.specs.declared.tables.member.Span.{Span}
 use Rattle.types.proofs.layout.PlaceLaws.{place-cases}
 use Rattle.types.proofs.layout.StoreLaws.{one-name, rows-then, names-then}
-
--- the part of the book that is lent for a name
-pub lent-name : (book : List ℕ) (s : Span) (start long : ℕ) → start ≡ s .at → long ≡ s .long
-    → take (start + long - start) (drop start book) ≡ nameIn book s
-unfolding part
-lent-name book s start long p q = rw (p, q, add-sub-cancel-left (s .at) (s .long))
 
 -- the types of what a step places
 abbrev AllFit : Placed → Type 0
@@ -178,10 +169,3 @@ module _ (book type : List ℕ) (c : Cursor) (d : Decl) (row at : ℕ) {p : Plac
   pub names-kept : (t : List ℕ) → (p ≡ AccessWrong) ⊎ (p ≡ TooFar) → t ≡ sets t at (namesOf (oneParts book type c d))
   unfolding namesOf
   names-kept t w = rw (refused w)
-
--- the part of the book that is lent for a name is as long as the name
-pub lent-name-long : (book : List ℕ) {s : Span} {start long : ℕ} → start ≡ s .at → long ≡ s .long
-    → s .at + s .long ≤ length book
-    → length (take (start + long - start) (drop start book)) ≡ s .long
-lent-name-long book {s} {start} {long} p q h =
-    ap length (lent-name book s start long p q) ∙ length-part book (s .at) (s .long) h

@@ -1,12 +1,11 @@
 -- The theorem about refusal 10 for a book (document 01, "Order of building"): acceptance shows an ordering of its
 -- types, and where refusal 10 comes there is none. Names are known as the lookup finds them, without ASCII case.
-use Prim.Native.Nat.{ℕ, zero, suc, _+_}
+use Prim.Native.Nat.{ℕ, _+_}
 use native.Mathlib.Omega.{arith}
 use mathlib.Core.Path.{_≡_, refl, sym, ap, _∙_}
 use mathlib.Core.Bool.{Bool, true, false, cond, _||_, true≢false}
 use mathlib.Core.List.{List, [], _∷_, _++_, map, map-append}
 use mathlib.Core.Logic.{_⊎_, ⊎-elim}
-use lib.ListN.{length}
 use Rattle.words.proofs.TestLaws.{or-right, or-left, or-cases}
 use Rattle.types.specs.adding.Add.{Verdict, no as against, yes as for, newDef}
 use Rattle.types.specs.atomics.Atomic.{atomics, nameOf, firstOf, atomicNamed}
@@ -33,6 +32,7 @@ use Rattle.types.proofs.adding.VerdictLaws.{verdict-name, verdict-never
 use Rattle.types.proofs.book.NameLaws.{same-lower, lower-same}
 use Rattle.types.proofs.rounds.BuildWays.{accepted-both, refused-rounds}
 use Rattle.types.proofs.rounds.OrderLaws.{Ties, shown, none}
+use Rattle.types.proofs.rounds.WaitLaws.{up-length}
 
 -- ---- a name is found as any other that is the same without case
 
@@ -129,11 +129,6 @@ book-ties book =
       never = λ ds i p e. step-never book ds i (verdictOn book (viewOf ds) i) refl p e;
     }
 
-pub length-up : (i n : ℕ) → length (upFrom i n) ≡ n
-unfolding upFrom
-length-up i zero = refl
-length-up i (suc n) = ap suc (length-up (i + 1) n)
-
 -- ---- the theorem
 
 module _ (book : List ℕ) (start : List Def) where
@@ -151,7 +146,7 @@ module _ (book : List ℕ) (start : List Def) where
   unfolding roundsFrom
   refused-unordered p e o g =
       none (book-ties book) names-known (typesIn book) start (upFrom 0 (typesIn book)) p
-      (omega (arith, length-up 0 (typesIn book))) e o (g .same) (g .ordered)
+      (omega (arith, up-length 0 (typesIn book))) e o (g .same) (g .ordered)
 
 -- ---- over a whole build
 

@@ -4,10 +4,11 @@ use Prim.Native.Nat.{ℕ, zero, suc, _+_, _-_, _<_, _≤_}
 use native.Mathlib.Decide.{decLt}
 use native.Mathlib.Omega.{arith}
 use mathlib.Core.Path.{_≡_, refl}
-use mathlib.Core.Bool.{Bool, true, false, cond, _&&_, true≢false}
+use mathlib.Core.Bool.{Bool, true, false, cond, true≢false}
 use mathlib.Core.List.{List, [], _∷_, _++_}
 use lib.ListN.{length, getD, set, length-set, length-append, List·getD-append}
 use lib.Seq.{getD-set-same, getD-set-other}
+use Rattle.words.proofs.TestLaws.{and-off}
 use Rattle.types.specs.atomics.Atomic.{atomicNamed}
 use Rattle.types.specs.atomics.Lookup.{namedAmong, typeAmong, atomicOr}
 use Rattle.types.specs.book.Contents.{every, listFrom, typesIn}
@@ -93,11 +94,7 @@ unfolding every
 one-unknown known [] k l e = absurd (let z : ⊥ = omega arith in z)
 one-unknown known (s ∷ ss) zero l e = rw e
 one-unknown known (s ∷ ss) (suc k) l e =
-    go (isFound (typeAmong known s)) _ (one-unknown known ss k (omega arith) e)
-  where
-    go : (a b : Bool) → b ≡ false → (a && b) ≡ false
-    go true b q = q
-    go false b q = refl
+    and-off (isFound (typeAmong known s)) _ (one-unknown known ss k (omega arith) e)
 
 -- the first that is not known
 pub first-unknown : (known names : List (List ℕ)) → length (foundWords known names) < length names

@@ -1,16 +1,16 @@
 -- Laws of whole structures in the tables (document 01, "Declaration book": the tables): runs of stores leave the rows
 -- beside them, parts that were stored are read back, and so is a structure with its name and its parts; its rows can
 -- be read.
-use Prim.Native.Nat.{ℕ, zero, suc, _+_, _*_, _≤_, _<_}
+use Prim.Native.Nat.{ℕ, zero, suc, _+_, _*_, _≤_, _<_, _-_}
 use native.Mathlib.Nat.{add-zero}
 use native.Mathlib.Omega.{arith}
-use mathlib.Core.Path.{_≡_, refl, _∙_}
+use mathlib.Core.Path.{_≡_, refl, _∙_, ap}
 use mathlib.Core.List.{List, [], _∷_}
 use mathlib.Core.Logic.{_⊎_, inl, inr, ⊎-elim}
-use lib.ListN.{length, getD, length-append}
+use lib.ListN.{length, getD, length-append, take, drop}
 use lib.Seq.{sets, length-sets}
 use Rattle.words.specs.Words.{part}
-use Rattle.words.proofs.Lists.{sets-append, getD-beside, part-beside, part-run}
+use Rattle.words.proofs.Lists.{sets-append, getD-beside, part-beside, part-run, lent-part, length-part}
 use Rattle.types.specs.inside.tables.Defs.{Readable}
 use Rattle.types.specs.inside.tables.Lent.{TyFits}
 use Rattle.types.specs.layout.Laid.{Earlier, Every}
@@ -19,6 +19,7 @@ use Rattle.types.specs.tables.Defs.{Part, Def, nameIn, partAt, partsAt, 
 use Rattle.types.specs.tables.Lent.{memberRow, memberAt, nameAt, typeAt}
 use Rattle.types.specs.tables.Limits.{mostTypes, mostMembers, mostNames, memberWords}
 use Rattle.types.specs.tables.Registry.{ownNames, headOf}
+use Rattle.types.specs.declared.tables.member.Span.{Span}
 use Rattle.types.specs.declared.tables.member.Ty.{Ty}
 use Rattle.types.specs.declared.tables.member.Ty.the-variants.{Atomic, Struct}
 use Rattle.types.proofs.tables.TableLaws.{BitFits, RowStorable, Eight, member-back, name-back}
@@ -229,3 +230,15 @@ head-readable m row at n d z h k few f =
       names = λ i l. omega (arith, within i l .name);
       types = λ i l. within-fits few (within i l);
     }
+
+-- ---- a name that is lent
+
+-- the part that is lent for a name, by the place and the length that the code has, is the name
+pub lent-name : (names : List ℕ) (s : Span) {from long : ℕ} → from ≡ s .at → long ≡ s .long
+    → take (from + long - from) (drop from names) ≡ nameIn names s
+lent-name names s p q = rw (p, q) (lent-part names (s .at) (s .long))
+
+-- it is as long as the name
+pub lent-name-long : (names : List ℕ) {s : Span} {from long : ℕ} → from ≡ s .at → long ≡ s .long
+    → s .at + s .long ≤ length names → length (take (from + long - from) (drop from names)) ≡ s .long
+lent-name-long names {s} p q h = ap length (lent-name names s p q) ∙ length-part names (s .at) (s .long) h

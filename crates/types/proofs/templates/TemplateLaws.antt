@@ -8,9 +8,9 @@ use mathlib.Core.Bool.{Bool, true, false, cond}
 use mathlib.Core.List.{List, [], _∷_, _++_}
 use borrow.Author.Tests.{le-leb, lt-leb}
 use lib.Dec.{leb}
-use lib.ListN.{length, replicate, take, drop, length-append, length-replicate}
+use lib.ListN.{length, replicate, take, length-append, length-replicate}
 use lib.Seq.{sets}
-use Rattle.words.specs.Words.{bytesOf, part}
+use Rattle.words.specs.Words.{bytesOf}
 use Rattle.words.proofs.WordLaws.{length-bytes, bytes-low, two-stored}
 use Rattle.words.proofs.Lists.{part-most, take-replicate}
 use Rattle.types.specs.inside.tables.Defs.{Readable}
@@ -138,14 +138,6 @@ unfolding infos partsAt partAt
 infos-any ids members names other row zero = refl
 infos-any ids members names other row (suc n) =
     ap (λ (l : List ℕ). infoBytes ids (memberAt members row) ++ l) (infos-any ids members names other (row + 1) n)
-
--- the part of the table that a name's place and length give
-pub table-part : (names : List ℕ) (s : Span) {from long : ℕ} → from ≡ s .at → long ≡ s .long
-    → take (from + long - from) (drop from names) ≡ nameIn names s
-unfolding part
-table-part names s {from} {long} p q =
-    let e : from + long - from ≡ long = omega arith in
-    rw (e, p, q)
 
 -- the padding is as many of three zeros as a length lacks to a multiple of 4
 pub zeros-padding : (n : ℕ) → take {A = ℕ} ((n + 3) / 4 * 4 - n) (replicate 3 0) ≡ padding n

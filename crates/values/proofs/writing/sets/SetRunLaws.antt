@@ -94,7 +94,7 @@ module _ {n : ℕ} {s : List ℕ} {k : ℕ} {image : List ℕ} {base size : ℕ}
     numbers-room l =
         rw (w .long, numbers-long) (element-room (sizeOf a) (p - k) n base (length image) l (w .room))
 
-    -- the close
+    -- the close: the places that are left stand as they were
     pub numbers-closed : firstKind (leftAt s p) ≡ 11 → Applied s k (p + 1) image now (numbersIn a n base (leftAt s k))
     numbers-closed e =
         v .each a w .onward (p + 1) now
@@ -146,13 +146,13 @@ module _ {n : ℕ} {s : List ℕ} {k : ℕ} {image : List ℕ} {base size : ℕ}
             (next-is w l e) (v .each a w .taken) (one a w))));
       }
 
-  -- a null
+  -- a null: what stands is kept, and the rest is set from the next entry on
   pub numbers-null : p - k < n → firstKind (leftAt s p) ≡ 0 → Numbers n s k image base size now (p + 1)
   numbers-null l e =
       numbers-on l (λ h. let z : ⊥ = omega arith in z)
       (λ a w. one-kept (numbers-there w) (atomicTakes a) (8 * sizeOf a) (8 * (base + sizeOf a * (p - k))) e)
 
-  -- a number
+  -- a number: its bytes are stored, and the rest is set from the next entry on
   pub numbers-put : {x : ℕ} {new : List ℕ} → p - k < n → (firstKind (leftAt s p) ≡ 11 → ⊥)
       → (firstKind (leftAt s p) ≡ 0 → ⊥) → x ≡ payloadOfEntry s p
       → new ≡ sets now (base + size * (p - k)) (bytesOf size x) → Numbers n s k image base size new (p + 1)

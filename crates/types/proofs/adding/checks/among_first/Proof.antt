@@ -8,9 +8,9 @@ use Rattle.types.specs.adding.Checks.{among}
 use Rattle.types.specs.book.Names.{sameName}
 use Rattle.types.specs.inside.adding.Checks.{memberName, namesBefore, EntriesInside}
 use Rattle.types.proofs.adding.checks.CheckLaws.{among-here, among-on, among-none}
-use Rattle.types.proofs.layout.StoreOneLaws.{lent-name}
 use Rattle.types.proofs.adding.checks.among_first.Statement.{statement}
 use Rattle.types.proofs.adding.checks.among_first.Tie as tie
+use Rattle.types.proofs.tables.DefLaws.{lent-name}
 
 abbrev Inv-loop : tie.InvT-loop
 Inv-loop book at j name k₀ k =
@@ -45,7 +45,7 @@ compared c =
     let wide = c .before .before in
     c .same-name .ensures
     ∙ rw (
-      lent-name _ _ _ _ (wide .before .wide .ensures) (wide .wide2 .ensures),
+      lent-name _ _ (wide .before .wide .ensures) (wide .wide2 .ensures),
       wide .before .before .before
           .entry-at .ensures,
     )

@@ -10,9 +10,9 @@ use Rattle.types.specs.inside.adding.Checks.{memberName}
 use Rattle.types.specs.declared.book.contents.MemberEntry.{MemberEntry}
 use Rattle.types.proofs.adding.checks.CheckLaws.{inside-less, one-misnamed, one-twice, one-shown, one-inside}
 use Rattle.types.proofs.adding.checks.CheckLaws.{one-outside}
-use Rattle.types.proofs.layout.StoreOneLaws.{lent-name}
 use Rattle.types.proofs.adding.checks.check_one.Statement.{statement}
 use Rattle.types.proofs.adding.checks.check_one.Tie as tie
+use Rattle.types.proofs.tables.DefLaws.{lent-name}
 
 -- the name lies in the book
 end : (c : tie.After-wide2)
@@ -29,7 +29,7 @@ named : (c : tie.After-wide2)
     let start = c .before .wide .result in
     take (start + c .wide2 .result - start) (drop start (a .book .now)) ≡ memberName (a .book .now) (a .at) (a .j)
 named c =
-    lent-name _ _ _ _ (c .before .wide .ensures) (c .wide2 .ensures)
+    lent-name _ _ (c .before .wide .ensures) (c .wide2 .ensures)
     ∙ rw (c .before .before .before .entry-at .ensures)
 
 -- the rule, with the member's name

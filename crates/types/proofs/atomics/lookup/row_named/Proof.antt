@@ -8,9 +8,9 @@ use Rattle.words.proofs.Lists.{length-part}
 use Rattle.types.specs.atomics.Lookup.{rowName}
 use Rattle.types.specs.tables.Lent.{typeAt}
 use Rattle.types.proofs.book.NameLaws.{same-long}
-use Rattle.types.proofs.layout.StoreOneLaws.{lent-name}
 use Rattle.types.proofs.atomics.lookup.row_named.Statement.{statement}
 use Rattle.types.proofs.atomics.lookup.row_named.Tie as tie
+use Rattle.types.proofs.tables.DefLaws.{lent-name}
 
 returns : tie.Need-returns
 unfolding typeAt
@@ -42,7 +42,7 @@ returns-2 c =
     let start = c .before .before in
     let a = start .before .before .before .before .before .before .before .args in
     c .same-name .ensures
-    ∙ rw (lent-name (a .names .now) (typeAt (a .types .now) (a .i) .name) _ _ (start .wide2 .ensures)
+    ∙ rw (lent-name (a .names .now) (typeAt (a .types .now) (a .i) .name) (start .wide2 .ensures)
     (start .before .before .before .wide .ensures))
 
 pub row-named-spec : {M : Type 1} → statement M

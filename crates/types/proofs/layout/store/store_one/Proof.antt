@@ -6,11 +6,12 @@ use mathlib.Core.Path.{_≡_}
 use mathlib.Core.Logic.{inl, inr}
 use lib.ListN.{length, take, drop}
 use Rattle.types.specs.tables.Defs.{nameIn}
-use Rattle.types.proofs.layout.StoreOneLaws.{lent-name, lent-name-long, TwoFit, OneFits, two-fit, one-fits}
-use Rattle.types.proofs.layout.StoreOneLaws.{next-hosted, next-alone, stop-access, stop-far, rows-hosted}
-use Rattle.types.proofs.layout.StoreOneLaws.{names-hosted, rows-alone, names-alone, rows-kept, names-kept}
+use Rattle.types.proofs.layout.StoreOneLaws.{TwoFit, OneFits, two-fit, one-fits, next-hosted, next-alone}
+use Rattle.types.proofs.layout.StoreOneLaws.{stop-access, stop-far, rows-hosted, names-hosted, rows-alone}
+use Rattle.types.proofs.layout.StoreOneLaws.{names-alone, rows-kept, names-kept}
 use Rattle.types.proofs.layout.store.store_one.Statement.{statement}
 use Rattle.types.proofs.layout.store.store_one.Tie as tie
+use Rattle.types.proofs.tables.DefLaws.{lent-name, lent-name-long}
 
 two : (c : tie.After-p)
     → let a = c .before .before .before .before .before .before .before .args in
@@ -34,7 +35,7 @@ name : (c : tie.After-place)
     → let a = c .before .before .before .before .before .args in
     let s = c .before .before .wide .result in
     take (s + c .before .wide2 .result - s) (drop s (a .book .now)) ≡ nameIn (a .book .now) (a .d .name)
-name c = lent-name _ _ _ _ (c .before .before .wide .ensures) (c .before .wide2 .ensures)
+name c = lent-name _ _ (c .before .before .wide .ensures) (c .before .wide2 .ensures)
 
 long : (c : tie.After-place)
     → let a = c .before .before .before .before .before .args in

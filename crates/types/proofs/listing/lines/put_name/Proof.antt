@@ -1,8 +1,8 @@
 -- `types::put_name` meets its contract: the part of the table is the name.
 use borrow.Author.Needs.{needs}
-use Rattle.types.proofs.templates.TemplateLaws.{table-part}
 use Rattle.types.proofs.listing.lines.put_name.Statement.{statement}
 use Rattle.types.proofs.listing.lines.put_name.Tie as tie
+use Rattle.types.proofs.tables.DefLaws.{lent-name}
 
 put-field-requires : tie.Need-put-field-requires
 put-field-requires c κs =
@@ -10,7 +10,7 @@ put-field-requires c κs =
     let at-from = at-long .before in
     let start = at-from .before .before .before in
     let a = start .args in
-    rw (table-part (a .names .now) (a .name) (at-from .wide .ensures) (at-long .wide2 .ensures)) (start .pre .1)
+    rw (lent-name (a .names .now) (a .name) (at-from .wide .ensures) (at-long .wide2 .ensures)) (start .pre .1)
 
 returns : tie.Need-returns
 returns c =
@@ -18,7 +18,7 @@ returns c =
     let at-long = at-field .before .before .before in
     let at-from = at-long .before in
     let a = at-from .before .before .before .args in
-    rw (table-part (a .names .now) (a .name) (at-from .wide .ensures) (at-long .wide2 .ensures))
+    rw (lent-name (a .names .now) (a .name) (at-from .wide .ensures) (at-long .wide2 .ensures))
     at (at-field .put-field .ensures)
 
 pub put-name-spec : {M : Type 1} → statement M

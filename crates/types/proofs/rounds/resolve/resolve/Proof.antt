@@ -8,10 +8,9 @@ use lib.ListN.{length}
 use Rattle.types.specs.atomics.Lookup.{rowName, rowNames, typeAmong}
 use Rattle.types.specs.inside.rounds.Resolve.{Resolvable}
 use Rattle.types.specs.rounds.Resolve.{typeName}
-use Rattle.types.proofs.layout.StoreOneLaws.{lent-name}
 use Rattle.types.proofs.rounds.ResolveLaws.{found-earlier, WordsLeft, left-on, left-stop, left-end}
 use Rattle.types.proofs.tables.AgreeLaws.{length-list}
-use Rattle.types.proofs.tables.DefLaws.{earlier-fits}
+use Rattle.types.proofs.tables.DefLaws.{earlier-fits, lent-name}
 use Rattle.types.proofs.rounds.resolve.resolve.Statement.{statement}
 use Rattle.types.proofs.rounds.resolve.resolve.Tie as tie
 
@@ -68,7 +67,7 @@ looked c =
     let wide = c .before .before in
     c .lookup .ensures
     ∙ rw (
-      lent-name _ _ _ _ (wide .before .wide .ensures) (wide .wide2 .ensures),
+      lent-name _ _ (wide .before .wide .ensures) (wide .wide2 .ensures),
       wide .before .before .before .entry-at .ensures,
     )
 

@@ -8,10 +8,10 @@ use lib.ListN.{length}
 use Rattle.types.specs.atomics.Lookup.{rowName, namedAmong}
 use Rattle.types.specs.book.Contents.{listFrom}
 use Rattle.types.specs.rounds.Resolve.{typeName}
-use Rattle.types.proofs.layout.StoreOneLaws.{lent-name}
 use Rattle.types.proofs.rounds.SearchLaws.{unseen-none}
 use Rattle.types.proofs.rounds.resolve.waits_still.Statement.{statement}
 use Rattle.types.proofs.rounds.resolve.waits_still.Tie as tie
+use Rattle.types.proofs.tables.DefLaws.{lent-name}
 
 returns : tie.Need-returns
 returns c = λ q. absurd (true≢false (sym q))
@@ -53,7 +53,7 @@ looked c =
     let wide = c .before .before in
     c .find-type .ensures
     ∙ rw (
-      lent-name _ _ _ _ (wide .before .wide .ensures) (wide .wide2 .ensures),
+      lent-name _ _ (wide .before .wide .ensures) (wide .wide2 .ensures),
       wide .before .before .before .entry-at .ensures,
     )
 

@@ -6,10 +6,10 @@ use mathlib.Core.Path.{_≡_, refl, ap, _∙_}
 use lib.ListN.{length}
 use Rattle.types.specs.rounds.Turns.{countOf}
 use Rattle.types.specs.declared.book.contents.TypeEntry.{TypeEntry}
-use Rattle.types.proofs.layout.StoreOneLaws.{lent-name}
 use Rattle.types.proofs.rounds.turn.TurnLaws.{turn-looks, turn-still, turn-waits, turn-ready, turn-takes}
 use Rattle.types.proofs.rounds.turn.take_turn.Statement.{statement}
 use Rattle.types.proofs.rounds.turn.take_turn.Tie as tie
+use Rattle.types.proofs.tables.DefLaws.{lent-name}
 
 -- where the turn begins, from its two tests
 abbrev begun : tie.After-waits-still → tie.Start
@@ -115,7 +115,7 @@ returns-3 c =
           (rw (
             ← entry .type-entry .ensures,
             n .count-of2 .ensures .0,
-            ← lent-name _ _ _ _ (wide .before .wide2 .ensures) (wide .wide3 .ensures),
+            ← lent-name _ _ (wide .before .wide2 .ensures) (wide .wide3 .ensures),
           ) (c .add-entry .ensures)),
       s .pre .tries,
     )

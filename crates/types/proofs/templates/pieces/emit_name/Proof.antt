@@ -1,6 +1,6 @@
 -- `types::emit_name` meets its contract: the part of the table is the name.
 use borrow.Author.Needs.{needs}
-use Rattle.types.proofs.templates.TemplateLaws.{table-part}
+use Rattle.types.proofs.tables.DefLaws.{lent-name}
 use Rattle.types.proofs.templates.pieces.emit_name.Statement.{statement}
 use Rattle.types.proofs.templates.pieces.emit_name.Tie as tie
 
@@ -10,7 +10,7 @@ emit-requires c κs =
     let at-from = at-long .before in
     let at-start = at-from .before .before .before in
     let a = at-start .args in
-    rw (table-part (a .names .now) (a .name) (at-from .wide .ensures) (at-long .wide2 .ensures)) (at-start .pre .1)
+    rw (lent-name (a .names .now) (a .name) (at-from .wide .ensures) (at-long .wide2 .ensures)) (at-start .pre .1)
 
 returns : tie.Need-returns
 returns c =
@@ -19,7 +19,7 @@ returns c =
     let at-from = at-long .before in
     let at-start = at-from .before .before .before in
     let a = at-start .args in
-    rw (table-part (a .names .now) (a .name) (at-from .wide .ensures) (at-long .wide2 .ensures))
+    rw (lent-name (a .names .now) (a .name) (at-from .wide .ensures) (at-long .wide2 .ensures))
     at (at-emit .emit .ensures)
 
 pub emit-name-spec : {M : Type 1} → statement M

@@ -105,6 +105,7 @@ module _ (t : ℕ) where
       let asked = at-loop .before .before .before .before .pre .1 in
       elements-done (asked .0) (asked .1) (at-loop .loop .inv) (c .loop-test .left)
 
+  -- it meets its contract where those that it calls meet theirs below its measure
   pub closed : {M : Type 1} → lts.Closed (claims t) (measures.elements-at t) reads.Post M
   closed =
       lts.spec (claims t) (measures.elements-at t) reads.Post Inv μ struct-size-requires returns loop-holds

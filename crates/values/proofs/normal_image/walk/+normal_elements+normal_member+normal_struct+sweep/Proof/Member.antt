@@ -260,6 +260,7 @@ module _ (t : ℕ) where
       all-onward (held (read-of at-clear)) (at-ty .ty2 .given .1) (else1 .if1 .left) (at-size .struct-size .ensures)
       (at-clear .clear .ensures) (at-elements .normal-elements .ensures)
 
+  -- it meets its contract where those that it calls meet theirs below its measure
   pub closed : {M : Type 1} → lts.Closed (claims t) (measures.member-row t) reads.Post M
   closed =
       lts.spec (claims t) (measures.member-row t) reads.Post member-row-requires wide-requires wide-requires-2 add-clear

@@ -152,6 +152,7 @@ module _ (t : ℕ) where
       (at-string .is-string .ensures) (else1 .if1 .left) (at-keep .keep-flags .ensures) (at-sweep .sweep .ensures)
       (at-put .put-flags .ensures)
 
+  -- it meets its contract where those that it calls meet theirs below its measure
   pub closed : {M : Type 1} → lts.Closed (claims t) (measures.struct-at t) reads.Post M
   closed =
       lts.spec (claims t) (measures.struct-at t) reads.Post type-row-requires wide-requires wide-requires-2

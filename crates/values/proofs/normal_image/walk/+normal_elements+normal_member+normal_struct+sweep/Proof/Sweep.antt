@@ -153,6 +153,7 @@ module _ (t : ℕ) where
       sweep-done (past .before .loop .inv) (past .loop-test .left) (size-is (at-clear .before))
       (at-clear .clear .ensures)
 
+  -- it meets its contract where those that it calls meet theirs below its measure
   pub closed : {M : Type 1} → lts.Closed (claims t) (measures.sweep-at t) reads.Post M
   closed =
       lts.spec (claims t) (measures.sweep-at t) reads.Post Inv μ type-row-requires wide-requires wide-requires-2

@@ -83,6 +83,7 @@ elements-returns t c =
     elements-end (now (start .args .out)) (start .pre .1 .1) (first .put-entry .ensures) (loop .loop .inv)
     (test .loop-test .left) (put .put-entry2 .ensures)
 
+-- it meets its contract where those that it calls meet theirs below its measure
 pub elements-closed : (t : ℕ) {M : Type 1}
     → lts.Closed (elements-claims t) (measures.elements-at t) elements.Post M
 elements-closed t =

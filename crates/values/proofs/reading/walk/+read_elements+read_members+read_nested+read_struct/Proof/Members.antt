@@ -122,6 +122,7 @@ members-returns t c =
     rows-end (read .type-row .ensures) (wide .wide .ensures) (counted .wide2 .ensures) (now (start .args .out))
     (start .pre .1 .1) (first .put-entry .ensures) (loop .loop .inv) (test .loop-test .left) (put .put-entry2 .ensures)
 
+-- it meets its contract where those that it calls meet theirs below its measure
 pub members-closed : (t : ℕ) {M : Type 1}
     → members-lts.Closed (members-claims t) (measures.members-at t) members.Post M
 members-closed t =

@@ -118,6 +118,7 @@ nested-returns-3 t c =
     let test = read .before .before .before in
     some-wrote (nesting t (test .before)) (test .if1 .left) (read .read-elements .ensures)
 
+-- it meets its contract where those that it calls meet theirs below its measure
 pub nested-closed : (t : ℕ) {M : Type 1}
     → nested-lts.Closed (nested-claims t) (measures.nested-at t) nested.Post M
 nested-closed t =

@@ -98,6 +98,7 @@ struct-returns-2 t c =
     wrote-as (members-are (start .pre .1 .0 .0) (start .pre .1 .0 .1) (read .type-row .ensures)
     (test .is-string .ensures) (left .if1 .left)) (back .read-members .ensures)
 
+-- it meets its contract where those that it calls meet theirs below its measure
 pub struct-closed : (t : ℕ) {M : Type 1}
     → struct-lts.Closed (struct-claims t) (measures.struct-at t) struct.Post M
 struct-closed t =

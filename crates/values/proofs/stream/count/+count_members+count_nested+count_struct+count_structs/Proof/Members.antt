@@ -170,6 +170,7 @@ module _ (t : ℕ) where
   returns-3 : so lts.Need-returns-3
   returns-3 c = rows-all (c .before .loop .inv) (c .loop-test .left)
 
+  -- it meets its contract where those that it calls meet theirs below its measure
   pub closed : {M : Type 1} → lts.Closed (claims t) (measures.members-at t) reads.Post M
   closed =
       lts.spec (claims t) (measures.members-at t) reads.Post Inv μ type-row-requires wide-requires wide-requires-2

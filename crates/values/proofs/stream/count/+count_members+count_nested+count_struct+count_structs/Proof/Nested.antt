@@ -82,6 +82,7 @@ module _ (t : ℕ) where
       (at-wide .wide .ensures ∙ ap (λ (m : Member). m .count) (at-member .member-row .ensures))
       (c .count-structs .ensures)
 
+  -- it meets its contract where those that it calls meet theirs below its measure
   pub closed : {M : Type 1} → lts.Closed (claims t) (measures.nested-at t) reads.Post M
   closed =
       lts.spec (claims t) (measures.nested-at t) reads.Post member-row-requires wide-requires enum-told returns

@@ -67,6 +67,7 @@ module _ (t : ℕ) where
       let p = else1 .before .before .before .pre .1 in
       members-counted (p .0) (p .1 .0) (kind-is (else1 .before) ∙ else1 .if1 .left) (c .count-members .ensures)
 
+  -- it meets its contract where those that it calls meet theirs below its measure
   pub closed : {M : Type 1} → lts.Closed (claims t) (measures.struct-at t) reads.Post M
   closed =
       lts.spec (claims t) (measures.struct-at t) reads.Post type-row-requires is-string-requires add-result returns

@@ -84,6 +84,7 @@ module _ (t : ℕ) where
       structs-all (now (a .types)) (now (a .members)) (a .i) (a .n) (else1 .if1 .left)
       (at-struct .count-struct2 .ensures) (c .if3 .left)
 
+  -- it meets its contract where those that it calls meet theirs below its measure
   pub closed : {M : Type 1} → lts.Closed (claims t) (measures.structs-at t) reads.Post M
   closed =
       lts.spec (claims t) (measures.structs-at t) reads.Post count-struct-requires returns add-result returns-2

@@ -106,6 +106,7 @@ module _ (t : ℕ) where
   unfolding elementsBy
   returns-2 c = sum-done 10 11 (c .before .loop .inv) (c .loop-test .left)
 
+  -- it meets its contract where those that it calls meet theirs below its measure
   pub closed : {M : Type 1} → lts.Closed (claims t) (measures.elements-at t) reads.Post M
   closed =
       lts.spec (claims t) (measures.elements-at t) reads.Post Inv μ struct-size-requires loop-holds returns mul-start

@@ -175,6 +175,7 @@ module _ (t : ℕ) where
       texts-as (some-is (held (else1 .before)) (else1 .if1 .left) (structOut (a .types .now) (a .members .now)) j)
       (texts-member j (c .text-elements .ensures))
 
+  -- it meets its contract where those that it calls meet theirs below its measure
   pub closed : {M : Type 1} → lts.Closed (claims t) (measures.nested-at t) reads.Post M
   closed =
       lts.spec (claims t) (measures.nested-at t) reads.Post member-row-requires wide-requires wide-requires-2 enum-told

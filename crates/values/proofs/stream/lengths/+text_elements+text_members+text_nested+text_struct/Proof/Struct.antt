@@ -98,6 +98,7 @@ module _ (t : ℕ) where
       let pre = start tested .pre in
       members-texts (pre .1 .0) (pre .1 .1 .0) (kind tested ∙ c .before .if1 .left) (c .text-members .ensures)
 
+  -- it meets its contract where those that it calls meet theirs below its measure
   pub closed : {M : Type 1} → lts.Closed (claims t) (measures.struct-at t) reads.Post M
   closed =
       lts.spec (claims t) (measures.struct-at t) reads.Post type-row-requires is-string-requires wide-requires

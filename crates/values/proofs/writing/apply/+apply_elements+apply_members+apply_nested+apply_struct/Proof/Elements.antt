@@ -157,6 +157,7 @@ module _ (t : ℕ) where
   returns-3 : so lts.Need-returns-3
   returns-3 c = elements-done (c .before .loop .inv) (c .loop-test .left)
 
+  -- it meets its contract where those that it calls meet theirs below its measure
   pub closed : {M : Type 1} → lts.Closed (claims t) (measures.elements-at t) reads.Post M
   closed =
       lts.spec (claims t) (measures.elements-at t) reads.Post Inv μ kind-of-requires add-result returns

@@ -216,6 +216,7 @@ module _ (t : ℕ) where
       let a = at-row .before .before .before .before .before .before .before .before .before .before .before .args in
       named-is at-row .on _ _ (at-call .set-leaf .ensures (treeIn (now (a .types)) (now (a .members))))
 
+  -- it meets its contract where those that it calls meet theirs below its measure
   pub closed : {M : Type 1} → lts.Closed (claims t) (measures.members-at t) reads.Post M
   closed =
       lts.spec (claims t) (measures.members-at t) reads.Post Inv μ kind-of-requires add-result returns type-row-requires

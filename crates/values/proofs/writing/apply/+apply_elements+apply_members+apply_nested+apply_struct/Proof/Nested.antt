@@ -142,6 +142,7 @@ module _ (t : ℕ) where
       applied-as (all-write (held at-ty) (else1 .if1 .left) (leftAt (now (a .s)) (a .k)) (flat (now (a .image))))
       (at-elements .apply-elements .ensures)
 
+  -- it meets its contract where those that it calls meet theirs below its measure
   pub closed : {M : Type 1} → lts.Closed (claims t) (measures.nested-at t) reads.Post M
   closed =
       lts.spec (claims t) (measures.nested-at t) reads.Post member-row-requires wide-requires add-start wide-requires-2

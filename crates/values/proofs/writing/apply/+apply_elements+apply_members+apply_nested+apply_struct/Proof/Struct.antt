@@ -144,6 +144,7 @@ module _ (t : ℕ) where
       let start = else1 .before .before .before .before .before in
       applied-as (members-are else1 (flat (now (start .args .image)))) (at-members .apply-members .ensures)
 
+  -- it meets its contract where those that it calls meet theirs below its measure
   pub closed : {M : Type 1} → lts.Closed (claims t) (measures.struct-at t) reads.Post M
   closed =
       lts.spec (claims t) (measures.struct-at t) reads.Post type-row-requires is-string-requires wide-requires

@@ -157,6 +157,7 @@ module _ (t : ℕ) where
   returns-6 : so lts.Need-returns-6
   returns-6 c = elements-short (c .before .before .loop .inv) (c .before .loop-test .left) (c .refused3 .ensures)
 
+  -- it meets its contract where those that it calls meet theirs below its measure
   pub closed : {M : Type 1} → lts.Closed (claims t) (measure.elements-at t) reads.Post M
   closed =
       lts.spec (claims t) (measure.elements-at t) reads.Post Inv μ kind-at-requires add-result returns refused-requires

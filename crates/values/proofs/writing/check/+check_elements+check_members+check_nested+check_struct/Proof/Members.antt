@@ -275,6 +275,7 @@ module _ (t : ℕ) where
   returns-8 : so lts.Need-returns-8
   returns-8 c = members-short (c .before .before .loop .inv) (c .before .loop-test .left) (c .refused4 .ensures)
 
+  -- it meets its contract where those that it calls meet theirs below its measure
   pub closed : {M : Type 1} → lts.Closed (claims t) (measure.members-at t) reads.Post M
   closed =
       lts.spec (claims t) (measure.members-at t) reads.Post Inv μ kind-at-requires add-result returns refused-requires

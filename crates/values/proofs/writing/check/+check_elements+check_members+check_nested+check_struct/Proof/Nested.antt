@@ -109,6 +109,7 @@ module _ (t : ℕ) where
       (at-wide .wide .ensures ∙ ap (λ (m : Member). m .count) (at-member .member-row .ensures)) (else1 .if1 .left)
       (c .check-elements .ensures)
 
+  -- it meets its contract where those that it calls meet theirs below its measure
   pub closed : {M : Type 1} → lts.Closed (claims t) (measure.nested-at t) reads.Post M
   closed =
       lts.spec (claims t) (measure.nested-at t) reads.Post member-row-requires wide-requires enum-told refused-requires

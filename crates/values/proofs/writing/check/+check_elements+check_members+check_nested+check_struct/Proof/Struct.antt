@@ -86,6 +86,7 @@ module _ (t : ℕ) where
       struct-checked (p .0) (p .1) (at-type .type-row .ensures) (at-kind .is-string .ensures) (else1 .if1 .left)
       (c .check-members .ensures)
 
+  -- it meets its contract where those that it calls meet theirs below its measure
   pub closed : {M : Type 1} → lts.Closed (claims t) (measure.struct-at t) reads.Post M
   closed =
       lts.spec (claims t) (measure.struct-at t) reads.Post type-row-requires is-string-requires wide-requires
