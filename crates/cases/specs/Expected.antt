@@ -26,11 +26,11 @@ refuses kind image answer =
     leb 1 (getD answer 0 0) && leb (getD answer 0 0) 254 && cond (eqb kind 6) (sameBytes (drop 5 answer) image) true
 
 -- form 2: exactly these bytes, a refusal's number and place and after that of a write the image
-abbrev pub formed : ℕ → ℕ → List ℕ → List ℕ → Bool
-formed form kind rest answer =
+abbrev pub inForm : ℕ → ℕ → List ℕ → List ℕ → Bool
+inForm form kind rest answer =
     cond (eqb form 0) (accepts rest answer)
     (cond (eqb form 1) (refuses kind rest answer) (eqb form 2 && sameBytes answer rest))
 
 unfoldable pub agreesOf : ℕ → List ℕ → List ℕ → Bool
 agreesOf kind expected answer =
-    leb 1 (length expected) && leb 5 (length answer) && formed (getD expected 0 0) kind (drop 1 expected) answer
+    leb 1 (length expected) && leb 5 (length answer) && inForm (getD expected 0 0) kind (drop 1 expected) answer

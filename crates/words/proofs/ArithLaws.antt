@@ -118,16 +118,16 @@ room-test n at long l = go (leb at (long - n)) refl
 -- ---- before and after a range
 
 -- a number that is none of the n from p on, and not before them, is after them
-pub after : (p n k : ℕ) → p ≤ k → (p ≤ k → k < p + n → ⊥) → p + n ≤ k
-after p n k a f = go (decLt k (p + n))
+pub past-range : (p n k : ℕ) → p ≤ k → (p ≤ k → k < p + n → ⊥) → p + n ≤ k
+past-range p n k a f = go (decLt k (p + n))
   where
     go : Dec (k < p + n) → p + n ≤ k
     go (yes l) = absurd (f a l)
     go (no l) = omega (arith, l)
 
 -- a number that is none of the n from p on, and not after them, is before them
-pub before : (p n k : ℕ) → (p ≤ k → k < p + n → ⊥) → k < p + n → k < p
-before p n k f b = go (decLt k p)
+pub before-range : (p n k : ℕ) → (p ≤ k → k < p + n → ⊥) → k < p + n → k < p
+before-range p n k f b = go (decLt k p)
   where
     go : Dec (k < p) → k < p
     go (yes l) = l

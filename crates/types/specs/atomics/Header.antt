@@ -23,8 +23,8 @@ abbrev pub handlesIn : List ℕ → ℕ → ℕ
 handlesIn types n = typeAt types n .handle
 
 -- at most four bytes as code has them, with zeros after them
-abbrev pub held : List ℕ → Header
-held s = record { bytes = take 4 (s ++ 0 ∷ 0 ∷ 0 ∷ 0 ∷ []); long = length s }
+abbrev pub headerHeld : List ℕ → Header
+headerHeld s = record { bytes = take 4 (s ++ 0 ∷ 0 ∷ 0 ∷ 0 ∷ []); long = length s }
 
 -- what is said, and the bytes beside it
 pub record HeaderSaid : Type 0 where
@@ -37,5 +37,5 @@ saidBy r = record { said = fitSays (r .fit); header = r .header }
 
 unfoldable pub headedOf : List ℕ → Ty → HeaderSaid
 headedOf types ty =
-    cond (isThere types ty) (record { said = done tt; header = held (headerOf (handlesIn types) ty) })
-    (record { said = refused 15 0; header = held [] })
+    cond (isThere types ty) (record { said = done tt; header = headerHeld (headerOf (handlesIn types) ty) })
+    (record { said = refused 15 0; header = headerHeld [] })

@@ -32,22 +32,22 @@ use Rattle.types.specs.declared.tables.member.Ty.the-variants.{Atomic}
 -- ---- declared members, and what is asked of their layout
 
 -- a member of an atomic type with a dim, as a book declares it; no name is asked for
-unfoldable pub declared : AtomicType → ℕ → Decl
+unfoldable pub declaredAs : AtomicType → ℕ → Decl
 unfolding resolved storedTy storedCount boolArray isBool sizeOf
-declared a dim = resolved (λ n. 0) (Atomic a) dim (record { at = 0; long = 0 }) false 0
+declaredAs a dim = resolved (λ n. 0) (Atomic a) dim (record { at = 0; long = 0 }) false 0
 
 abbrev pub bool : Decl
-bool = declared BOOL 0
+bool = declaredAs BOOL 0
 
 abbrev pub sint : Decl
-sint = declared SInt 0
+sint = declaredAs SInt 0
 
 abbrev pub boolDim : ℕ → Decl
-boolDim dim = declared BOOL dim
+boolDim dim = declaredAs BOOL dim
 
 -- what a case opens to compute one step
 unfoldable pub step : Cursor → Decl → Placed
-unfolding placed accessOk isBool placeBool placeOther opened nextBit closed startOf memberEnd alignUp times declared
+unfolding placed accessOk isBool placeBool placeOther opened nextBit closed startOf memberEnd alignUp times declaredAs
 step c d = placed c d
 
 unfoldable pub udt : List Decl → LaidOut
@@ -117,12 +117,12 @@ unfolding udt visibleOf
 between = refl
 
 -- BOOL dim 32: one DWORD
-pub dim-32 : visible (udt (boolDim 32 ∷ [])) ≡ otherAt (declared DWord 1) 0 ∷ []
+pub dim-32 : visible (udt (boolDim 32 ∷ [])) ≡ otherAt (declaredAs DWord 1) 0 ∷ []
 unfolding udt visibleOf
 dim-32 = refl
 
 -- dim 33: two, size 8
-pub dim-33 : visible (udt (boolDim 33 ∷ [])) ≡ otherAt (declared DWord 2) 0 ∷ []
+pub dim-33 : visible (udt (boolDim 33 ∷ [])) ≡ otherAt (declaredAs DWord 2) 0 ∷ []
 unfolding udt visibleOf
 dim-33 = refl
 

@@ -21,14 +21,14 @@ use Rattle.types.specs.declared.tables.member.Ty.the-variants.{Atomic, S
 -- ---- lines
 
 -- some bytes and the one that ends them
-abbrev pub ended : List ℕ → ℕ → List ℕ
-ended s b = s ++ (b ∷ [])
+abbrev pub withStop : List ℕ → ℕ → List ℕ
+withStop s b = s ++ (b ∷ [])
 
 -- a space stands after each field but the last, and a newline after that
 unfoldable pub line : List (List ℕ) → List ℕ
 line [] = []
-line (f ∷ []) = ended f 10
-line (f ∷ g ∷ fs) = ended f 32 ++ line (g ∷ fs)
+line (f ∷ []) = withStop f 10
+line (f ∷ g ∷ fs) = withStop f 32 ++ line (g ∷ fs)
 
 -- the bytes of `type` and of `refused`
 abbrev pub typeWord : List ℕ

@@ -1,6 +1,6 @@
 // A type's header (document 01, "Atomic types"): an atomic's code and 0, or A0 02 and the structure's handle.
 ghost use mathlib.Core.Path.{_≡_};
-ghost use Rattle.types.specs.atomics.Header.{held, headerOf, handlesIn, headedOf, saidBy};
+ghost use Rattle.types.specs.atomics.Header.{headerHeld, headerOf, handlesIn, headedOf, saidBy};
 ghost use Rattle.types.specs.inside.tables.Lent.{TyFits};
 use crate::refusals::fit::Fit;
 use crate::refusals::refusal::Refusal;
@@ -26,7 +26,7 @@ pub struct Headed {
 // The header of a type that is there.
 fn header_in(types: &TypeTable, ty: Ty) -> Header
     requires { ⌜ TyFits ty ⌝ }
-    ensures { λ r. ⌜ r ≡ held (headerOf (handlesIn (now (types .entry))) ty) ⌝ }
+    ensures { λ r. ⌜ r ≡ headerHeld (headerOf (handlesIn (now (types .entry))) ty) ⌝ }
 {
     match ty {
         Ty::Atomic(a) => {

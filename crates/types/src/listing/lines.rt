@@ -8,7 +8,7 @@ ghost use lib.ListN.{length};
 ghost use Rattle.types.specs.atomics.Atomic.{nameOf};
 ghost use Rattle.types.specs.inside.listing.Lines.{TypeNamed, Listable, FieldFits, FieldPut, Lined};
 ghost use Rattle.types.specs.layout.HostNames.{digits};
-ghost use Rattle.types.specs.listing.Lines.{ended, line, typeNumbers, seenLetter, bitText, memberPlace};
+ghost use Rattle.types.specs.listing.Lines.{withStop, line, typeNumbers, seenLetter, bitText, memberPlace};
 ghost use Rattle.types.specs.listing.Lines.{refusedLine, printedType, structNames, typeLineIn, memberLineIn};
 ghost use Rattle.types.specs.listing.Lines.{hasMember};
 ghost use Rattle.types.specs.refusals.Given.{Given};
@@ -75,8 +75,8 @@ fn put_stop(out: &mut [u8], at: usize, stop: u8) -> usize
 
 // A field of some bytes.
 fn put_field(out: &mut [u8], at: usize, s: &[u8], stop: u8) -> usize
-    requires { ⌜ FieldFits (ended (now s) stop) at (now out) ⌝ }
-    ensures { λ r. ⌜ FieldPut (ended (now (s .entry)) stop) at (now (out .entry)) r (now (out .exit)) ⌝ }
+    requires { ⌜ FieldFits (withStop (now s) stop) at (now out) ⌝ }
+    ensures { λ r. ⌜ FieldPut (withStop (now (s .entry)) stop) at (now (out .entry)) r (now (out .exit)) ⌝ }
 {
     let next = put_text(out, at, s);
     put_stop(out, next, stop)
@@ -84,8 +84,8 @@ fn put_field(out: &mut [u8], at: usize, s: &[u8], stop: u8) -> usize
 
 // A field that is a number.
 fn put_number(out: &mut [u8], at: usize, x: u64, stop: u8) -> usize
-    requires { ⌜ FieldFits (ended (digits x) stop) at (now out) ⌝ }
-    ensures { λ r. ⌜ FieldPut (ended (digits x) stop) at (now (out .entry)) r (now (out .exit)) ⌝ }
+    requires { ⌜ FieldFits (withStop (digits x) stop) at (now out) ⌝ }
+    ensures { λ r. ⌜ FieldPut (withStop (digits x) stop) at (now (out .entry)) r (now (out .exit)) ⌝ }
 {
     let next = put_decimal(out, at, x);
     put_stop(out, next, stop)
@@ -94,8 +94,8 @@ fn put_number(out: &mut [u8], at: usize, x: u64, stop: u8) -> usize
 // A field that is a name of the table.
 fn put_name(out: &mut [u8], at: usize, names: &[u8], name: Span, stop: u8) -> usize
     requires { ⌜ (name .at + name .long ≤ length (now names))
-        × FieldFits (ended (nameIn (now names) name) stop) at (now out) ⌝ }
-    ensures { λ r. ⌜ FieldPut (ended (nameIn (now (names .entry)) name) stop) at
+        × FieldFits (withStop (nameIn (now names) name) stop) at (now out) ⌝ }
+    ensures { λ r. ⌜ FieldPut (withStop (nameIn (now (names .entry)) name) stop) at
         (now (out .entry)) r (now (out .exit)) ⌝ }
 {
     let from = wide(name.at);
@@ -105,8 +105,8 @@ fn put_name(out: &mut [u8], at: usize, names: &[u8], name: Span, stop: u8) -> us
 
 // A field that is an atomic's name.
 fn put_atomic(out: &mut [u8], at: usize, a: Atomic) -> usize
-    requires { ⌜ FieldFits (ended (nameOf a) 32) at (now out) ⌝ }
-    ensures { λ r. ⌜ FieldPut (ended (nameOf a) 32) at (now (out .entry)) r (now (out .exit)) ⌝ }
+    requires { ⌜ FieldFits (withStop (nameOf a) 32) at (now out) ⌝ }
+    ensures { λ r. ⌜ FieldPut (withStop (nameOf a) 32) at (now (out .entry)) r (now (out .exit)) ⌝ }
 {
     let row = a.row();
     let bytes = row.3;
@@ -117,8 +117,8 @@ fn put_atomic(out: &mut [u8], at: usize, a: Atomic) -> usize
 // A member's stored type.
 fn put_type_name(types: &TypeTable, names: &[u8], ty: Ty, out: &mut [u8], at: usize) -> usize
     requires { ⌜ TypeNamed (now types) ty × ((length (now names) ≡ mostNames)
-        × FieldFits (ended (printedType (structNames (now types) (now names)) ty) 32) at (now out)) ⌝ }
-    ensures { λ r. ⌜ FieldPut (ended (printedType (structNames (now (types .entry)) (now (names .entry))) ty) 32) at
+        × FieldFits (withStop (printedType (structNames (now types) (now names)) ty) 32) at (now out)) ⌝ }
+    ensures { λ r. ⌜ FieldPut (withStop (printedType (structNames (now (types .entry)) (now (names .entry))) ty) 32) at
         (now (out .entry)) r (now (out .exit)) ⌝ }
 {
     match ty {
@@ -134,8 +134,8 @@ fn put_type_name(types: &TypeTable, names: &[u8], ty: Ty, out: &mut [u8], at: us
 
 // Whether a member is hidden or visible.
 fn put_seen(out: &mut [u8], at: usize, hidden: bool) -> usize
-    requires { ⌜ FieldFits (ended (seenLetter hidden) 32) at (now out) ⌝ }
-    ensures { λ r. ⌜ FieldPut (ended (seenLetter hidden) 32) at (now (out .entry)) r (now (out .exit)) ⌝ }
+    requires { ⌜ FieldFits (withStop (seenLetter hidden) 32) at (now out) ⌝ }
+    ensures { λ r. ⌜ FieldPut (withStop (seenLetter hidden) 32) at (now (out .entry)) r (now (out .exit)) ⌝ }
 {
     if hidden {
         return put_field(out, at, b"h", b' ');
@@ -145,8 +145,8 @@ fn put_seen(out: &mut [u8], at: usize, hidden: bool) -> usize
 
 // A member's bit.
 fn put_bit(out: &mut [u8], at: usize, bit: Bit) -> usize
-    requires { ⌜ FieldFits (ended (bitText bit) 32) at (now out) ⌝ }
-    ensures { λ r. ⌜ FieldPut (ended (bitText bit) 32) at (now (out .entry)) r (now (out .exit)) ⌝ }
+    requires { ⌜ FieldFits (withStop (bitText bit) 32) at (now out) ⌝ }
+    ensures { λ r. ⌜ FieldPut (withStop (bitText bit) 32) at (now (out .entry)) r (now (out .exit)) ⌝ }
 {
     match bit {
         Bit::None => {

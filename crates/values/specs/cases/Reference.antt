@@ -4,7 +4,7 @@ use mathlib.Core.List.{[], _∷_, getLast?}
 use mathlib.Core.Option.{some}
 use mathlib.Core.Path.{_≡_}
 use lib.ListN.{length, replicate}
-use Rattle.types.specs.cases.Layouts.{aoi, bool, boolDim, declared, hostsAt, partsIf, sint, sizeIf, udt, visible}
+use Rattle.types.specs.cases.Layouts.{aoi, bool, boolDim, declaredAs, hostsAt, partsIf, sint, sizeIf, udt, visible}
 use Rattle.types.specs.cases.Layouts as layouts
 use Rattle.types.specs.layout.Placing.{boolAt, otherAt}
 use Rattle.types.specs.layout.Structs.{stringSize}
@@ -29,8 +29,8 @@ pub record Reference : Type 0 where
   pub between-hosts : hostsAt (udt (bool ∷ sint ∷ bool ∷ [])) ≡ 0 ∷ 2 ∷ []
   pub between : visible (udt (bool ∷ sint ∷ bool ∷ [])) ≡ boolAt bool 0 0 ∷ otherAt sint 1 ∷ boolAt bool 2 0 ∷ []
   -- BOOL dim 32: one DWORD; dim 33: two, size 8
-  pub dim-32 : visible (udt (boolDim 32 ∷ [])) ≡ otherAt (declared DWord 1) 0 ∷ []
-  pub dim-33 : visible (udt (boolDim 33 ∷ [])) ≡ otherAt (declared DWord 2) 0 ∷ []
+  pub dim-32 : visible (udt (boolDim 32 ∷ [])) ≡ otherAt (declaredAs DWord 1) 0 ∷ []
+  pub dim-33 : visible (udt (boolDim 33 ∷ [])) ≡ otherAt (declaredAs DWord 2) 0 ∷ []
   pub dim-33-size : sizeIf (udt (boolDim 33 ∷ [])) ≡ some 8
   -- AOI with 30 BOOLs: one host, last at byte 3 bit 7; with 31: two, last at byte 4 bit 0
   pub thirty-bools : hostsAt (aoi (replicate 30 bool)) ≡ 0 ∷ []

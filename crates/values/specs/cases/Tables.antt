@@ -4,7 +4,7 @@ use Prim.Native.Nat.{ℕ}
 use mathlib.Core.List.{List, [], _∷_}
 use mathlib.Core.Option.{Option, none, some}
 use Rattle.types.specs.atomics.Atomic.{atomicAt}
-use Rattle.types.specs.cases.Layouts.{bool, declared, partsIf, sizeIf, udt}
+use Rattle.types.specs.cases.Layouts.{bool, declaredAs, partsIf, sizeIf, udt}
 use Rattle.types.specs.layout.HostNames.{hostName}
 use Rattle.types.specs.layout.Placing.{alignUp}
 use Rattle.types.specs.layout.Structs.{rowsOf, stringParts, stringSize}
@@ -18,7 +18,7 @@ use Rattle.values.specs.reading.Trees.{KnownStruct, knownIn, membersAt}
 
 -- Good BOOL, Live BOOL, Level INT
 abbrev chanDecls : List Decl
-chanDecls = bool ∷ bool ∷ declared Int 0 ∷ []
+chanDecls = bool ∷ bool ∷ declaredAs Int 0 ∷ []
 
 -- a layout that is not refused has a size
 abbrev orZero : Option ℕ → ℕ

@@ -11,7 +11,7 @@ use Rattle.words.proofs.Lists.{sets-append, drop-set, part-most}
 use Rattle.types.specs.atomics.Atomic.{nameOf}
 use Rattle.types.specs.inside.listing.Lines.{Short, StructNamed, TypeNamed, Listable, FieldFits, FieldPut, Lined}
 use Rattle.types.specs.layout.HostNames.{digits}
-use Rattle.types.specs.listing.Lines.{ended, line, typeWord, typeNumbers, typeLine, seenLetter, bitText}
+use Rattle.types.specs.listing.Lines.{withStop, line, typeWord, typeNumbers, typeLine, seenLetter, bitText}
 use Rattle.types.specs.listing.Lines.{memberPlace, memberLine, refusedWord, refusedLine, printedType, structNames}
 use Rattle.types.specs.tables.Defs.{nameIn}
 use Rattle.types.specs.tables.Lent.{memberAt, nameAt}
@@ -73,24 +73,24 @@ left-all fs h = record { fits = h; then = λ r last a. a }
 module _ {whole : List ℕ} {start : ℕ} {first f : List ℕ} {at : ℕ} {now : List ℕ} where
   module _ {g : List ℕ} {fs : List (List ℕ)} (l : FieldsLeft whole start first (f ∷ g ∷ fs) at now) where
     -- the next field fits
-    pub left-room : FieldFits (ended f 32) at now
+    pub left-room : FieldFits (withStop f 32) at now
     unfolding line
-    left-room = fits-first (ended f 32) (line (g ∷ fs)) (l .fits)
+    left-room = fits-first (withStop f 32) (line (g ∷ fs)) (l .fits)
 
     -- the next field was put
-    pub left-on : {r : ℕ} {next : List ℕ} → FieldPut (ended f 32) at now r next
+    pub left-on : {r : ℕ} {next : List ℕ} → FieldPut (withStop f 32) at now r next
         → FieldsLeft whole start first (g ∷ fs) r next
     unfolding line
     left-on a = record { fits = fits-then (l .fits) a; then = λ r last b. l .then r last (added-both a b) }
 
   module _ (l : FieldsLeft whole start first (f ∷ []) at now) where
     -- the last field fits
-    pub last-room : FieldFits (ended f 10) at now
+    pub last-room : FieldFits (withStop f 10) at now
     unfolding line
     last-room = l .fits
 
     -- the last field was put
-    pub left-done : {r : ℕ} {last : List ℕ} → FieldPut (ended f 10) at now r last → FieldPut whole start first r last
+    pub left-done : {r : ℕ} {last : List ℕ} → FieldPut (withStop f 10) at now r last → FieldPut whole start first r last
     unfolding line
     left-done {r} {last} a = l .then r last a
 

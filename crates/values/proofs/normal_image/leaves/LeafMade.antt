@@ -14,7 +14,7 @@ use Rattle.words.specs.Bits.{Bits, bitOf, digit, flat, from, inside, stamp, val
 use Rattle.words.specs.Words.{Bytes, bytesOf, wordAt}
 use Rattle.words.proofs.BitLaws.{BitLies, among, beside, byte-val, flat-set, lies, word-val}
 use Rattle.words.proofs.StampLaws.{flat-word}
-use Rattle.words.proofs.ArithLaws.{after, before}
+use Rattle.words.proofs.ArithLaws.{past-range, before-range}
 use Rattle.types.specs.atomics.Atomic.{bitString, sizeOf}
 use Rattle.types.specs.layout.Placing.{times}
 use Rattle.types.specs.declared.atomics.atomic.Atomic.{Atomic}
@@ -61,7 +61,7 @@ module _ (l : Leaf) (same : (b : Bits) (k : ℕ) → norm l b k ≡ b k) where
           ≡ x k
       go (among u v e) rest = let j : p + (k - p) ≡ k = omega arith in rw e (same (from p x) (k - p) ∙ ap x j)
       go (beside f e) rest =
-          let past : p + width l ≤ k = after p (width l) k a f in
+          let past : p + width l ≤ k = past-range p (width l) k a f in
           rw e (rest past (omega (arith, suc-mul n (width l))))
 
   leaf-kept : room l ≡ width l → (p : ℕ) (x : Bits) → made (leaf l) p x ≡ x
@@ -283,8 +283,8 @@ module _ (capacity base n : ℕ) (image : List ℕ) where
   text-bit h k (among a b e) (among v m w) (among c d g) (beside q r) =
       rw (e, w, g, le-ltb (k - 8 * base) 32 (omega arith), le-ltb (k - 8 * base - 32) (8 * n) (omega arith)) refl
   text-bit h k (among a b e) w (beside u g) (beside q r) =
-      text-inner h k e w g r (after (8 * base) 32 k a q)
-      (before (8 * (base + 4 + n)) (8 * (data-room - n)) k u (omega arith))
+      text-inner h k e w g r (past-range (8 * base) 32 k a q)
+      (before-range (8 * (base + 4 + n)) (8 * (data-room - n)) k u (omega arith))
 
 -- the two stores of the code, where n and m are the length of the text, and space the bytes of DATA
 pub text-made : (capacity base n m space : ℕ) (image : List ℕ) {one new : List ℕ} → Bytes image

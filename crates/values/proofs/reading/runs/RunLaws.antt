@@ -84,13 +84,13 @@ module _ {g : ℕ → Token} {n at p i : ℕ} {first out : List ℕ} (w : Number
 -- ---- numbers of w bytes
 
 -- number k
-abbrev pub formed : Form → ℕ → List ℕ → ℕ → Token
-formed f w s k = number (f .kind) (extended f (wordAt w s (w * k)))
+abbrev pub formTokens : Form → ℕ → List ℕ → ℕ → Token
+formTokens f w s k = number (f .kind) (extended f (wordAt w s (w * k)))
 
 -- the next number is put, widened by its form
 pub numbers-on : (f : Form) (w : ℕ) (s : List ℕ) {n at p i x y : ℕ} {first out new : List ℕ}
-    → NumbersRun (formed f w s) n first at out p i → i < n → x ≡ wordAt w s (w * i) → y ≡ extended f x
-    → new ≡ sets out p (entryBytes (f .kind) y) → NumbersRun (formed f w s) n first at new (p + 12) (i + 1)
+    → NumbersRun (formTokens f w s) n first at out p i → i < n → x ≡ wordAt w s (w * i) → y ≡ extended f x
+    → new ≡ sets out p (entryBytes (f .kind) y) → NumbersRun (formTokens f w s) n first at new (p + 12) (i + 1)
 numbers-on f w s r h a b e = run-on r h refl refl (sym (b ∙ ap (extended f) a)) e
 
 module _ {a : Atomic} {f : Form} {w n : ℕ} {s : List ℕ} (e : f ≡ formOf a) (r : NumberRun a w n s) (b : Bytes s) where
@@ -99,7 +99,7 @@ module _ {a : Atomic} {f : Form} {w n : ℕ} {s : List ℕ} (e : f ≡ formOf a)
   number-fits at h = rw (h, e, ← r .size) (fill-fits a s at b)
 
   -- all numbers are put: the elements of the array
-  pub numbers-done : {at p i : ℕ} {first out : List ℕ} → NumbersRun (formed f w s) n first at out p i → n ≤ i
+  pub numbers-done : {at p i : ℕ} {first out : List ℕ} → NumbersRun (formTokens f w s) n first at out p i → n ≤ i
       → EntriesPut first at (upTo (elementOut a s) n) out p
   numbers-done v l =
       run-done v (elementOut a s) l

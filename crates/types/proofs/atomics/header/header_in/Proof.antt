@@ -5,7 +5,7 @@ use mathlib.Core.Path.{ap}
 use mathlib.Core.List.{List, _∷_}
 use Prim.Native.Nat.{ℕ, _<_}
 use Rattle.words.proofs.WordLaws.{two-bytes}
-use Rattle.types.specs.atomics.Header.{held}
+use Rattle.types.specs.atomics.Header.{headerHeld}
 use Rattle.types.specs.tables.Lent.{typeAt}
 use Rattle.types.proofs.atomics.header.header_in.Statement.{statement}
 use Rattle.types.proofs.atomics.header.header_in.Tie as tie
@@ -26,7 +26,7 @@ returns-2 : tie.Need-returns-2
 returns-2 c =
     let d = c .before .before in
     rw (d .before .before .ty2 .given .1, c .high8 .ensures, c .before .low8 .ensures, d .type-row .ensures)
-    (ap (λ (l : List ℕ). held (0xA0 ∷ 0x02 ∷ l)) (two-bytes (small d)))
+    (ap (λ (l : List ℕ). headerHeld (0xA0 ∷ 0x02 ∷ l)) (two-bytes (small d)))
 
 pub header-in-spec : {M : Type 1} → statement M
 header-in-spec =

@@ -2,13 +2,13 @@
 use native.Mathlib.Omega.{arith}
 use borrow.Author.Needs.{needs}
 use Prim.Native.Nat.{_*_, _-_}
-use Rattle.values.proofs.reading.runs.RunLaws.{NumbersRun, formed, run-start, run-room, run-length, numbers-on}
-use Rattle.values.proofs.reading.runs.RunLaws.{numbers-done, number-fits}
+use Rattle.values.proofs.reading.runs.RunLaws.{NumbersRun, formTokens, run-start, run-room, run-length}
+use Rattle.values.proofs.reading.runs.RunLaws.{numbers-on, numbers-done, number-fits}
 use Rattle.values.proofs.reading.runs.put_eights.Statement.{statement}
 use Rattle.values.proofs.reading.runs.put_eights.Tie as tie
 
 abbrev Inv-loop : tie.InvT-loop
-Inv-loop n s out₀ at f p₀ i₀ out p i = NumbersRun (formed f 8 s) n out₀ at out p i
+Inv-loop n s out₀ at f p₀ i₀ out p i = NumbersRun (formTokens f 8 s) n out₀ at out p i
 
 abbrev μ-loop : tie.MeasureT-loop
 μ-loop n s out₀ at f p₀ i₀ out p i = n - i

@@ -4,13 +4,13 @@ use borrow.Author.Needs.{needs}
 use Prim.Native.Nat.{_*_, _-_}
 use mathlib.Core.Path.{_≡_, ap, _∙_}
 use Rattle.words.specs.Words.{wordAt}
-use Rattle.values.proofs.reading.runs.RunLaws.{NumbersRun, formed, run-start, run-room, run-length, numbers-on}
-use Rattle.values.proofs.reading.runs.RunLaws.{numbers-done, number-fits}
+use Rattle.values.proofs.reading.runs.RunLaws.{NumbersRun, formTokens, run-start, run-room, run-length}
+use Rattle.values.proofs.reading.runs.RunLaws.{numbers-on, numbers-done, number-fits}
 use Rattle.values.proofs.reading.runs.put_ones.Statement.{statement}
 use Rattle.values.proofs.reading.runs.put_ones.Tie as tie
 
 abbrev Inv-loop : tie.InvT-loop
-Inv-loop n s out₀ at f p₀ i₀ out p i = NumbersRun (formed f 1 s) n out₀ at out p i
+Inv-loop n s out₀ at f p₀ i₀ out p i = NumbersRun (formTokens f 1 s) n out₀ at out p i
 
 abbrev μ-loop : tie.MeasureT-loop
 μ-loop n s out₀ at f p₀ i₀ out p i = n - i
