@@ -15,5 +15,4 @@ pub mod PredefinedIds
 pub mod PredefinedLaws
 pub mod PredefinedWell
 pub mod StoreLaws
-pub mod StoreOneLaws
 pub mod StringLaws

@@ -3,7 +3,6 @@ pub mod KeptWalkable
 pub mod LeafLaws
 pub mod Meaning
 pub mod MemberLaws
-pub mod NumberLaws
 pub mod PartLaws
 pub mod ReadingLaws
 pub mod SpanLaws

@@ -19,7 +19,7 @@ use Rattle.values.specs.inside.stream.Laying.{EntriesPut}
 use Rattle.values.specs.reading.Leaf.{isTrue}
 use Rattle.values.specs.stream.Stream.{Token, bool, number, kindOf, payloadOf, bodyOf, entryBytes, bodies}
 use Rattle.values.specs.declared.reading.numbers.Form.{Form}
-use Rattle.values.proofs.reading.NumberLaws.{number-form, truth-form, fill-fits}
+use Rattle.values.proofs.reading.runs.NumberLaws.{number-form, truth-form, fill-fits}
 use Rattle.values.proofs.reading.UpLaws.{up-ext}
 use Rattle.values.proofs.stream.HeadLaws.{bodies-one, plain-append}
 use Rattle.values.proofs.stream.PutLaws.{put-length, put-none, put-next}

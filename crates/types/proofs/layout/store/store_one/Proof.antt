@@ -6,9 +6,9 @@ use mathlib.Core.Path.{_≡_}
 use mathlib.Core.Logic.{inl, inr}
 use lib.ListN.{length, take, drop}
 use Rattle.types.specs.tables.Defs.{nameIn}
-use Rattle.types.proofs.layout.StoreOneLaws.{TwoFit, OneFits, two-fit, one-fits, next-hosted, next-alone}
-use Rattle.types.proofs.layout.StoreOneLaws.{stop-access, stop-far, rows-hosted, names-hosted, rows-alone}
-use Rattle.types.proofs.layout.StoreOneLaws.{names-alone, rows-kept, names-kept}
+use Rattle.types.proofs.layout.store.StoreOneLaws.{TwoFit, OneFits, two-fit, one-fits, next-hosted, next-alone}
+use Rattle.types.proofs.layout.store.StoreOneLaws.{stop-access, stop-far, rows-hosted, names-hosted, rows-alone}
+use Rattle.types.proofs.layout.store.StoreOneLaws.{names-alone, rows-kept, names-kept}
 use Rattle.types.proofs.layout.store.store_one.Statement.{statement}
 use Rattle.types.proofs.layout.store.store_one.Tie as tie
 use Rattle.types.proofs.tables.DefLaws.{lent-name, lent-name-long}
