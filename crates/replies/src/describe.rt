@@ -1,5 +1,7 @@
 // Kind 2: a type of the tables, whole, with its members.
+ghost use mathlib.Core.Path.{_≡_};
 ghost use Prim.Native.Nat.{_≤_};
+ghost use mathlib.Core.Bool.{cond};
 ghost use Rattle.types.specs.tables.Kept.{Kept};
 use crate::puts::accept;
 use crate::puts::malformed;
@@ -54,7 +56,8 @@ fn bit_byte(bit: Bit) -> u8 {
 
 // A flag's byte is the number where it is set.
 fn number_if(set: bool, number: u8) -> u8
-    ensures { λ r. ⌜ r ≤ number ⌝ }
+    ensures is { λ r. ⌜ r ≡ cond set number 0 ⌝ }
+    ensures most { λ r. ⌜ r ≤ number ⌝ }
 {
     if set {
         return number;

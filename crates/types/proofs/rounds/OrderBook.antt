@@ -47,15 +47,15 @@ same-right a n x e = go (sameName a n) (sameName a x) refl refl
     go false true u w = sym u ∙ lower-same a n (same-lower a x w ∙ sym lower)
     go false false u w = refl
 
-first-same : (p q : Kind → Bool) (l : List Kind) → ((a : Kind) → p a ≡ q a) → firstOf p l ≡ firstOf q l
+first-same : {p q : Kind → Bool} (l : List Kind) → ((a : Kind) → p a ≡ q a) → firstOf p l ≡ firstOf q l
 unfolding firstOf
-first-same p q [] h = refl
-first-same p q (a ∷ l) h = rw (h a, first-same p q l h)
+first-same [] h = refl
+first-same {p} {q} (a ∷ l) h = rw (h a, first-same {p = p} {q = q} l h)
 
 module _ (n x : List ℕ) (e : sameName n x ≡ true) where
   atomic-same : atomicNamed n ≡ atomicNamed x
   unfolding atomicNamed
-  atomic-same = first-same _ _ atomics (λ a. same-right (nameOf a) n x e)
+  atomic-same = first-same atomics (λ a. same-right (nameOf a) n x e)
 
   named-same : (K : List (List ℕ)) (i : ℕ) → namedAmong K n i ≡ namedAmong K x i
   unfolding namedAmong

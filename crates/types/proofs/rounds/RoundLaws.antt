@@ -135,9 +135,9 @@ module _ {S R : Type 0} (stuck : ℕ → R) (ready : S → ℕ → Bool) (add : 
       }
 
   -- a round that refused no type leaves at most as many waiting as it began with
-  pub round-fewer : (s : S) (ws : List ℕ) (s′ : S) (ws′ : List ℕ) → round stuck ready add s ws ≡ went s′ ws′
+  pub round-fewer : (s : S) (ws : List ℕ) (s′ : S) {ws′ : List ℕ} → round stuck ready add s ws ≡ went s′ ws′
       → length ws′ ≤ length ws
-  round-fewer s ws s′ ws′ e = rw e at (round-cases _ _ fewer-ways s ws)
+  round-fewer s ws s′ e = rw e at (round-cases _ _ fewer-ways s ws)
 
   -- ---- the next round of a loop
 

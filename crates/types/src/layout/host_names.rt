@@ -1,6 +1,6 @@
 // The names of hidden hosts (document 01, "Layout"): how long they are, and their bytes stored among the names.
 ghost use mathlib.Core.Path.{_≡_};
-ghost use Prim.Native.Nat.{_+_, _<_, _≤_, min};
+ghost use Prim.Native.Nat.{_+_, _<_, _≤_};
 ghost use lib.ListN.{length};
 ghost use lib.Seq.{sets};
 ghost use Rattle.types.specs.inside.layout.HostNames.{HostLong};
@@ -10,23 +10,18 @@ use crate::layout::decimals::DIGITS;
 use crate::layout::decimals::decimal_of;
 use crate::tables::lent::NameTable;
 use crate::tables::lent::put_bytes;
+use words::least;
 use words::wide64;
 
-fn at_most_ten(n: usize) -> usize
-    ensures { λ r. ⌜ r ≡ min 10 n ⌝ }
-{
-    if n < 10 {
-        return n;
-    }
-    10
-}
+// So many bytes of the type's name stand in its hosts' names.
+const TAKEN: usize = 10;
 
 // How long a UDT's host's name is.
 pub fn host_long(name: &[u8], k: u32) -> u32
     requires { ⌜ k < 1000000 ⌝ }
     ensures { λ r. ⌜ HostLong (now (name .entry)) k r ⌝ }
 {
-    let n = at_most_ten(name.len());
+    let n = least(TAKEN, name.len());
     let d = decimal_of(wide64(k));
     (10 + n + (DIGITS - d.from)) as u32
 }
@@ -36,7 +31,7 @@ pub fn put_host_name(names: &mut NameTable, at: usize, name: &[u8], k: u32)
     requires { ⌜ (k < 1000000) × (at + length (hostName (now name) k) ≤ mostNames) ⌝ }
     ensures { λ _. ⌜ now (names .exit) ≡ sets (now (names .entry)) at (hostName (now (name .entry)) k) ⌝ }
 {
-    let n = at_most_ten(name.len());
+    let n = least(TAKEN, name.len());
     let d = decimal_of(wide64(k));
     let bytes = d.bytes;
     let from = d.from;

@@ -4,7 +4,7 @@ use Prim.Native.Nat.{ℕ, zero, suc, _+_, _-_, _*_, _^_, _<_, _≤_}
 use native.Mathlib.Omega.{arith}
 use mathlib.Core.Path.{refl}
 use mathlib.Core.Bool.{Bool, true, false, cond}
-use mathlib.Core.List.{List, [], _∷_, _++_}
+use mathlib.Core.List.{List, [], _∷_}
 use lib.Dec.{eqb, ltb}
 use lib.ListN.{length}
 use borrow.Author.Tests.{lt-ltb}
@@ -26,6 +26,7 @@ use Rattle.types.specs.declared.tables.member.Bit.the-variants.{None, At as Bit
 use Rattle.types.specs.declared.tables.member.Member.{Member}
 use Rattle.types.specs.declared.tables.member.Ty.{Ty}
 use Rattle.types.specs.declared.tables.member.Ty.the-variants as ty
+use Rattle.types.proofs.Face.{every-append}
 use Rattle.values.specs.inside.reading.Walk.{upTo, wrap, bitToken, bitsOut, elementOut, numberOut, numbersOut}
 use Rattle.values.specs.inside.reading.Walk.{atomicsOut, bitOut, elementBy, elementsBy, structsBy, valueBy}
 use Rattle.values.specs.inside.reading.Walk.{memberBy, rowBy, membersBy, structBy, structWithin, structOut}
@@ -50,20 +51,16 @@ member-said j l = (lt-ltb j (2 ^ 32) l, (refl, omega arith))
 
 -- ---- the entries of a reading are so
 
-every-append : (xs ys : List Token) → Every SaidWell xs → Every SaidWell ys → Every SaidWell (xs ++ ys)
-unfolding Every
-every-append [] ys a b = b
-every-append (x ∷ xs) ys (a, more) b = (a, every-append xs ys more b)
-
 every-up : (g : ℕ → List Token) (n : ℕ) → ((k : ℕ) → k < n → Every SaidWell (g k)) → Every SaidWell (upTo g n)
 unfolding upTo Every
 every-up g zero h = tt
-every-up g (suc n) h = every-append (upTo g n) (g n) (every-up g n (λ k l. h k (omega arith))) (h n (omega arith))
+every-up g (suc n) h =
+    every-append SaidWell (upTo g n) (g n) (every-up g n (λ k l. h k (omega arith))) (h n (omega arith))
 
 every-wrap : (start stop : ℕ) (ts : List Token) → SaidWell (mark start) → SaidWell (mark stop) → Every SaidWell ts
     → Every SaidWell (wrap start stop ts)
 unfolding Every
-every-wrap start stop ts a b w = (a, every-append ts (mark stop ∷ []) w (b, tt))
+every-wrap start stop ts a b w = (a, every-append SaidWell ts (mark stop ∷ []) w (b, tt))
 
 -- an array's brackets
 in-array : (ts : List Token) → Every SaidWell ts → Every SaidWell (wrap 10 11 ts)

@@ -137,7 +137,7 @@ module _ {book tys₀ f₀ k₀ r₀ t m n tys f k r : List ℕ} {start : List D
             arith,
             goes .count,
             g .outer .count,
-            round-fewer stuckAt (readyIn book) (addIn book) (g .outer .ds) (waits f 0 T) (goes .defs) _
+            round-fewer stuckAt (readyIn book) (addIn book) (g .outer .ds) (waits f 0 T) (goes .defs)
                 (goes .is),
             q,
           )

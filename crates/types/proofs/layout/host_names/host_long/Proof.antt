@@ -15,7 +15,7 @@ returns c =
     let start = ten .before .before in
     let a = start .args in
     let spelled = rw (decimal .before .wide64 .ensures) at (decimal .decimal-of .ensures) in
-    let long = host-long (a .name .now) (a .k) (ten .at-most-ten .result) spelled (ten .at-most-ten .ensures) in
+    let long = host-long (a .name .now) (a .k) (ten .least .result) spelled (ten .least .ensures) in
     record { is = long; most = omega (arith, long, host-few (a .name .now) (a .k) (start .pre)) }
 
 pub host-long-spec : {M : Type 1} → statement M

@@ -16,15 +16,15 @@ spelled c = rw (c .before .wide64 .ensures) at (c .decimal-of .ensures)
 
 room : (c : tie.After-decimal-of)
     → c .before .before .before .before .args .at
-    + (10 + c .before .before .at-most-ten .result + (20 - c .decimal-of .result .from)) ≤ mostNames
+    + (10 + c .before .before .least .result + (20 - c .decimal-of .result .from)) ≤ mostNames
 room c =
     let start = c .before .before .before .before in
     rw (host-long (start .args .name .now) (start .args .k) _ (spelled c)
-    (c .before .before .at-most-ten .ensures)) (start .pre .1)
+    (c .before .before .least .ensures)) (start .pre .1)
 
-front : (c : tie.After-at-most-ten)
-    → length (take (c .at-most-ten .result) (c .before .before .args .name .now)) ≡ c .at-most-ten .result
-front c = length-take-le _ _ (omega (arith, c .at-most-ten .ensures))
+front : (c : tie.After-least)
+    → length (take (c .least .result) (c .before .before .args .name .now)) ≡ c .least .result
+front c = length-take-le _ _ (omega (arith, c .least .ensures))
 
 rest : (c : tie.After-decimal-of)
     → let d = c .decimal-of .result in
@@ -57,7 +57,7 @@ returns c =
     let ten = decimal .before .before in
     let a = ten .before .before .args in
     rw (c .put-bytes3 .ensures, two .put-bytes2 .ensures, one .put-bytes .ensures)
-    (host-put (a .name .now) (a .k) _ (spelled decimal) (ten .at-most-ten .ensures) (a .names .now) (a .at))
+    (host-put (a .name .now) (a .k) _ (spelled decimal) (ten .least .ensures) (a .names .now) (a .at))
 
 pub put-host-name-spec : {M : Type 1} → statement M
 put-host-name-spec =
