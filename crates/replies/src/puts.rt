@@ -20,52 +20,6 @@ pub const BODY: usize = 5;
 // A larger room counts as this.
 pub const MOST_ROOM: usize = 1048000;
 
-pub fn put8(out: &mut [u8], at: usize, x: u8) -> usize {
-    if out.len() <= at {
-        return at;
-    }
-    out[at] = x;
-    at + 1
-}
-
-pub fn put16(out: &mut [u8], at: usize, x: u16) -> usize {
-    if out.len() < 2 {
-        return at;
-    }
-    if out.len() - 2 < at {
-        return at;
-    }
-    store16(out, at, x);
-    at + 2
-}
-
-pub fn put32(out: &mut [u8], at: usize, x: u32) -> usize {
-    if out.len() < 4 {
-        return at;
-    }
-    if out.len() - 4 < at {
-        return at;
-    }
-    store32(out, at, x);
-    at + 4
-}
-
-pub fn put64(out: &mut [u8], at: usize, x: u64) -> usize {
-    if out.len() < 8 {
-        return at;
-    }
-    if out.len() - 8 < at {
-        return at;
-    }
-    store64(out, at, x);
-    at + 8
-}
-
-// How many types or members there are; the tables have fewer rows than a word counts.
-pub fn put_count(out: &mut [u8], at: usize, n: u32) -> usize {
-    put16(out, at, (n % 0x10000) as u16)
-}
-
 pub fn put_bytes(out: &mut [u8], at: usize, s: &[u8]) -> usize {
     let long = s.len();
     if out.len() < long {
@@ -76,6 +30,35 @@ pub fn put_bytes(out: &mut [u8], at: usize, s: &[u8]) -> usize {
     }
     copy(out, at, s);
     at + long
+}
+
+// A number, with a function for each width as in `words`.
+pub fn put8(out: &mut [u8], at: usize, x: u8) -> usize {
+    let bytes = [x];
+    put_bytes(out, at, &bytes)
+}
+
+pub fn put16(out: &mut [u8], at: usize, x: u16) -> usize {
+    let mut bytes = [0u8; 2];
+    store16(&mut bytes, 0, x);
+    put_bytes(out, at, &bytes)
+}
+
+pub fn put32(out: &mut [u8], at: usize, x: u32) -> usize {
+    let mut bytes = [0u8; 4];
+    store32(&mut bytes, 0, x);
+    put_bytes(out, at, &bytes)
+}
+
+pub fn put64(out: &mut [u8], at: usize, x: u64) -> usize {
+    let mut bytes = [0u8; 8];
+    store64(&mut bytes, 0, x);
+    put_bytes(out, at, &bytes)
+}
+
+// How many types or members there are; the tables have fewer rows than a word counts.
+pub fn put_count(out: &mut [u8], at: usize, n: u32) -> usize {
+    put16(out, at, (n % 0x10000) as u16)
 }
 
 // A name and its length before it. Every name of the tables lies inside them and is short.

@@ -1,4 +1,5 @@
 -- Laws for document 01, "Reading": a tag's bytes become a value stream; stored texts.
+pub mod ImageLaws
 pub mod KeptWalkable
 pub mod LeafLaws
 pub mod Meaning

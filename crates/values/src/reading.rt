@@ -1,5 +1,6 @@
 // Document 01, "Reading": a tag's bytes become a value stream; stored texts.
 pub(crate) mod atomics;
+pub(crate) mod images;
 pub(crate) mod numbers;
 pub(crate) mod read;
 pub(crate) mod rows;

@@ -1,5 +1,5 @@
-// Little-endian words read from a place of a slice. A word is its two halves, so that one law,
-// over the width, serves every width.
+// Little-endian words read from a place of a slice: a function for each width, since there are no generics. A word is
+// its two halves, so that one law, over the width, serves every width.
 ghost use mathlib.Core.Path.{_≡_};
 ghost use Prim.Native.Nat.{_+_, _≤_};
 ghost use lib.ListN.{length};

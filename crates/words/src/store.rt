@@ -1,5 +1,5 @@
-// Little-endian words written to a place of a slice, a half after the other, and copies of whole slices:
-// the bytes around them are kept.
+// Little-endian words written to a place of a slice, a half after the other, with a function for each width as in
+// `load`, and copies of whole slices: the bytes around them are kept.
 ghost use mathlib.Core.Path.{_≡_};
 ghost use Prim.Native.Nat.{_+_, _≤_, _/_, _%_, _^_};
 ghost use lib.ListN.{length};

@@ -1,4 +1,4 @@
-// A number in a wider type. A function of its own, since its promise then says that nothing is lost.
+// A number in a wider type. A function of its own for each width, since its promise then says that nothing is lost.
 ghost use mathlib.Core.Path.{_≡_};
 
 pub fn wide8(x: u8) -> u32

@@ -31,6 +31,8 @@ pub const MEMBER_WORDS: usize = 8;
 
 pub const NAME_BYTES: usize = 32768;
 
+// Every call is lent the tables one by one, and lists of parameters are alike for it: the prover covers no struct that
+// holds references, and no reference to a struct of tables.
 pub type TypeTable = [u32; TYPES * TYPE_WORDS];
 
 pub type MemberTable = [u32; MEMBERS * MEMBER_WORDS];

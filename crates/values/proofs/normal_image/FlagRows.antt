@@ -12,9 +12,10 @@ use Rattle.words.specs.Bits.{Bits, flat, from, inside, stamp}
 use Rattle.words.proofs.StampLaws.{one-bit, cond-beside, cond-own}
 use Rattle.types.specs.layout.Laid.{firstBit}
 use Rattle.types.specs.tables.Lent.{memberAt}
+use Rattle.types.specs.declared.tables.member.Bit.{Bit}
 use Rattle.types.specs.declared.tables.member.Bit.the-variants.{None, At}
 use Rattle.types.specs.declared.tables.member.Member.{Member}
-use Rattle.values.specs.inside.normal_image.InPlace.{RowsHere, flagged, isFlag, isPlain}
+use Rattle.values.specs.inside.normal_image.InPlace.{RowsHere, flagBit, flagged, isFlag, isPlain}
 use Rattle.values.specs.inside.writing.Rows.{MemberHere}
 use Rattle.values.specs.reading.Trees.{membersAt}
 use Rattle.values.proofs.reading.LeafLaws.{row-bit}
@@ -39,41 +40,41 @@ plain-whole e h b = rw (← e, h, b)
 -- ---- one row
 
 -- no visible BOOL: nothing is done
-pub unflagged-hidden : {m n : Member} (x : Bits) {y : Bits} → m ≡ n → m .hidden ≡ true → y ≡ cond (isFlag n) x y
+pub unflagged : {m n : Member} (x : Bits) {y : Bits} → m ≡ n → flagBit m ≡ None → y ≡ cond (isFlag n) x y
 unfolding isFlag
-unflagged-hidden x {y} e h = rw (← e, h) refl
+unflagged x {y} e f = rw (← e, f) refl
 
--- a visible member without a bit of its own: nothing is done
-pub unflagged-whole : {m n : Member} (x : Bits) {y : Bits} → m ≡ n → m .hidden ≡ false → m .bit ≡ None
-    → y ≡ cond (isFlag n) x y
-unfolding isFlag
-unflagged-whole x {y} e h b = rw (← e, h, b) refl
+own-bit : (hidden : Bool) (x : Bit) {b : ℕ} → cond hidden None x ≡ At b → x ≡ At b
+own-bit true x e = cc
+own-bit false x e = e
 
 -- the member of a row was read, with its place: a visible BOOL at bit b of its byte
 pub record FlagHere (members : List ℕ) (row base : ℕ) (image : List ℕ) (m : Member) (start b : ℕ) : Type 0 where
   pub is : m ≡ memberAt members row
   pub here : RowsHere members row 1 base image
   pub place : start ≡ m .offset
-  pub shown : m .hidden ≡ false
-  pub bit : m .bit ≡ At b
+  pub flag : flagBit m ≡ At b
 
 module _ {members : List ℕ} {row base : ℕ} {image : List ℕ} {m : Member} {start b : ℕ}
     (w : FlagHere members row base image m start b) where
+  bit-is : m .bit ≡ At b
+  bit-is = own-bit (m .hidden) (m .bit) (w .flag)
+
   member-here : MemberHere (w .here .sizes) (memberAt members row) base image
   member-here = rw add-zero at (w .here .each 0 (omega arith))
 
   -- its byte lies in the image, and its bit in that byte
   pub flag-inside : (base + start < length image) × (b < 8)
   flag-inside =
-      let h : 8 * base + (8 * m .offset + b + 1) ≤ 8 * length image = rw (← w .is, w .bit) at (member-here .inside) in
-      (omega (arith, w .place), row-bit members row b (ap (λ (x : Member). x .bit) (sym (w .is)) ∙ w .bit))
+      let h : 8 * base + (8 * m .offset + b + 1) ≤ 8 * length image = rw (← w .is, bit-is) at (member-here .inside) in
+      (omega (arith, w .place), row-bit members row b (ap (λ (x : Member). x .bit) (sym (w .is)) ∙ bit-is))
 
   flag-first : 8 * (base + start) + b ≡ 8 * base + firstBit (memberAt members row)
-  flag-first = rw (← w .is, w .bit) (omega (arith, w .place))
+  flag-first = rw (← w .is, bit-is) (omega (arith, w .place))
 
   chosen : isFlag (memberAt members row) ≡ true
   unfolding isFlag
-  chosen = rw (← w .is, w .shown, w .bit) refl
+  chosen = rw (← w .is, w .flag) refl
 
   -- kept as bit k
   pub flag-kept : {new : Bits} (k : ℕ) {r : ℕ} {v : Bool} (kept : Bits) → r ≡ k % 8

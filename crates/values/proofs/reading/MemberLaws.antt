@@ -1,6 +1,6 @@
 -- Rows of a structure in the walk (document 01, "Reading"): what the tables say of a row, and what a member gives by
 -- whether it is a structure: its number and that structure or those structures, or else what `leafOut` gives.
-use Prim.Native.Nat.{ℕ, _+_, _*_, _<_}
+use Prim.Native.Nat.{ℕ, _+_, _*_, _<_, _≤_}
 use native.Mathlib.Omega.{arith}
 use mathlib.Core.Path.{_≡_, refl}
 use mathlib.Core.Bool.{Bool, true, false, cond}
@@ -20,8 +20,9 @@ use Rattle.types.specs.declared.tables.member.Ty.{Ty}
 use Rattle.types.specs.declared.tables.member.Ty.the-variants as ty
 use Rattle.values.specs.inside.reading.Walk.{bitNested, isNested, bitOut, leafValue, leafOut, structsBy, valueBy}
 use Rattle.values.specs.inside.reading.Walk.{memberBy}
-use Rattle.values.specs.inside.reading.Walkable.{Walkable, RowOf, NestedRow}
+use Rattle.values.specs.inside.reading.Walkable.{HeldIn, Walkable, RowOf, NestedRow}
 use Rattle.values.specs.stream.Stream.{Token, bool, member}
+use Rattle.values.specs.declared.reading.rows.Nested.{Nested}
 
 -- ---- which rows are structures
 
@@ -93,6 +94,20 @@ module _ {types members : List ℕ} where
       → NestedRow types members i row
   nested-row r e = record { row-of = r; nested = e }
 
-  -- a nested row names an earlier structure
-  pub nested-earlier : {i row s : ℕ} → NestedRow types members i row → memberAt members row .ty ≡ ty.Struct s → s < i
-  nested-earlier {i} r e = rw e at (r .row-of .within .earlier)
+  module _ {i row : ℕ} {r : Nested} (nested : NestedRow types members i row) (held : HeldIn (memberAt members row) r)
+    where
+      -- the structure that a nested row holds is an earlier one
+      pub held-earlier : r .structure < i
+      held-earlier = rw (held .struct) at (nested .row-of .within .earlier)
+
+      -- it has a number of the table
+      pub held-low : r .structure < mostTypes
+      held-low = omega (arith, held-earlier, nested .row-of .low)
+
+      -- what a nested row holds lies inside its structure
+      pub held-within : r .start + sizesIn types (r .structure) * times (r .count) ≤ sizesIn types i
+      held-within =
+          let m = memberAt members row in
+          let h : 8 * m .offset + 8 * (sizesIn types (r .structure) * times (m .count)) ≤ 8 * sizesIn types i =
+          rw (nested-whole m (nested .nested), held .struct) at (nested .row-of .within .inside) in
+          rw (held .count) (omega (arith, held .at))

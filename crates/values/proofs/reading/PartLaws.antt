@@ -13,12 +13,12 @@ use Rattle.types.specs.layout.Placing.{times}
 use Rattle.types.specs.tables.Lent.{memberAt}
 use Rattle.types.specs.tables.Limits.{mostTypes}
 use Rattle.types.specs.tables.Sizes.{sizesIn}
-use Rattle.types.specs.declared.tables.member.Ty.the-variants as ty
 use Rattle.types.proofs.Face.{times-one, times-same}
 use Rattle.values.specs.inside.reading.Walk.{elementBy, elementsBy, structsBy, memberBy}
-use Rattle.values.specs.inside.reading.Walkable.{NestedRow, ImageOf, ImagesOf}
+use Rattle.values.specs.inside.reading.Walkable.{HeldIn, NestedRow, ImageOf, ImagesOf}
 use Rattle.values.specs.stream.Stream.{Token, member}
-use Rattle.values.proofs.reading.MemberLaws.{nested-whole, nested-earlier, member-nested}
+use Rattle.values.specs.declared.reading.rows.Nested.{Nested}
+use Rattle.values.proofs.reading.MemberLaws.{held-low, held-within, member-nested}
 
 -- the bytes from a start to an end
 abbrev pub lent : List ℕ → ℕ → ℕ → List ℕ
@@ -49,73 +49,69 @@ module _ {types image : List ℕ} {i n size : ℕ} (w : ImagesOf types i n image
 
 -- ---- a structure, or an array of structures, in a row
 
--- a row of structure i, read: it holds structure s, n times, from a start on, each of a size
-pub record HeldRow (types members : List ℕ) (i row : ℕ) (image : List ℕ) (s start n size : ℕ) : Type 0 where
+-- a row of structure i, read: it holds a structure, or so many of it, each of a size
+pub record HeldRow (types members : List ℕ) (i row : ℕ) (image : List ℕ) (r : Nested) (size : ℕ) : Type 0 where
   pub nested : NestedRow types members i row
   pub whole : ImageOf types i image
-  pub struct : memberAt members row .ty ≡ ty.Struct s
-  pub at : start ≡ memberAt members row .offset
-  pub count : n ≡ memberAt members row .count
-  pub long : size ≡ sizesIn types s
+  pub held : HeldIn (memberAt members row) r
+  pub long : size ≡ sizesIn types (r .structure)
 
-module _ {types members : List ℕ} {i row : ℕ} {image : List ℕ} {s start n size : ℕ}
-    (w : HeldRow types members i row image s start n size) where
-  -- the structure that a row holds is an earlier one
-  pub held-earlier : s < i
-  held-earlier = nested-earlier (w .nested) (w .struct)
-
-  held-low : s < mostTypes
-  held-low = omega (arith, held-earlier, w .nested .row-of .low)
+module _ {types members : List ℕ} {i row : ℕ} {image : List ℕ} {r : Nested} {size : ℕ}
+    (w : HeldRow types members i row image r size) where
+  low : r .structure < mostTypes
+  low = held-low (w .nested) (w .held)
 
   -- it lies inside the image
-  held-fits : start + size * times n ≤ length image
-  held-fits =
-      let m = memberAt members row in
-      let h : 8 * m .offset + 8 * (sizesIn types s * times (m .count)) ≤ 8 * sizesIn types i =
-      rw (nested-whole m (w .nested .nested), w .struct) at (w .nested .row-of .within .inside) in
-      let e : size * times n ≡ sizesIn types s * times (m .count) = rw (w .long, w .count) in
-      omega (arith, w .at, w .whole .long)
+  held-fits : r .start + size * times (r .count) ≤ length image
+  held-fits = rw (w .long, w .whole .long) (held-within (w .nested) (w .held))
 
   held-is : (rec : ℕ → List ℕ → List Token) (j : ℕ) → memberBy types members rec j (memberAt members row) image
-      ≡ member j ∷ structsBy types members rec s n (part image start (size * times n))
+      ≡ member j
+      ∷ structsBy types members rec (r .structure) (r .count) (part image (r .start) (size * times (r .count)))
   held-is rec j =
-      member-nested types members rec j (memberAt members row) image s (w .nested .nested) (w .struct)
-      ∙ rw (w .at, w .count, w .long)
+      member-nested types members rec j (memberAt members row) image (r .structure) (w .nested .nested)
+      (w .held .struct) ∙ rw (w .held .at, w .held .count, w .long)
 
-  module _ (none : n ≡ 0) where
-    one : size * times n ≡ size
-    one = ap (size *_) (sym (times-one n none)) ∙ mul-one size
+  module _ (none : r .count ≡ 0) where
+    one : size * times (r .count) ≡ size
+    one = ap (size *_) (sym (times-one (r .count) none)) ∙ mul-one size
 
     -- one structure in a row: its bytes lie in the image
-    pub one-fits : start + size ≤ length image
+    pub one-fits : r .start + size ≤ length image
     one-fits = omega (arith, one, held-fits)
 
     -- one structure in a row: its bytes are an image of it
-    pub one-image : ImageOf types s (lent image start (start + size))
-    one-image = record { low = held-low; long = lent-long image start size one-fits ∙ w .long }
+    pub one-image : ImageOf types (r .structure) (lent image (r .start) (r .start + size))
+    one-image = record { low = low; long = lent-long image (r .start) size one-fits ∙ w .long }
 
     -- one structure in a row: the number and what its bytes give are what the member gives
     pub one-is : (rec : ℕ → List ℕ → List Token) (j : ℕ)
-        → member j ∷ rec s (lent image start (start + size)) ≡ memberBy types members rec j (memberAt members row) image
+        → member j ∷ rec (r .structure) (lent image (r .start) (r .start + size))
+        ≡ memberBy types members rec j (memberAt members row) image
     unfolding structsBy
-    one-is rec j = sym (held-is rec j ∙ rw (eq-eqb n 0 none, one, lent-part image start size))
+    one-is rec j = sym (held-is rec j ∙ rw (eq-eqb (r .count) 0 none, one, lent-part image (r .start) size))
 
-  module _ (some : n ≡ 0 → ⊥) where
-    all : size * times n ≡ size * n
-    all = ap (size *_) (sym (times-same n some))
+  module _ (some : r .count ≡ 0 → ⊥) where
+    all : size * times (r .count) ≡ size * r .count
+    all = ap (size *_) (sym (times-same (r .count) some))
 
     -- an array of structures in a row: its bytes lie in the image
-    pub some-fits : start + size * n ≤ length image
+    pub some-fits : r .start + size * r .count ≤ length image
     some-fits = omega (arith, all, held-fits)
 
     -- an array of structures in a row: its bytes are an image of so many of them
-    pub some-images : ImagesOf types s n (lent image start (start + size * n))
+    pub some-images : ImagesOf types (r .structure) (r .count) (lent image (r .start) (r .start + size * r .count))
     some-images =
-        record { low = held-low; long = lent-long image start (size * n) some-fits ∙ ap (_* n) (w .long) }
+        record {
+          low = low;
+          long = lent-long image (r .start) (size * r .count) some-fits ∙ ap (_* r .count) (w .long);
+        }
 
     -- an array of structures in a row: the number and its elements are what the member gives
     pub some-is : (rec : ℕ → List ℕ → List Token) (j : ℕ)
-        → member j ∷ elementsBy types members rec s n (lent image start (start + size * n))
+        → member j ∷ elementsBy types members rec (r .structure) (r .count)
+        (lent image (r .start) (r .start + size * r .count))
         ≡ memberBy types members rec j (memberAt members row) image
     unfolding structsBy
-    some-is rec j = sym (held-is rec j ∙ rw (ne-eqb n 0 some, all, lent-part image start (size * n)))
+    some-is rec j =
+        sym (held-is rec j ∙ rw (ne-eqb (r .count) 0 some, all, lent-part image (r .start) (size * r .count)))

@@ -12,14 +12,16 @@ use Rattle.words.specs.Bits.{flat}
 use Rattle.words.specs.Words.{Bytes, bytesOf, part}
 use Rattle.words.proofs.Lists.{part-run}
 use Rattle.types.specs.layout.Placing.{times}
-use Rattle.types.specs.refusals.Said.{done, refused}
+use Rattle.types.specs.refusals.Said.{done, refused, why}
 use Rattle.types.specs.tables.Sizes.{sizeIn, sizesIn}
 use Rattle.types.specs.tables.There.{isThere}
 use Rattle.types.specs.declared.atomics.atomic.Atomic.{Atomic}
+use Rattle.types.specs.declared.refusals.refusal.Refusal.{Refusal}
 use Rattle.types.specs.declared.refusals.refusal.Refusal.the-variants.{ImageLength, NoSuchType, NoRoom}
 use Rattle.types.specs.declared.tables.member.Ty.{Ty}
 use Rattle.types.specs.declared.tables.member.Ty.the-variants as ty
 use Rattle.types.proofs.Face.{times-one, times-same, there-fits}
+use Rattle.values.specs.inside.reading.Images.{saidOfImage}
 use Rattle.values.specs.inside.reading.Read.{StreamWritten}
 use Rattle.values.specs.inside.reading.Walk.{atomicsOut, elementsBy, structOut, structsBy, valueOut}
 use Rattle.values.specs.inside.reading.Walkable.{ImageOf, ImagesOf, ValueImage, Walkable}
@@ -33,28 +35,35 @@ use Rattle.values.specs.stream.Stream.{Token, bodies, mostBytes, streamB
 use Rattle.values.specs.declared.reading.read.Streamed.{Streamed}
 use Rattle.values.specs.declared.reading.read.Streamed.the-variants.{Length, Refused}
 use Rattle.values.specs.declared.stream.place.Place.{Place}
+use Rattle.values.proofs.reading.ImageLaws.{fit-long, fit-there, unfit}
 use Rattle.values.proofs.reading.Meaning.{meaning}
 use Rattle.values.proofs.stream.StreamLaws.{stream-long, stream-laid}
 
 -- ---- one way out each
 
 module _ (types members : List ℕ) (t : Ty) (n : ℕ) (image out : List ℕ) where
-  -- the way out with 15: no such type, and nothing is written
-  pub no-type : isThere types t ≡ false → Answered types members t n image out (Refused NoSuchType) out
+  no-type : isThere types t ≡ false → Answered types members t n image out (Refused NoSuchType) out
   unfolding readAnswer
   no-type e = record { answer = rw e refl; leaves = rw e refl }
 
-  -- the way out with 14: the image has the wrong length, and nothing is written
-  pub no-image : isThere types t ≡ true → imageFits types t n image ≡ false
+  no-image : isThere types t ≡ true → imageFits types t n image ≡ false
       → Answered types members t n image out (Refused ImageLength) out
   unfolding readAnswer
   no-image e f = record { answer = rw (e, f) refl; leaves = rw (e, f) refl }
 
-  -- the type is there and the image fits: the answer is the one about the stream
-  pub answered : {r : Streamed} {new : List ℕ} → isThere types t ≡ true → imageFits types t n image ≡ true
+  -- the ways out with 15 and 14: the image is not one of the type, and nothing is written
+  pub unfit-read : (w : Refusal) → why w ≡ saidOfImage types t n (length image)
+      → Answered types members t n image out (Refused w) out
+  unfit-read = unfit types t n image (λ w. Answered types members t n image out (Refused w) out) no-type no-image
+
+  -- the image is one of the type: the answer is the one about the stream
+  pub answered : {r : Streamed} {new : List ℕ} → done tt ≡ saidOfImage types t n (length image)
       → StreamWritten types members t n image out r new → Answered types members t n image out r new
   unfolding readAnswer
-  answered e f w = record { answer = rw (e, f) (w .answer); leaves = rw (e, f) (w .leaves) }
+  answered e w =
+      let f = fit-there types t n image e in
+      let g = fit-long types t n image e in
+      record { answer = rw (f, g) (w .answer); leaves = rw (f, g) (w .leaves) }
 
   -- the way out with 16: the stream has no room, and nothing is written
   pub no-room : hasRoom (valueStream types members t n image) (length out) ≡ false

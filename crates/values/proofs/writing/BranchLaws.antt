@@ -1,5 +1,5 @@
 -- Members by their numbers (document 01, "Writing"): a structure's tree is what its rows say, and the branch that an
--- entry names is the tree of the member of that number; a hidden one or one too large has none.
+-- entry names is the tree of the member of that number; a hidden one or one too large has none. What a nested row is.
 use Prim.Native.Nat.{ℕ, zero, suc, _+_, _*_, _<_, _≤_}
 use native.Mathlib.Nat.{add-zero, zero-add}
 use native.Mathlib.Omega.{arith}
@@ -15,7 +15,7 @@ use Rattle.types.specs.tables.Limits.{mostTypes}
 use Rattle.types.specs.tables.Sizes.{sizesIn}
 use Rattle.types.specs.declared.tables.member.Ty.{Ty}
 use Rattle.types.specs.declared.tables.member.Ty.the-variants as ty
-use Rattle.values.specs.inside.reading.Walkable.{WalkableType, Walkable}
+use Rattle.values.specs.inside.reading.Walkable.{HeldIn, NestedRow, WalkableType, Walkable}
 use Rattle.values.specs.inside.writing.Rows.{branchesIn, memberTree, treeIn}
 use Rattle.values.specs.reading.Leaf.{str}
 use Rattle.values.specs.reading.Texts.{capacityAt}
@@ -24,6 +24,8 @@ use Rattle.values.specs.reading.Trees.{isStringKind, membersAt, knownIn,
 use Rattle.values.specs.reading.Trees.{valueTree, branchesFrom, structTree, treeWithin, treeOf}
 use Rattle.values.specs.stream.Stream.{Token, payloadOf}
 use Rattle.values.specs.writing.Writing.{bad, write, writeBranch}
+use Rattle.values.specs.declared.reading.rows.Nested.{Nested}
+use Rattle.values.proofs.reading.MemberLaws.{nested-whole}
 use Rattle.values.proofs.reading.SpanLaws.{capacity-is}
 
 -- ---- the trees of earlier structures are all that matters
@@ -159,3 +161,24 @@ module _ (types members : List ℕ) (i p : ℕ) (t : Token) (ts : List Token) (z
   branch-past j e l =
       none-named members (treeIn types members) p t ts z 0 (typeAt types i .first) (typeAt types i .count)
       (λ d a q. absurd (let z : ⊥ = omega arith in z))
+
+-- ---- a nested row
+
+module _ {types members : List ℕ} {i row : ℕ} {r : Nested} (nested : NestedRow types members i row)
+    (held : HeldIn (memberAt members row) r) where
+  held-tree : memberTree (treeIn types members) (memberAt members row)
+      ≡ structsTree (treeIn types members) (r .structure) (r .count)
+  held-tree = rw (nested-whole (memberAt members row) (nested .nested), held .struct, held .count)
+
+  -- count 0: the tree of a nested row is that of the structure that it holds
+  pub one-tree : r .count ≡ 0
+      → memberTree (treeIn types members) (memberAt members row) ≡ treeIn types members (r .structure)
+  unfolding structsTree
+  one-tree e = held-tree ∙ rw (eq-eqb (r .count) 0 e) refl
+
+  -- any other count: it is an array of that structure's
+  pub some-tree : (r .count ≡ 0 → ⊥)
+      → memberTree (treeIn types members) (memberAt members row)
+      ≡ array (r .count) (treeIn types members (r .structure))
+  unfolding structsTree
+  some-tree e = held-tree ∙ rw (ne-eqb (r .count) 0 e) refl

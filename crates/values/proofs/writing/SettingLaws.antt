@@ -23,7 +23,7 @@ use Rattle.types.specs.declared.tables.member.StructDef.{StructDef}
 use Rattle.types.specs.declared.tables.member.Ty.{Ty}
 use Rattle.types.specs.declared.tables.member.Ty.the-variants as ty
 use Rattle.types.proofs.Face.{times-one, times-same}
-use Rattle.values.specs.inside.reading.Walkable.{IsString, NestedRow, ValueImage, Walkable}
+use Rattle.values.specs.inside.reading.Walkable.{HeldIn, IsString, NestedRow, ValueImage, Walkable}
 use Rattle.values.specs.inside.writing.Rows.{AllHere, Here, branchesIn, memberTree, treeIn}
 use Rattle.values.specs.reading.Texts.{capacityAt}
 use Rattle.values.specs.reading.Tree.{Tree, array, struct}
@@ -31,8 +31,9 @@ use Rattle.values.specs.reading.Trees.{atomicsTree, isStringKind, knownI
 use Rattle.values.specs.stream.Stream.{Token}
 use Rattle.values.specs.writing.Effects.{asText, orNull}
 use Rattle.values.specs.writing.Writing.{write, writeOne}
-use Rattle.values.proofs.reading.MemberLaws.{nested-whole, never-atomic, nested-earlier}
-use Rattle.values.proofs.writing.BranchLaws.{string-tree, members-tree}
+use Rattle.values.specs.declared.reading.rows.Nested.{Nested}
+use Rattle.values.proofs.reading.MemberLaws.{held-low, held-within, nested-whole}
+use Rattle.values.proofs.writing.BranchLaws.{members-tree, one-tree, some-tree, string-tree}
 
 -- ---- a structure, where d was read from its row
 
@@ -79,101 +80,55 @@ module _ {types members : List ℕ} (w : Walkable types members) {i base : ℕ} 
 
 -- ---- a structure, or an array of structures, in a row
 
--- where m was read from it
-module _ {types members : List ℕ} {i row : ℕ} {m : Member} (nested : NestedRow types members i row)
-    (is : m ≡ memberAt members row) where
-  -- the member of such a row is no atomic
-  pub not-atomic : {a : Atomic} → m .ty ≡ ty.Atomic a → ⊥
-  not-atomic {a} e =
-      never-atomic (memberAt members row) (nested .nested) a (ap (λ (x : Member). x .ty) (sym is) ∙ e)
-
-  -- it begins in the image
-  pub start-fits : {base start : ℕ} {image : List ℕ} → Here types i base image → start ≡ m .offset
-      → base + start ≤ length image
-  start-fits here o =
-      let h = rw (nested-whole (memberAt members row) (nested .nested)) at (nested .row-of .within .inside) in
-      omega (arith, o ∙ ap (λ (x : Member). x .offset) is, here .inside, h)
-
--- it holds structure t, n times, from a start on
-pub record Holds (types members : List ℕ) (i row base : ℕ) (image : List ℕ) (t start n : ℕ) : Type 0 where
+-- it holds a structure, or so many of it, from a start on
+pub record Holds (types members : List ℕ) (i row base : ℕ) (image : List ℕ) (r : Nested) : Type 0 where
   pub nested : NestedRow types members i row
   pub here : Here types i base image
-  pub type : memberAt members row .ty ≡ ty.Struct t
-  pub at : start ≡ memberAt members row .offset
-  pub count : n ≡ memberAt members row .count
+  pub held : HeldIn (memberAt members row) r
 
--- a row that was read holds the structure of its type, at the place and the count that were read
-pub holds : {types members : List ℕ} {i row base : ℕ} {image : List ℕ} {t start n : ℕ} {m : Member}
-    → NestedRow types members i row → Here types i base image → m ≡ memberAt members row → start ≡ m .offset
-    → n ≡ m .count → m .ty ≡ ty.Struct t → Holds types members i row base image t start n
-holds nested here is o c e =
-    record {
-      nested = nested;
-      here = here;
-      type = ap (λ (x : Member). x .ty) (sym is) ∙ e;
-      at = o ∙ ap (λ (x : Member). x .offset) is;
-      count = c ∙ ap (λ (x : Member). x .count) is;
-    }
-
-module _ {types members : List ℕ} {i row base : ℕ} {image : List ℕ} {t start n : ℕ}
-    (w : Holds types members i row base image t start n) where
+module _ {types members : List ℕ} {i row base : ℕ} {image : List ℕ} {r : Nested}
+    (w : Holds types members i row base image r) where
   abbrev m : Member
   m = memberAt members row
 
-  whole : m .bit ≡ None
-  whole = nested-whole m (w .nested .nested)
-
-  -- the structure that a row holds is an earlier one
-  pub held-below : t < i
-  held-below = nested-earlier (w .nested) (w .type)
-
-  held-low : t < mostTypes
-  held-low = omega (arith, held-below, w .nested .row-of .low)
+  low : r .structure < mostTypes
+  low = held-low (w .nested) (w .held)
 
   -- it lies inside the image
-  held-inside : base + start + sizesIn types t * times n ≤ length image
-  held-inside =
-      let h : 8 * m .offset + 8 * (sizesIn types t * times (m .count)) ≤ 8 * sizesIn types i =
-      rw (whole, w .type) at (w .nested .row-of .within .inside) in
-      let e : sizesIn types t * times n ≡ sizesIn types t * times (m .count) = rw (w .count) in
-      omega (arith, w .at, w .here .inside)
+  pub held-inside : base + r .start + sizesIn types (r .structure) * times (r .count) ≤ length image
+  held-inside = omega (arith, held-within (w .nested) (w .held), w .here .inside)
 
-  -- and is these structures
-  held-tree : memberTree (treeIn types members) m ≡ structsTree (treeIn types members) t n
-  held-tree = rw (whole, w .type, w .count)
+  held-at : 8 * base + firstBit m ≡ 8 * (base + r .start)
+  held-at = rw (nested-whole m (w .nested .nested)) (omega (arith, w .held .at))
 
-  held-at : 8 * base + firstBit m ≡ 8 * (base + start)
-  held-at = rw whole (omega (arith, w .at))
-
-  module _ (none : n ≡ 0) where
+  module _ (none : r .count ≡ 0) where
     -- count 0: the bytes of one structure lie in the image
-    pub one-here : Here types t (base + start) image
+    pub one-here : Here types (r .structure) (base + r .start) image
     one-here =
-        let e : sizesIn types t ≡ sizesIn types t * times n
-        = sym (mul-one (sizesIn types t)) ∙ ap (λ (k : ℕ). sizesIn types t * k) (times-one n none) in
-        record { low = held-low; inside = omega (arith, held-inside) }
+        let e : sizesIn types (r .structure) ≡ sizesIn types (r .structure) * times (r .count)
+        = sym (mul-one (sizesIn types (r .structure)))
+        ∙ ap (λ (k : ℕ). sizesIn types (r .structure) * k) (times-one (r .count) none) in
+        record { low = low; inside = omega (arith, held-inside) }
 
     -- count 0: writing the member is writing the structure at its start
     pub one-write : (ts : List Token) (z : Bits)
         → write (memberTree (treeIn types members) m) (8 * base + firstBit m) ts z
-        ≡ write (treeIn types members t) (8 * (base + start)) ts z
-    unfolding structsTree
-    one-write ts z = rw (held-tree, held-at, eq-eqb n 0 none) refl
+        ≡ write (treeIn types members (r .structure)) (8 * (base + r .start)) ts z
+    one-write ts z = rw (one-tree (w .nested) (w .held) none, held-at) refl
 
-  module _ (some : n ≡ 0 → ⊥) where
+  module _ (some : r .count ≡ 0 → ⊥) where
     -- any other count: the bytes of so many structures lie in the image
-    pub all-here : AllHere types t n (base + start) image
+    pub all-here : AllHere types (r .structure) (r .count) (base + r .start) image
     all-here =
-        let e : sizesIn types t * n ≡ sizesIn types t * times n
-        = ap (λ (k : ℕ). sizesIn types t * k) (times-same n some) in
-        record { low = held-low; inside = omega (arith, held-inside) }
+        let e : sizesIn types (r .structure) * r .count ≡ sizesIn types (r .structure) * times (r .count)
+        = ap (λ (k : ℕ). sizesIn types (r .structure) * k) (times-same (r .count) some) in
+        record { low = low; inside = omega (arith, held-inside) }
 
     -- any other count: writing the member is writing an array of the structure at its start
     pub all-write : (ts : List Token) (z : Bits)
         → write (memberTree (treeIn types members) m) (8 * base + firstBit m) ts z
-        ≡ write (array n (treeIn types members t)) (8 * (base + start)) ts z
-    unfolding structsTree
-    all-write ts z = rw (held-tree, held-at, ne-eqb n 0 some) refl
+        ≡ write (array (r .count) (treeIn types members (r .structure))) (8 * (base + r .start)) ts z
+    all-write ts z = rw (some-tree (w .nested) (w .held) some, held-at) refl
 
 -- ---- a value is an atomic or a structure, one or an array
 

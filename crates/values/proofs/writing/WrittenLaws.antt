@@ -11,12 +11,13 @@ use lib.Seq.{take-length}
 use Rattle.words.specs.Bits.{Bits, flat}
 use Rattle.words.specs.Words.{Bytes, part}
 use Rattle.types.specs.refusals.Refusal.{numberOf, placeOf}
-use Rattle.types.specs.refusals.Said.{refused}
+use Rattle.types.specs.refusals.Said.{done, refused, why}
 use Rattle.types.specs.tables.There.{isThere}
 use Rattle.types.specs.declared.refusals.refusal.Refusal.{Refusal}
 use Rattle.types.specs.declared.refusals.refusal.Refusal.the-variants.{ImageLength, NoSuchType, StreamMalformed}
 use Rattle.types.specs.declared.refusals.refusal.Refusal.the-variants.{EntryMisfit}
 use Rattle.types.specs.declared.tables.member.Ty.{Ty}
+use Rattle.values.specs.inside.reading.Images.{saidOfImage}
 use Rattle.values.specs.inside.writing.Passes.{Applied, CheckedFrom, accepted, leftAt}
 use Rattle.values.specs.inside.writing.Written.{Entered}
 use Rattle.values.specs.reading.Leaf.{chars}
@@ -30,6 +31,7 @@ use Rattle.values.specs.writing.Writing.{Outcome, ok, bad, ended, write,
 use Rattle.values.specs.writing.Written.{Done, bytesAfter, takenOf, valueWritten, writeResult}
 use Rattle.values.specs.declared.writing.write.Taken.{Taken}
 use Rattle.values.specs.declared.writing.write.Taken.the-variants.{Whole, Refused}
+use Rattle.values.proofs.reading.ImageLaws.{fit-long, fit-there, unfit}
 use Rattle.values.proofs.reading.TreeLaws.{chars-part}
 use Rattle.values.proofs.stream.LeftLaws.{left-long, none-left, there}
 use Rattle.values.proofs.writing.NumberedLaws.{bad-number}
@@ -123,26 +125,38 @@ module _ (types members : List ℕ) (t : Ty) (n : ℕ) (s image : List ℕ) (for
 -- ---- the call
 
 module _ (types members : List ℕ) (t : Ty) (n : ℕ) (s image : List ℕ) where
-  -- the way out with 15: no such type, and the image is as it was
-  pub no-type : isThere types t ≡ false → Done types members t n s image (Refused NoSuchType) image
+  no-type : isThere types t ≡ false → Done types members t n s image (Refused NoSuchType) image
   unfolding writeResult
   no-type e = record { answer = rw e refl; leaves = rw e refl }
 
-  module _ (there-is : isThere types t ≡ true) where
-    -- the way out with 14: the image's length does not fit, and the image is as it was
-    pub no-image : imageFits types t n image ≡ false → Done types members t n s image (Refused ImageLength) image
-    unfolding writeResult
-    no-image e = record { answer = rw (there-is, e) refl; leaves = rw (there-is, e) refl }
+  no-image : isThere types t ≡ true → imageFits types t n image ≡ false
+      → Done types members t n s image (Refused ImageLength) image
+  unfolding writeResult
+  no-image e f = record { answer = rw (e, f) refl; leaves = rw (e, f) refl }
+
+  -- the ways out with 15 and 14: the image is not one of the type, and it is as it was
+  pub unfit-write : (w : Refusal) → why w ≡ saidOfImage types t n (length image)
+      → Done types members t n s image (Refused w) image
+  unfit-write = unfit types t n image (λ w. Done types members t n s image (Refused w) image) no-type no-image
+
+  module _ (fits : done tt ≡ saidOfImage types t n (length image)) where
+    there-is : isThere types t ≡ true
+    there-is = fit-there types t n image fits
+
+    long-is : imageFits types t n image ≡ true
+    long-is = fit-long types t n image fits
 
     -- the way out with 17: the stream is malformed, and the image is as it was
-    pub no-stream : imageFits types t n image ≡ true → streamOk s ≡ false
-        → Done types members t n s image (Refused StreamMalformed) image
+    pub no-stream : streamOk s ≡ false → Done types members t n s image (Refused StreamMalformed) image
     unfolding writeResult
-    no-stream e f = record { answer = rw (there-is, e, f) refl; leaves = rw (there-is, e, f) refl }
+    no-stream e = record { answer = rw (there-is, long-is, e) refl; leaves = rw (there-is, long-is, e) refl }
 
     -- past these three tests the call answers and leaves what the entries do
-    pub entered-done : {r : Taken} {new : List ℕ} → imageFits types t n image ≡ true → streamOk s ≡ true
-        → Entered types members t n s image r new → Done types members t n s image r new
+    pub entered-done : {r : Taken} {new : List ℕ} → streamOk s ≡ true → Entered types members t n s image r new
+        → Done types members t n s image r new
     unfolding writeResult
-    entered-done e f w =
-        record { answer = w .answer ∙ rw (there-is, e, f) refl; leaves = w .leaves ∙ rw (there-is, e, f) refl }
+    entered-done e w =
+        record {
+          answer = w .answer ∙ rw (there-is, long-is, e) refl;
+          leaves = w .leaves ∙ rw (there-is, long-is, e) refl;
+        }

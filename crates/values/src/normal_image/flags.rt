@@ -7,10 +7,11 @@ ghost use lib.ListN.{length};
 ghost use Rattle.words.specs.Bits.{flat, from, stamp};
 ghost use Rattle.types.specs.layout.Laid.{firstBit};
 ghost use Rattle.types.specs.tables.Lent.{memberAt};
-ghost use Rattle.values.specs.inside.normal_image.InPlace.{RowsHere, flagged, isFlag};
+ghost use Rattle.values.specs.inside.normal_image.InPlace.{RowsHere, flagBit, flagged, isFlag};
 ghost use Rattle.values.specs.reading.Trees.{membersAt};
 use crate::writing::bools::put_bit;
 use types::Bit;
+use types::Member;
 use types::MemberTable;
 use types::member_row;
 use words::bit_at;
@@ -21,6 +22,17 @@ fn bit_in_byte(k: usize) -> u8
     ensures { λ r. ⌜ (r ≡ k % 8) × (r < 8) ⌝ }
 {
     (k % 8) as u8
+}
+
+// The bit of a visible BOOL of a host; no other member has one.
+fn flag_bit(m: Member) -> Bit
+    ensures { λ r. ⌜ r ≡ flagBit m ⌝ }
+{
+    let hidden = m.hidden;
+    if hidden {
+        return Bit::None;
+    }
+    m.bit
 }
 
 // One member, if it is a visible BOOL, kept as bit k.
@@ -39,12 +51,7 @@ fn keep_flag(
         (flat (now (kept .entry))) ⌝ }
 {
     let m = member_row(members, row);
-    let hidden = m.hidden;
-    let bit = m.bit;
-    if hidden {
-        return;
-    }
-    match bit {
+    match flag_bit(m) {
         Bit::At(b) => {
             put_bit(
                 kept,
@@ -87,12 +94,7 @@ fn put_flag(members: &MemberTable, row: usize, k: usize, kept: &[u8], image: &mu
         (flat (now (image .entry))) ⌝ }
 {
     let m = member_row(members, row);
-    let hidden = m.hidden;
-    let bit = m.bit;
-    if hidden {
-        return;
-    }
-    match bit {
+    match flag_bit(m) {
         Bit::At(b) => {
             put_bit(
                 image,

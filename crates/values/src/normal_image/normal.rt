@@ -8,16 +8,13 @@ ghost use Rattle.values.specs.normal_image.Normalised.{MadeNormal, value
 use crate::normal_image::leaves::normal_atomics;
 use crate::normal_image::walk::normal_elements;
 use crate::normal_image::walk::normal_struct;
-use crate::reading::read::is_product;
-use crate::reading::read::size_of_ty;
-use crate::reading::rows::times_of;
+use crate::reading::images::image_fit;
 use crate::stream::tokens::as_size;
 use crate::writing::write::Taken;
+use types::Fit;
 use types::MemberTable;
-use types::Refusal;
 use types::Ty;
 use types::TypeTable;
-use types::is_there;
 
 // A value of n elements, or of one where n is 0.
 fn normal_value(types: &TypeTable, members: &MemberTable, ty: Ty, n: usize, image: &mut [u8])
@@ -52,13 +49,11 @@ pub fn normal(
     ensures { λ r. ⌜ MadeNormal (now (types .entry)) (now (members .entry)) ty count (now (image .entry)) r
         (now (image .exit)) ⌝ }
 {
-    if !is_there(types, ty) {
-        return Taken::Refused(Refusal::NoSuchType);
+    match image_fit(types, ty, count, image.len()) {
+        Fit::Refused(why) => Taken::Refused(why),
+        Fit::Fits => {
+            normal_value(types, members, ty, as_size(count), image);
+            Taken::Whole
+        }
     }
-    let n = as_size(count);
-    if !is_product(image.len(), size_of_ty(types, ty), times_of(n)) {
-        return Taken::Refused(Refusal::ImageLength);
-    }
-    normal_value(types, members, ty, n, image);
-    Taken::Whole
 }

@@ -1,15 +1,13 @@
 // Reading (document 01, "Reading"): the value stream of a tag's bytes. Everything is counted before the first byte is
 // written, so that a refusal leaves the buffer as it was.
 ghost use mathlib.Core.Path.{_≡_};
-ghost use Prim.Native.Nat.{_+_, _*_, _≤_, min};
+ghost use Prim.Native.Nat.{_+_, _≤_, min};
 ghost use mathlib.Core.Bool.{false};
 ghost use mathlib.Core.List.{[]};
-ghost use lib.Dec.{eqb};
 ghost use lib.ListN.{length};
 ghost use Rattle.types.specs.inside.tables.Lent.{TyFits};
 ghost use Rattle.types.specs.layout.Placing.{times};
 ghost use Rattle.types.specs.tables.Kept.{KeptRows};
-ghost use Rattle.types.specs.tables.Sizes.{sizeIn, sizesIn};
 ghost use Rattle.values.specs.inside.reading.Read.{StreamWritten};
 ghost use Rattle.values.specs.inside.reading.Walk.{valueOut};
 ghost use Rattle.values.specs.inside.reading.Walkable.{ImagesOf, ValueImage, Walkable};
@@ -18,8 +16,7 @@ ghost use Rattle.values.specs.inside.stream.Laying.{StreamRoom, TokensLa
 ghost use Rattle.values.specs.reading.Read.{Answered};
 ghost use Rattle.values.specs.stream.Stream.{mostBytes, bodies};
 use crate::reading::atomics::put_atomics;
-use crate::reading::rows::struct_size;
-use crate::reading::rows::times_of;
+use crate::reading::images::image_fit;
 use crate::reading::walk::read_elements;
 use crate::reading::walk::read_struct;
 use crate::stream::count::count_atomics;
@@ -29,12 +26,11 @@ use crate::stream::lengths::text_elements;
 use crate::stream::lengths::text_struct;
 use crate::stream::place::Place;
 use crate::stream::tokens::as_size;
+use types::Fit;
 use types::MemberTable;
 use types::Refusal;
 use types::Ty;
 use types::TypeTable;
-use types::is_there;
-use types::size_of;
 use words::least;
 use words::store32;
 
@@ -42,29 +38,6 @@ use words::store32;
 pub enum Streamed {
     Length(usize),
     Refused(Refusal),
-}
-
-pub fn size_of_ty(types: &TypeTable, ty: Ty) -> usize
-    requires { ⌜ TyFits ty ⌝ }
-    ensures { λ r. ⌜ r ≡ sizeIn (sizesIn (now (types .entry))) ty ⌝ }
-{
-    match ty {
-        Ty::Atomic(a) => size_of(a),
-        Ty::Struct(i) => struct_size(types, i),
-    }
-}
-
-// A product, compared without being made: it may be too large.
-pub fn is_product(long: usize, size: usize, n: usize) -> bool
-    ensures { λ r. ⌜ r ≡ eqb long (size * n) ⌝ }
-{
-    if size == 0 {
-        return long == 0;
-    }
-    if long % size != 0 {
-        return false;
-    }
-    long / size == n
 }
 
 // How many entries a value has, and whether one is a text.
@@ -226,16 +199,15 @@ pub fn read(
     ensures { λ r. ⌜ Answered (now (types .entry)) (now (members .entry)) ty count (now (image .entry))
         (now (out .entry)) r (now (out .exit)) ⌝ }
 {
-    if !is_there(types, ty) {
-        return Streamed::Refused(Refusal::NoSuchType);
+    match image_fit(types, ty, count, image.len()) {
+        Fit::Refused(why) => Streamed::Refused(why),
+        Fit::Fits => {
+            let most = least(out.len(), MOST_BYTES);
+            if most < 4 {
+                return Streamed::Refused(Refusal::NoRoom);
+            }
+            let n = as_size(count);
+            return read_within(types, members, ty, n, image, out, most - 4);
+        }
     }
-    let n = as_size(count);
-    if !is_product(image.len(), size_of_ty(types, ty), times_of(n)) {
-        return Streamed::Refused(Refusal::ImageLength);
-    }
-    let most = least(out.len(), MOST_BYTES);
-    if most < 4 {
-        return Streamed::Refused(Refusal::NoRoom);
-    }
-    read_within(types, members, ty, n, image, out, most - 4)
 }

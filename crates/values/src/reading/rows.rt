@@ -1,5 +1,6 @@
 // What the walk asks of the tables' rows (document 01, "Layout"): sizes, capacities, and which members are structures.
 ghost use mathlib.Core.Path.{_≡_};
+ghost use mathlib.Core.Bool.{true};
 ghost use Prim.Native.Nat.{_+_, _<_};
 ghost use Rattle.types.specs.layout.Placing.{times};
 ghost use Rattle.types.specs.tables.Lent.{memberAt};
@@ -7,6 +8,7 @@ ghost use Rattle.types.specs.tables.Limits.{mostTypes, mostMembers};
 ghost use Rattle.types.specs.tables.Sizes.{sizesIn};
 ghost use Rattle.values.specs.inside.normal_image.InPlace.{isPlain};
 ghost use Rattle.values.specs.inside.reading.Walk.{isNested};
+ghost use Rattle.values.specs.inside.reading.Walkable.{HeldIn};
 ghost use Rattle.values.specs.reading.Texts.{capacityAt};
 ghost use Rattle.values.specs.reading.Trees.{isStringKind};
 use types::Bit;
@@ -82,6 +84,40 @@ pub fn is_nested(members: &MemberTable, row: usize) -> bool
                     return true;
                 }
             }
+        }
+    }
+}
+
+// The structure that a row holds, or how many of it; and where in the row's own structure it begins.
+pub struct Nested {
+    pub structure: usize,
+    pub count: usize,
+    pub start: usize,
+}
+
+pub fn nested_in(members: &MemberTable, row: usize) -> Nested
+    requires { ⌜ (row < mostMembers) × (isNested (memberAt (now members) row) ≡ true) ⌝ }
+    ensures { λ r. ⌜ HeldIn (memberAt (now (members .entry)) row) r ⌝ }
+{
+    let m = member_row(members, row);
+    let count = wide(m.count);
+    let start = wide(m.offset);
+    let ty = m.ty;
+    match ty {
+        Ty::Atomic(_) => {
+            let structure: usize = 0;
+            return Nested {
+                structure,
+                count,
+                start,
+            };
+        }
+        Ty::Struct(structure) => {
+            return Nested {
+                structure,
+                count,
+                start,
+            };
         }
     }
 }

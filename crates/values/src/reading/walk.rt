@@ -12,6 +12,7 @@ use crate::reading::numbers::truth_of;
 use crate::reading::rows::capacity_at;
 use crate::reading::rows::is_nested;
 use crate::reading::rows::is_string;
+use crate::reading::rows::nested_in;
 use crate::reading::rows::struct_size;
 use crate::reading::rows::times_of;
 use crate::reading::texts::put_text;
@@ -167,43 +168,34 @@ fn read_nested(
         (memberAt (now (members .entry)) row) (now (image .entry))) (now (out .exit)) r ⌝ }
 {
     put_entry(out, at, kinds::MEMBER, j as u64);
-    let m = member_row(members, row);
-    let start = wide(m.offset);
-    let n = wide(m.count);
-    let ty = m.ty;
-    match ty {
-        Ty::Atomic(_) => {
-            return Place { at, text };
-        }
-        Ty::Struct(s) => {
-            let size = struct_size(types, s);
-            if n == 0 {
-                let end = start + size;
-                return read_struct(
-                    types,
-                    members,
-                    s,
-                    &image[start..end],
-                    out,
-                    base,
-                    at + 12,
-                    text,
-                );
-            }
-            let end = start + size * n;
-            return read_elements(
-                types,
-                members,
-                s,
-                n,
-                &image[start..end],
-                out,
-                base,
-                at + 12,
-                text,
-            );
-        }
+    let m = nested_in(members, row);
+    let size = struct_size(types, m.structure);
+    let start = m.start;
+    if m.count == 0 {
+        let end = start + size;
+        return read_struct(
+            types,
+            members,
+            m.structure,
+            &image[start..end],
+            out,
+            base,
+            at + 12,
+            text,
+        );
     }
+    let end = start + size * m.count;
+    read_elements(
+        types,
+        members,
+        m.structure,
+        m.count,
+        &image[start..end],
+        out,
+        base,
+        at + 12,
+        text,
+    )
 }
 
 // n structures i as an array.

@@ -12,6 +12,7 @@ ghost use Rattle.values.specs.inside.stream.Counting.{Counted, TextFree}
 ghost use Rattle.values.specs.stream.Stream.{mostBytes};
 use crate::reading::rows::is_nested;
 use crate::reading::rows::is_string;
+use crate::reading::rows::nested_in;
 use crate::reading::rows::times_of;
 use types::Atomic;
 use types::Bit;
@@ -184,15 +185,6 @@ fn count_nested(
         (memberBy (now (types .entry)) (now (members .entry)) (structOut (now (types .entry)) (now (members .entry))) j
         (memberAt (now (members .entry)) row)) (now (texts .entry)) (now (texts .exit)) r) ⌝ }
 {
-    let m = member_row(members, row);
-    let n = wide(m.count);
-    let ty = m.ty;
-    match ty {
-        Ty::Atomic(_) => {
-            return from;
-        }
-        Ty::Struct(s) => {
-            return count_structs(types, members, s, n, from + 1, most, texts);
-        }
-    }
+    let m = nested_in(members, row);
+    count_structs(types, members, m.structure, m.count, from + 1, most, texts)
 }

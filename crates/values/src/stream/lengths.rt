@@ -9,12 +9,11 @@ ghost use Rattle.values.specs.stream.Stream.{mostBytes};
 use crate::reading::rows::capacity_at;
 use crate::reading::rows::is_nested;
 use crate::reading::rows::is_string;
+use crate::reading::rows::nested_in;
 use crate::reading::rows::struct_size;
 use crate::reading::texts::text_length;
 use types::MemberTable;
-use types::Ty;
 use types::TypeTable;
-use types::member_row;
 use types::type_row;
 use words::wide;
 
@@ -88,24 +87,22 @@ fn text_nested(
         (memberBy (now (types .entry)) (now (members .entry)) (structOut (now (types .entry)) (now (members .entry))) j
         (memberAt (now (members .entry)) row) (now (image .entry))) r) ⌝ }
 {
-    let m = member_row(members, row);
-    let start = wide(m.offset);
-    let n = wide(m.count);
-    let ty = m.ty;
-    match ty {
-        Ty::Atomic(_) => {
-            return 0;
-        }
-        Ty::Struct(s) => {
-            let size = struct_size(types, s);
-            if n == 0 {
-                let end = start + size;
-                return text_struct(types, members, s, &image[start..end], room);
-            }
-            let end = start + size * n;
-            return text_elements(types, members, s, n, &image[start..end], room);
-        }
+    let m = nested_in(members, row);
+    let size = struct_size(types, m.structure);
+    let start = m.start;
+    if m.count == 0 {
+        let end = start + size;
+        return text_struct(types, members, m.structure, &image[start..end], room);
     }
+    let end = start + size * m.count;
+    text_elements(
+        types,
+        members,
+        m.structure,
+        m.count,
+        &image[start..end],
+        room,
+    )
 }
 
 // n structures i as an array.

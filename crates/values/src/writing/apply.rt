@@ -16,6 +16,7 @@ ghost use Rattle.values.specs.writing.Writing.{write};
 use crate::reading::rows::capacity_at;
 use crate::reading::rows::is_nested;
 use crate::reading::rows::is_string;
+use crate::reading::rows::nested_in;
 use crate::reading::rows::struct_size;
 use crate::stream::kinds;
 use crate::stream::tokens::as_size;
@@ -24,9 +25,7 @@ use crate::stream::tokens::payload_of;
 use crate::writing::sets::set_leaf;
 use crate::writing::sets::set_text;
 use types::MemberTable;
-use types::Ty;
 use types::TypeTable;
-use types::member_row;
 use types::type_row;
 use words::wide;
 
@@ -114,21 +113,12 @@ fn apply_nested(
         (write (memberTree (treeIn (now (types .entry)) (now (members .entry))) (memberAt (now (members .entry)) row))
         (8 * base + firstBit (memberAt (now (members .entry)) row)) (leftAt (now (s .entry)) k)) ⌝ }
 {
-    let m = member_row(members, row);
-    let start = base + wide(m.offset);
-    let count = wide(m.count);
-    let ty = m.ty;
-    match ty {
-        Ty::Atomic(_) => {
-            return k + 1;
-        }
-        Ty::Struct(t) => {
-            if count == 0 {
-                return apply_struct(types, members, t, s, k, image, start);
-            }
-            return apply_elements(types, members, t, count, s, k, image, start);
-        }
+    let m = nested_in(members, row);
+    let start = base + m.start;
+    if m.count == 0 {
+        return apply_struct(types, members, m.structure, s, k, image, start);
     }
+    apply_elements(types, members, m.structure, m.count, s, k, image, start)
 }
 
 // An array of structures i, or null.

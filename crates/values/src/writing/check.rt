@@ -13,6 +13,7 @@ ghost use Rattle.values.specs.writing.Writing.{write};
 use crate::reading::rows::capacity_at;
 use crate::reading::rows::is_nested;
 use crate::reading::rows::is_string;
+use crate::reading::rows::nested_in;
 use crate::stream::kinds;
 use crate::stream::tokens::MISFIT;
 use crate::stream::tokens::PAST_LAST;
@@ -26,7 +27,6 @@ use crate::writing::fits::check_leaf;
 use crate::writing::fits::check_text;
 use types::MEMBERS;
 use types::MemberTable;
-use types::Ty;
 use types::TypeTable;
 use types::member_row;
 use types::type_row;
@@ -145,20 +145,11 @@ fn check_nested(
         (write (memberTree (treeIn (now (types .entry)) (now (members .entry))) (memberAt (now (members .entry)) row)) p
         (leftAt (now (s .entry)) k))) ⌝ }
 {
-    let m = member_row(members, row);
-    let count = wide(m.count);
-    let ty = m.ty;
-    match ty {
-        Ty::Atomic(_) => {
-            return refused(MISFIT, k);
-        }
-        Ty::Struct(t) => {
-            if count == 0 {
-                return check_struct(types, members, t, s, n, k);
-            }
-            return check_elements(types, members, t, count, s, n, k);
-        }
+    let m = nested_in(members, row);
+    if m.count == 0 {
+        return check_struct(types, members, m.structure, s, n, k);
     }
+    check_elements(types, members, m.structure, m.count, s, n, k)
 }
 
 // An array of structures i, or null.

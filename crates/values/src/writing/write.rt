@@ -16,9 +16,7 @@ ghost use Rattle.values.specs.reading.Trees.{knownIn, treeOfValue};
 ghost use Rattle.values.specs.stream.Form.{streamOk};
 ghost use Rattle.values.specs.writing.Writing.{write as writeIn};
 ghost use Rattle.values.specs.writing.Written.{Done};
-use crate::reading::read::is_product;
-use crate::reading::read::size_of_ty;
-use crate::reading::rows::times_of;
+use crate::reading::images::image_fit;
 use crate::stream::form::stream_ok;
 use crate::stream::tokens;
 use crate::stream::tokens::REFUSED;
@@ -29,11 +27,11 @@ use crate::writing::check::check_elements;
 use crate::writing::check::check_struct;
 use crate::writing::fits::check_atomics;
 use crate::writing::sets::set_atomics;
+use types::Fit;
 use types::MemberTable;
 use types::Refusal;
 use types::Ty;
 use types::TypeTable;
-use types::is_there;
 use words::load32;
 use words::wide;
 
@@ -158,15 +156,13 @@ pub fn write(
     ensures { λ r. ⌜ Done (now (types .entry)) (now (members .entry)) ty count (now (s .entry)) (now (image .entry)) r
         (now (image .exit)) ⌝ }
 {
-    if !is_there(types, ty) {
-        return Taken::Refused(Refusal::NoSuchType);
+    match image_fit(types, ty, count, image.len()) {
+        Fit::Refused(why) => Taken::Refused(why),
+        Fit::Fits => {
+            if !stream_ok(s) {
+                return Taken::Refused(Refusal::StreamMalformed);
+            }
+            return write_entries(types, members, ty, as_size(count), s, image);
+        }
     }
-    let n = as_size(count);
-    if !is_product(image.len(), size_of_ty(types, ty), times_of(n)) {
-        return Taken::Refused(Refusal::ImageLength);
-    }
-    if !stream_ok(s) {
-        return Taken::Refused(Refusal::StreamMalformed);
-    }
-    write_entries(types, members, ty, n, s, image)
 }

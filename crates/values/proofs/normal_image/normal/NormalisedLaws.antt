@@ -10,13 +10,16 @@ use lib.ListN.{length}
 use Rattle.words.specs.Bits.{Bits, flat, inside}
 use Rattle.words.specs.Words.{Bytes}
 use Rattle.words.proofs.StampLaws.{yes-inside}
+use Rattle.types.specs.refusals.Said.{done, why}
 use Rattle.types.specs.tables.There.{isThere}
 use Rattle.types.specs.declared.atomics.atomic.Atomic.{Atomic}
+use Rattle.types.specs.declared.refusals.refusal.Refusal.{Refusal}
 use Rattle.types.specs.declared.refusals.refusal.Refusal.the-variants.{ImageLength, NoSuchType}
 use Rattle.types.specs.declared.tables.member.Ty.{Ty}
 use Rattle.types.specs.declared.tables.member.Ty.the-variants as ty
 use Rattle.values.specs.inside.normal_image.InPlace.{made}
 use Rattle.values.specs.inside.normal_image.Placed.{Sweepable}
+use Rattle.values.specs.inside.reading.Images.{saidOfImage}
 use Rattle.values.specs.inside.reading.Walkable.{ValueImage}
 use Rattle.values.specs.inside.writing.Rows.{treeIn}
 use Rattle.values.specs.normal_image.Normal.{normal, normalImage}
@@ -29,6 +32,7 @@ use Rattle.values.specs.declared.writing.write.Taken.the-variants.{Refus
 use Rattle.values.proofs.normal_image.CharLaws.{chars-ext}
 use Rattle.values.proofs.normal_image.MadeLaws.{made-inside}
 use Rattle.values.proofs.normal_image.SweepableLaws.{sweepable-walkable}
+use Rattle.values.proofs.reading.ImageLaws.{fit-long, fit-there, unfit}
 use Rattle.values.proofs.reading.SpanLaws.{tree-value-span}
 use Rattle.values.proofs.writing.WrittenLaws.{bytes-bits}
 
@@ -76,19 +80,25 @@ module _ {types members : List ℕ} (s : Sweepable types members) {t : Ty} {n : 
 -- ---- the call
 
 module _ (types members : List ℕ) (t : Ty) (n : ℕ) (image : List ℕ) where
-  -- the way out with 15: no such type, and the image is as it was
-  pub no-type : isThere types t ≡ false → MadeNormal types members t n image (Refused NoSuchType) image
+  no-type : isThere types t ≡ false → MadeNormal types members t n image (Refused NoSuchType) image
   unfolding normalResult
   no-type e = record { answer = rw e refl; leaves = rw e refl }
 
-  module _ (there-is : isThere types t ≡ true) where
-    -- the way out with 14: the image's length does not fit, and the image is as it was
-    pub no-image : imageFits types t n image ≡ false → MadeNormal types members t n image (Refused ImageLength) image
-    unfolding normalResult
-    no-image e = record { answer = rw (there-is, e) refl; leaves = rw (there-is, e) refl }
+  no-image : isThere types t ≡ true → imageFits types t n image ≡ false
+      → MadeNormal types members t n image (Refused ImageLength) image
+  unfolding normalResult
+  no-image e f = record { answer = rw (e, f) refl; leaves = rw (e, f) refl }
 
-    -- the answer where type and image fit: nothing is refused, and the normal image is left
-    pub whole-normal : {new : List ℕ} → imageFits types t n image ≡ true → new ≡ valueNormal types members t n image
-        → MadeNormal types members t n image Whole new
-    unfolding normalResult
-    whole-normal e w = record { answer = rw (there-is, e) refl; leaves = w ∙ rw (there-is, e) refl }
+  -- the ways out with 15 and 14: the image is not one of the type, and it is as it was
+  pub unfit-normal : (w : Refusal) → why w ≡ saidOfImage types t n (length image)
+      → MadeNormal types members t n image (Refused w) image
+  unfit-normal = unfit types t n image (λ w. MadeNormal types members t n image (Refused w) image) no-type no-image
+
+  -- the answer where the image is one of the type: nothing is refused, and the normal image is left
+  pub whole-normal : {new : List ℕ} → done tt ≡ saidOfImage types t n (length image)
+      → new ≡ valueNormal types members t n image → MadeNormal types members t n image Whole new
+  unfolding normalResult
+  whole-normal e w =
+      let f = fit-there types t n image e in
+      let g = fit-long types t n image e in
+      record { answer = rw (f, g) refl; leaves = w ∙ rw (f, g) refl }

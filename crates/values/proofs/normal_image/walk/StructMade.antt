@@ -48,7 +48,7 @@ module _ (trees : ℕ → Tree) (p : ℕ) where
           → (held (branchItems rest p) k ≡ false → HeldByNone (flagItems p ms) (plainItems trees p ms) k)
           → held (branchItems (seen h j (firstIn b (m .offset)) (bitTree b value) rest) p) k ≡ false
           → HeldByNone
-          (cond (cond h false (hasBit b)) (at (p + firstIn b (m .offset)) flag ∷ flagItems p ms) (flagItems p ms))
+          (cond (hasBit (cond h None b)) (at (p + firstIn b (m .offset)) flag ∷ flagItems p ms) (flagItems p ms))
           (cond (cond h false (not (hasBit b)))
           (items (bitTree b value) (p + firstIn b (m .offset)) ++ plainItems trees p ms) (plainItems trees p ms)) k
       go true b ih e = ih e
@@ -127,7 +127,7 @@ merged trees p size (m ∷ ms) j a x k = go (m .hidden) (m .bit) a (λ r. merged
     go : (h : Bool) (b : Bit) → BranchesPlaced size (seen h j (firstIn b (m .offset)) (bitTree b value) rest)
         → (BranchesPlaced size rest → Merged (flagItems p ms) (plainItems trees p ms) (branchItems rest p) x k)
         → Merged
-        (cond (cond h false (hasBit b)) (at (p + firstIn b (m .offset)) flag ∷ flagItems p ms) (flagItems p ms))
+        (cond (hasBit (cond h None b)) (at (p + firstIn b (m .offset)) flag ∷ flagItems p ms) (flagItems p ms))
         (cond (cond h false (not (hasBit b)))
         (items (bitTree b value) (p + firstIn b (m .offset)) ++ plainItems trees p ms) (plainItems trees p ms))
         (branchItems (seen h j (firstIn b (m .offset)) (bitTree b value) rest) p) x k

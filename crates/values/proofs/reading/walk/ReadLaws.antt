@@ -10,10 +10,8 @@ use lib.Seq.{sets}
 use Rattle.types.specs.tables.Lent.{memberAt, typeAt}
 use Rattle.types.specs.tables.Limits.{mostTypes}
 use Rattle.types.specs.tables.Sizes.{sizesIn}
-use Rattle.types.specs.declared.atomics.atomic.Atomic.{Atomic}
 use Rattle.types.specs.declared.tables.member.Member.{Member}
 use Rattle.types.specs.declared.tables.member.StructDef.{StructDef}
-use Rattle.types.specs.declared.tables.member.Ty.the-variants as ty
 use Rattle.values.specs.inside.reading.Walk.{upTo, wrap, textOut, isNested, leafOut, elementBy, elementsBy}
 use Rattle.values.specs.inside.reading.Walk.{memberBy, rowBy, membersBy, structBy, structOut}
 use Rattle.values.specs.inside.reading.Walkable.{IsString, Walkable, RowOf, NestedRow, ImageOf, ImagesOf}
@@ -21,9 +19,10 @@ use Rattle.values.specs.inside.stream.Laying.{EntriesPut, StreamRoom, To
 use Rattle.values.specs.reading.Texts.{capacityAt}
 use Rattle.values.specs.reading.Trees.{isStringKind}
 use Rattle.values.specs.stream.Stream.{Token, member, entryBytes}
+use Rattle.values.specs.declared.reading.rows.Nested.{Nested}
 use Rattle.values.specs.declared.stream.place.Place.{Place}
 use Rattle.values.proofs.reading.LeafLaws.{textless-leaf}
-use Rattle.values.proofs.reading.MemberLaws.{nested-shown, never-atomic, nested-earlier, member-leaf, row-of}
+use Rattle.values.proofs.reading.MemberLaws.{nested-shown, member-leaf, row-of}
 use Rattle.values.proofs.reading.PartLaws.{lent, element-fits, element-image, element-is, HeldRow, one-image}
 use Rattle.values.proofs.reading.PartLaws.{one-is, some-images, some-is}
 use Rattle.values.proofs.reading.WalkLaws.{struct-out}
@@ -162,32 +161,7 @@ module _ {types members image out new : List ℕ} {i first n base at text j p t 
         → RowsRead types members i image first n out base at text (j + 1) last r t
     leaf-on v = on (wrote-as row-leaf (put-wrote base t (textless-leaf j image _) v))
 
--- ---- a structure, or an array of structures, in a row, where m was read from it
-
-module _ {types members : List ℕ} {i row : ℕ} {m : Member} (nested : NestedRow types members i row)
-    (is : m ≡ memberAt members row) where
-  -- the type of a nested row is no atomic
-  pub nested-not : {a : Atomic} → m .ty ≡ ty.Atomic a → ⊥
-  nested-not {a} e =
-      never-atomic (memberAt members row) (nested .nested) a (ap (λ (x : Member). x .ty) (sym is) ∙ e)
-
-  -- the structure that a nested row names has a number below 200
-  pub nested-low : {s : ℕ} → m .ty ≡ ty.Struct s → s < mostTypes
-  nested-low e =
-      omega (arith, nested-earlier nested (ap (λ (x : Member). x .ty) (sym is) ∙ e), nested .row-of .low)
-
-  -- a nested row holds the structure that was read from it, with its start, count and size
-  pub held-row : {image : List ℕ} {s start n size : ℕ} → ImageOf types i image → m .ty ≡ ty.Struct s
-      → start ≡ m .offset → n ≡ m .count → size ≡ sizesIn types s → HeldRow types members i row image s start n size
-  held-row whole e s c z =
-      record {
-        nested = nested;
-        whole = whole;
-        struct = ap (λ (x : Member). x .ty) (sym is) ∙ e;
-        at = s ∙ ap (λ (x : Member). x .offset) is;
-        count = c ∙ ap (λ (x : Member). x .count) is;
-        long = z;
-      }
+-- ---- a structure, or an array of structures, in a row
 
 -- its number has room
 pub nested-room : (types members : List ℕ) (rec : ℕ → List ℕ → List Token) (j : ℕ) (x : Member) (image : List ℕ)
@@ -198,49 +172,58 @@ nested-room types members rec j x image e r = room-one (rw (nested-shown x e) at
 
 -- its number is put
 pub record Nesting (types members : List ℕ) (i row j : ℕ) (image out : List ℕ) (base at text : ℕ) (mid : List ℕ)
-    (s start n size : ℕ) : Type 0 where
-  pub held : HeldRow types members i row image s start n size
+    (r : Nested) (size : ℕ) : Type 0 where
+  pub held : HeldRow types members i row image r size
   pub walk : Walkable types members
   pub room : StreamRoom (length out) base at text
       (memberBy types members (structOut types members) j (memberAt members row) image)
   pub put : mid ≡ sets out at (entryBytes 7 j)
 
 module _ {types members : List ℕ} {i row j : ℕ} {image out : List ℕ} {base at text : ℕ} {mid : List ℕ}
-    {s start n size : ℕ} (w : Nesting types members i row j image out base at text mid s start n size) where
-  module _ (none : n ≡ 0) where
-    one : memberBy types members (structOut types members) j (memberAt members row) image
-        ≡ member j ∷ structOut types members s (lent image start (start + size))
+    {r : Nested} {size : ℕ} (w : Nesting types members i row j image out base at text mid r size) where
+  -- the bytes of one structure, and of so many
+  abbrev alone : List ℕ
+  alone = lent image (r .start) (r .start + size)
+
+  abbrev together : List ℕ
+  together = lent image (r .start) (r .start + size * r .count)
+
+  -- what they give, and what the member gives
+  abbrev struct : List Token
+  struct = structOut types members (r .structure) alone
+
+  abbrev elements : List Token
+  elements = elementsBy types members (structOut types members) (r .structure) (r .count) together
+
+  abbrev all : List Token
+  all = memberBy types members (structOut types members) j (memberAt members row) image
+
+  module _ (none : r .count ≡ 0) where
+    one : all ≡ member j ∷ struct
     one = sym (one-is (w .held) none (structOut types members) j)
 
     -- one structure in a row: its bytes are an image of it, and it has room after the number
-    pub one-asks : (Walkable types members × ImageOf types s (lent image start (start + size)))
-        × StreamRoom (length mid) base (at + 12) text (structOut types members s (lent image start (start + size)))
+    pub one-asks : (Walkable types members × ImageOf types (r .structure) alone)
+        × StreamRoom (length mid) base (at + 12) text struct
     one-asks = ((w .walk, one-image (w .held) none), value-room out (room-as one (w .room)) (w .put))
 
     -- one structure in a row: the number and then the structure are written, the whole member
-    pub one-wrote : {new : List ℕ} {r : Place}
-        → TokensLaid mid base (at + 12) text (structOut types members s (lent image start (start + size))) new r
-        → TokensLaid out base at text
-        (memberBy types members (structOut types members) j (memberAt members row) image) new r
+    pub one-wrote : {new : List ℕ} {p : Place} → TokensLaid mid base (at + 12) text struct new p
+        → TokensLaid out base at text all new p
     one-wrote v = wrote-as one (value-wrote out (room-as one (w .room)) (w .put) v)
 
-  module _ (many : n ≡ 0 → ⊥) where
-    some : memberBy types members (structOut types members) j (memberAt members row) image
-        ≡ member j ∷ elementsBy types members (structOut types members) s n (lent image start (start + size * n))
+  module _ (many : r .count ≡ 0 → ⊥) where
+    some : all ≡ member j ∷ elements
     some = sym (some-is (w .held) many (structOut types members) j)
 
     -- an array of structures in a row: its bytes are an image of them, and it has room after the number
-    pub some-asks : (Walkable types members × ImagesOf types s n (lent image start (start + size * n)))
-        × StreamRoom (length mid) base (at + 12) text
-        (elementsBy types members (structOut types members) s n (lent image start (start + size * n)))
+    pub some-asks : (Walkable types members × ImagesOf types (r .structure) (r .count) together)
+        × StreamRoom (length mid) base (at + 12) text elements
     some-asks = ((w .walk, some-images (w .held) many), value-room out (room-as some (w .room)) (w .put))
 
     -- an array of structures in a row: the number and then the array are written, the whole member
-    pub some-wrote : {new : List ℕ} {r : Place}
-        → TokensLaid mid base (at + 12) text
-        (elementsBy types members (structOut types members) s n (lent image start (start + size * n))) new r
-        → TokensLaid out base at text
-        (memberBy types members (structOut types members) j (memberAt members row) image) new r
+    pub some-wrote : {new : List ℕ} {p : Place} → TokensLaid mid base (at + 12) text elements new p
+        → TokensLaid out base at text all new p
     some-wrote v = wrote-as some (value-wrote out (room-as some (w .room)) (w .put) v)
 
 -- ---- an array of structures

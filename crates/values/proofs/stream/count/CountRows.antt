@@ -12,12 +12,12 @@ use Rattle.types.specs.layout.Placing.{times}
 use Rattle.types.specs.tables.Lent.{memberAt, typeAt}
 use Rattle.types.specs.tables.Limits.{mostTypes}
 use Rattle.types.specs.tables.Sizes.{sizesIn}
-use Rattle.types.specs.declared.tables.member.Ty.the-variants as ty
 use Rattle.values.specs.inside.reading.Walk.{isNested, upTo, wrap, leafOut, structsBy, memberBy, rowBy, membersBy}
 use Rattle.values.specs.inside.reading.Walk.{structOut}
-use Rattle.values.specs.inside.reading.Walkable.{Walkable, RowOf, NestedRow}
+use Rattle.values.specs.inside.reading.Walkable.{HeldIn, Walkable, RowOf, NestedRow}
 use Rattle.values.specs.inside.stream.Counting.{Counted, TextFree}
 use Rattle.values.specs.stream.Stream.{mostBytes, Token, bodies}
+use Rattle.values.specs.declared.reading.rows.Nested.{Nested}
 use Rattle.values.proofs.reading.MemberLaws.{member-leaf, member-nested, row-of}
 use Rattle.values.proofs.reading.UpLaws.{up-grows, wrap-length, wrap-bodies}
 use Rattle.values.proofs.stream.CountLaws.{counted-same, member-counted, plain-counted, plain-same}
@@ -149,11 +149,13 @@ module _ {types members : List ℕ} {i from most first n : ℕ} {b t : Bool} {su
 -- ---- a nested row
 
 -- the member's number and the structures that it names
-pub nested-counted : {types members : List ℕ} {i row s n most from sum : ℕ} {b t : Bool} (j : ℕ)
-    → NestedRow types members i row → memberAt members row .ty ≡ ty.Struct s → n ≡ memberAt members row .count
-    → Counted most (from + 1) (structsBy types members (structOut types members) s n) b t sum
+pub nested-counted : {types members : List ℕ} {i row most from sum : ℕ} {b t : Bool} {r : Nested} (j : ℕ)
+    → NestedRow types members i row → HeldIn (memberAt members row) r
+    → Counted most (from + 1) (structsBy types members (structOut types members) (r .structure) (r .count)) b t sum
     → Counted most from (memberBy types members (structOut types members) j (memberAt members row)) b t sum
-nested-counted {types} {members} {row = row} {s} {n} j r e q w =
-    counted-same (member-counted j (λ image. part image (memberAt members row .offset) (sizesIn types s * times n)) w)
-    (λ image. rw q (sym
-    (member-nested types members (structOut types members) j (memberAt members row) image s (r .nested) e)))
+nested-counted {types} {members} {row = row} {r = r} j nested held w =
+    counted-same (member-counted j
+    (λ image. part image (memberAt members row .offset) (sizesIn types (r .structure) * times (r .count))) w)
+    (λ image. rw (held .count) (sym
+    (member-nested types members (structOut types members) j (memberAt members row) image (r .structure)
+    (nested .nested) (held .struct))))

@@ -5,29 +5,25 @@ use native.Mathlib.Omega.{arith}
 use mathlib.Core.Path.{_≡_, refl, sym, ap, _∙_}
 use mathlib.Core.Bool.{Bool, true, false}
 use mathlib.Core.List.{List}
-use borrow.Author.Tests.{ne-eqb}
 use Rattle.words.specs.Bits.{Bits}
 use Rattle.types.specs.tables.Lent.{memberAt, typeAt}
 use Rattle.types.specs.tables.Limits.{mostTypes}
 use Rattle.types.specs.tables.Sizes.{sizesIn}
-use Rattle.types.specs.declared.tables.member.Member.{Member}
 use Rattle.types.specs.declared.tables.member.StructDef.{StructDef}
-use Rattle.types.specs.declared.tables.member.Ty.the-variants as ty
-use Rattle.values.specs.inside.reading.Walk.{isNested}
-use Rattle.values.specs.inside.reading.Walkable.{IsString, NestedRow, Walkable}
+use Rattle.values.specs.inside.reading.Walkable.{HeldIn, IsString, NestedRow, Walkable}
 use Rattle.values.specs.inside.writing.Passes.{CheckedFrom, WellFormed, firstKind, leftAt}
 use Rattle.values.specs.inside.writing.Rows.{branchesIn, memberTree, treeIn}
 use Rattle.values.specs.reading.Leaf.{str, width}
 use Rattle.values.specs.reading.Texts.{capacityAt}
 use Rattle.values.specs.reading.Tree.{Tree, leaf, array, struct, Branches, span}
-use Rattle.values.specs.reading.Trees.{isStringKind, structsTree}
+use Rattle.values.specs.reading.Trees.{isStringKind}
 use Rattle.values.specs.stream.Form.{streamOk}
 use Rattle.values.specs.stream.Stream.{Token}
 use Rattle.values.specs.writing.Effects.{asText, orNull}
 use Rattle.values.specs.writing.Writing.{Outcome, andThen, writeOne, opened, elements, write}
-use Rattle.values.proofs.reading.MemberLaws.{nested-whole}
+use Rattle.values.specs.declared.reading.rows.Nested.{Nested}
 use Rattle.values.proofs.stream.LeftLaws.{EntryThere, by-kind, few-entries, there}
-use Rattle.values.proofs.writing.BranchLaws.{string-tree, members-tree}
+use Rattle.values.proofs.writing.BranchLaws.{members-tree, one-tree, some-tree, string-tree}
 use Rattle.values.proofs.writing.OutcomeLaws.{inStruct, inArray, struct-opens, array-opens}
 use Rattle.values.proofs.writing.StepLaws.{Onward, checked-as, onward-on, onward-then, refused-then}
 use Rattle.values.proofs.writing.StepLaws.{opened-keeps, opened-goes, opened-refuses, elements-missing}
@@ -94,40 +90,21 @@ module _ {types members : List ℕ} (w : Walkable types members) {i : ℕ} (low 
 
 -- ---- a nested row is the structure, or the array of structures, that it names
 
-nested-tree : (trees : ℕ → Tree) (m : Member) (t : ℕ) → isNested m ≡ true → m .ty ≡ ty.Struct t
-    → memberTree trees m ≡ structsTree trees t (m .count)
-nested-tree trees m t h e = rw (nested-whole m h, e) refl
-
-structs-one : (trees : ℕ → Tree) (t n : ℕ) → n ≡ 0 → structsTree trees t n ≡ trees t
-unfolding structsTree
-structs-one trees t n e = rw e refl
-
-structs-some : (trees : ℕ → Tree) (t n : ℕ) → (n ≡ 0 → ⊥) → structsTree trees t n ≡ array n (trees t)
-unfolding structsTree
-structs-some trees t n e = rw (ne-eqb n 0 e) refl
-
-module _ {types members : List ℕ} {i row t n : ℕ} (v : NestedRow types members i row)
-    (e : memberAt members row .ty ≡ ty.Struct t) (q : n ≡ memberAt members row .count) where
-  named-tree : memberTree (treeIn types members) (memberAt members row) ≡ structsTree (treeIn types members) t n
-  named-tree =
-      nested-tree (treeIn types members) (memberAt members row) t (v .nested) e
-      ∙ ap (structsTree (treeIn types members) t) (sym q)
-
+module _ {types members : List ℕ} {i row : ℕ} {h : Nested} (nested : NestedRow types members i row)
+    (held : HeldIn (memberAt members row) h) where
   -- count 0: what the check answers of the structure it answers of the member
-  pub one-checked : {s : List ℕ} {k r : ℕ} → n ≡ 0
-      → ((p : ℕ) → CheckedFrom s k r (write (treeIn types members t) p (leftAt s k)))
+  pub one-checked : {s : List ℕ} {k r : ℕ} → h .count ≡ 0
+      → ((p : ℕ) → CheckedFrom s k r (write (treeIn types members (h .structure)) p (leftAt s k)))
       → (p : ℕ) → CheckedFrom s k r (write (memberTree (treeIn types members) (memberAt members row)) p (leftAt s k))
-  one-checked {s} {k} z h p =
-      checked-as
-      (λ x. ap (λ (u : Tree). write u p (leftAt s k) x) (named-tree ∙ structs-one (treeIn types members) t n z)) (h p)
+  one-checked {s} {k} e f p =
+      checked-as (λ x. ap (λ (u : Tree). write u p (leftAt s k) x) (one-tree nested held e)) (f p)
 
   -- any other count: what the check answers of the array it answers of the member
-  pub some-checked : {s : List ℕ} {k r : ℕ} → (n ≡ 0 → ⊥)
-      → ((p : ℕ) → CheckedFrom s k r (write (array n (treeIn types members t)) p (leftAt s k)))
+  pub some-checked : {s : List ℕ} {k r : ℕ} → (h .count ≡ 0 → ⊥)
+      → ((p : ℕ) → CheckedFrom s k r (write (array (h .count) (treeIn types members (h .structure))) p (leftAt s k)))
       → (p : ℕ) → CheckedFrom s k r (write (memberTree (treeIn types members) (memberAt members row)) p (leftAt s k))
-  some-checked {s} {k} z h p =
-      checked-as
-      (λ x. ap (λ (u : Tree). write u p (leftAt s k) x) (named-tree ∙ structs-some (treeIn types members) t n z)) (h p)
+  some-checked {s} {k} e f p =
+      checked-as (λ x. ap (λ (u : Tree). write u p (leftAt s k) x) (some-tree nested held e)) (f p)
 
 -- ---- a null, or an opening
 

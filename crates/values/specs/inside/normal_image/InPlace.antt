@@ -9,6 +9,8 @@ use Rattle.words.specs.Bits.{Bits, flat, from, inside, stamp}
 use Rattle.types.specs.layout.Laid.{firstBit, hasBit}
 use Rattle.types.specs.tables.Lent.{memberAt}
 use Rattle.types.specs.tables.Limits.{mostMembers}
+use Rattle.types.specs.declared.tables.member.Bit.{Bit}
+use Rattle.types.specs.declared.tables.member.Bit.the-variants.{None}
 use Rattle.types.specs.declared.tables.member.Member.{Member}
 use Rattle.values.specs.inside.reading.Walkable.{RowOf}
 use Rattle.values.specs.inside.writing.Rows.{MemberHere, memberTree}
@@ -33,9 +35,13 @@ eachMade (suc n) f w p x = eachMade n f w (p + w) (f p x)
 
 -- ---- a structure's members
 
+-- the bit of a visible BOOL of a host
+abbrev pub flagBit : Member → Bit
+flagBit m = cond (m .hidden) None (m .bit)
+
 -- a visible BOOL of a host
 unfoldable pub isFlag : Member → Bool
-isFlag m = cond (m .hidden) false (hasBit (m .bit))
+isFlag m = hasBit (flagBit m)
 
 -- any other visible member
 unfoldable pub isPlain : Member → Bool

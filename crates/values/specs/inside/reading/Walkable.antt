@@ -15,9 +15,11 @@ use Rattle.types.specs.tables.Sizes.{sizeIn, sizesIn}
 use Rattle.types.specs.declared.tables.member.Member.{Member}
 use Rattle.types.specs.declared.tables.member.StructDef.{StructDef}
 use Rattle.types.specs.declared.tables.member.Ty.{Ty}
+use Rattle.types.specs.declared.tables.member.Ty.the-variants as ty
 use Rattle.values.specs.inside.reading.Walk.{isNested}
 use Rattle.values.specs.reading.Texts.{capacityAt}
 use Rattle.values.specs.reading.Trees.{isStringKind}
+use Rattle.values.specs.declared.reading.rows.Nested.{Nested}
 
 -- a member of structure i, of so many bytes
 pub record MemberWithin (types : List ℕ) (i size : ℕ) (m : Member) : Type 0 where
@@ -49,6 +51,12 @@ pub record RowOf (types members : List ℕ) (i row : ℕ) : Type 0 where
 pub record NestedRow (types members : List ℕ) (i row : ℕ) : Type 0 where
   pub row-of : RowOf types members i row
   pub nested : isNested (memberAt members row) ≡ true
+
+-- what is read of it: the structure, how many, and the byte where it begins
+pub record HeldIn (m : Member) (r : Nested) : Type 0 where
+  pub struct : m .ty ≡ ty.Struct (r .structure)
+  pub count : r .count ≡ m .count
+  pub at : r .start ≡ m .offset
 
 -- an image of structure i
 pub record ImageOf (types : List ℕ) (i : ℕ) (image : List ℕ) : Type 0 where

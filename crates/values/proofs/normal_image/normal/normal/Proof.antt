@@ -1,94 +1,46 @@
 -- `values::normal` meets its contract (document 01, "Normal image", "Refusal numbers"): 15, 14 in that order, or the
 -- normal image.
-use Prim.Native.Nat.{ℕ, _*_}
-use mathlib.Core.Path.{_≡_, sym, ap, ap₂, _∙_}
-use mathlib.Core.Bool.{true}
-use borrow.Author.Tests.{eqb-true, not-true, not-false}
-use lib.Dec.{eqb}
+use mathlib.Core.Path.{_≡_}
 use lib.ListN.{length}
-use Rattle.types.specs.layout.Placing.{times}
-use Rattle.types.specs.tables.Sizes.{sizeIn, sizesIn}
-use Rattle.types.specs.tables.There.{isThere}
-use Rattle.types.proofs.Face.{there-fits}
-use Rattle.values.specs.reading.Read.{imageFits}
+use Rattle.types.specs.refusals.Said.{done}
+use Rattle.values.specs.inside.reading.Images.{saidOfImage}
 use Rattle.values.proofs.normal_image.normal.KeptSweepable.{kept-sweepable}
-use Rattle.values.proofs.normal_image.normal.NormalisedLaws.{no-image, no-type, whole-normal}
+use Rattle.values.proofs.normal_image.normal.NormalisedLaws.{unfit-normal, whole-normal}
+use Rattle.values.proofs.reading.ImageLaws.{fit-image}
 use borrow.Author.Needs.{needs}
 use Rattle.values.proofs.normal_image.normal.normal.Statement.{statement}
 use Rattle.values.proofs.normal_image.normal.normal.Tie as tie
 
--- the type is there
-there : (c : tie.Else1) → isThere (c .before .before .before .args .types .now)
-    (c .before .before .before .args .ty) ≡ true
-there c = sym (c .before .is-there .ensures) ∙ not-false _ (c .if1 .left)
-
--- the product's test is the image's
-product : (c : tie.After-is-product) → c .is-product .result
-    ≡ imageFits (c .before .before .before .before .before .before .before .args .types .now)
-    (c .before .before .before .before .before .before .before .args .ty)
-    (c .before .before .before .before .before .before .before .args .count)
-    (c .before .before .before .before .before .before .before .args .image .now)
-product c =
-    let at-times = c .before in
-    let at-size = at-times .before in
-    let same = at-size .before .as-size .ensures in
-    let image = at-size .before .before .before .before .before .args .image .now in
-    c .is-product .ensures
-    ∙ ap₂ (λ (s n : ℕ). eqb (length image) (s * n)) (at-size .size-of-ty .ensures)
-    (at-times .times-of .ensures ∙ ap times same)
-
 -- the image fits
-fits : (c : tie.Else2)
-    → imageFits (c .before .before .before .before .before .before .before .before .args .types .now)
-    (c .before .before .before .before .before .before .before .before .args .ty)
-    (c .before .before .before .before .before .before .before .before .args .count)
-    (c .before .before .before .before .before .before .before .before .args .image .now) ≡ true
-fits c = sym (product (c .before)) ∙ not-false _ (c .if2 .left)
-
-returns : tie.Need-returns
-returns c =
-    let at-there = c .before in
-    let a = at-there .before .before .args in
-    no-type (a .types .now) (a .members .now) (a .ty) (a .count) (a .image .now)
-    (sym (at-there .is-there .ensures) ∙ not-true _ (c .if1 .taken))
-
-size-of-ty-requires : tie.Need-size-of-ty-requires
-size-of-ty-requires c κs =
-    let a = c .before .before .before .before .args in
-    there-fits (a .types .now) (a .ty) (there (c .before))
-
-returns-2 : tie.Need-returns-2
-returns-2 c =
-    let at-product = c .before in
-    let at-else = at-product .before .before .before .before in
-    let a = at-else .before .before .before .args in
-    no-image (a .types .now) (a .members .now) (a .ty) (a .count) (a .image .now) (there at-else)
-    (sym (product at-product) ∙ not-true _ (c .if2 .taken))
+fits : (c : tie.After-enum-told)
+    → let a = c .before .before .before .before .args in
+    done tt ≡ saidOfImage (a .types .now) (a .ty) (a .count) (length (a .image .now))
+fits c = rw (c .enum-told .given .1) at (c .before .before .image-fit .ensures)
 
 normal-value-requires : tie.Need-normal-value-requires
 normal-value-requires c κs =
-    let at-fits = c .before in
-    let at-size = at-fits .before .before .before .before in
-    let at-else = at-size .before in
-    let at-start = at-else .before .before .before in
-    let a = at-start .args in
-    let same = at-size .as-size .ensures in (
+    let at-size = c .before in
+    let at-fits = at-size .before in
+    let at-start = at-fits .before .before .before .before in
+    let a = at-start .args in (
       kept-sweepable (at-start .pre),
-      record {
-        fits = there-fits (a .types .now) (a .ty) (there at-else);
-        long = eqb-true (length (a .image .now)) (sizeIn (sizesIn (a .types .now)) (a .ty) * times (a .count))
-            (fits at-fits) ∙ ap (λ (n : ℕ). sizeIn (sizesIn (a .types .now)) (a .ty) * times n) (sym same);
-      },
+      rw (at-size .as-size .ensures) (fit-image (a .types .now) (a .ty) (a .count) (a .image .now) (fits at-fits)),
     )
 
-returns-3 : tie.Need-returns-3
-returns-3 c =
+returns : tie.Need-returns
+returns c =
+    let at-fit = c .before .before .before in
+    let a = at-fit .before .before .args in
+    unfit-normal (a .types .now) (a .members .now) (a .ty) (a .count) (a .image .now) _
+    (rw (c .before .why .given .1) at (at-fit .image-fit .ensures))
+
+returns-2 : tie.Need-returns-2
+returns-2 c =
     let at-value = c .before .before in
-    let at-fits = at-value .before .before in
-    let at-size = at-fits .before .before .before .before in
-    let at-else = at-size .before in
-    let a = at-else .before .before .before .args in
-    whole-normal (a .types .now) (a .members .now) (a .ty) (a .count) (a .image .now) (there at-else) (fits at-fits)
+    let at-size = at-value .before .before in
+    let at-fits = at-size .before in
+    let a = at-fits .before .before .before .before .args in
+    whole-normal (a .types .now) (a .members .now) (a .ty) (a .count) (a .image .now) (fits at-fits)
     (rw (at-size .as-size .ensures) at (at-value .normal-value .ensures))
 
 pub normal-spec : {M : Type 1} → statement M
@@ -96,12 +48,10 @@ normal-spec =
     tie.close
     (tie.spec
     (λ c κs. search needs)
-    returns
-    (λ c κs. search needs)
-    size-of-ty-requires
-    (λ c κs. search needs)
-    (λ c κs. search needs)
-    returns-2
-    normal-value-requires
     (λ c. search needs)
-    returns-3)
+    (λ c. search needs)
+    (λ c κs. search needs)
+    normal-value-requires
+    returns
+    (λ c. search needs)
+    returns-2)

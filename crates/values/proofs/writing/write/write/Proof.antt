@@ -1,125 +1,75 @@
 -- `values::write` meets its contract: 15, 14, 17 in that order, or what the entries make of the image.
-use Prim.Native.Nat.{ℕ, _*_}
-use mathlib.Core.Path.{_≡_, sym, ap, ap₂, _∙_}
-use mathlib.Core.Bool.{true}
-use borrow.Author.Tests.{eqb-true, not-true, not-false}
-use lib.Dec.{eqb}
+use mathlib.Core.Path.{_≡_, sym, _∙_}
+use borrow.Author.Tests.{not-true, not-false}
 use lib.ListN.{length}
-use Rattle.types.specs.layout.Placing.{times}
-use Rattle.types.specs.tables.Sizes.{sizeIn, sizesIn}
-use Rattle.types.specs.tables.There.{isThere}
-use Rattle.types.proofs.Face.{there-fits}
-use Rattle.values.specs.reading.Read.{imageFits}
+use Rattle.types.specs.refusals.Said.{done}
+use Rattle.values.specs.inside.reading.Images.{saidOfImage}
+use Rattle.values.proofs.reading.ImageLaws.{fit-image}
 use Rattle.values.proofs.reading.KeptWalkable.{kept-walkable}
-use Rattle.values.proofs.writing.WrittenLaws.{entered-done, no-image, no-stream, no-type}
+use Rattle.values.proofs.writing.WrittenLaws.{entered-done, no-stream, unfit-write}
 use borrow.Author.Needs.{needs}
 use Rattle.values.proofs.writing.write.write.Statement.{statement}
 use Rattle.values.proofs.writing.write.write.Tie as tie
 
--- the type is there
-there : (c : tie.Else1) → isThere (c .before .before .before .before .args .types .now)
-    (c .before .before .before .before .args .ty) ≡ true
-there c = sym (c .before .is-there .ensures) ∙ not-false _ (c .if1 .left)
-
--- the product's test is the image's
-product : (c : tie.After-is-product) → c .is-product .result
-    ≡ imageFits (c .before .before .before .before .before .before .before .before .args .types .now)
-    (c .before .before .before .before .before .before .before .before .args .ty)
-    (c .before .before .before .before .before .before .before .before .args .count)
-    (c .before .before .before .before .before .before .before .before .args .image .now)
-product c =
-    let at-times = c .before in
-    let at-size = at-times .before in
-    let same = at-size .before .as-size .ensures in
-    let image = at-size .before .before .before .before .before .before .args .image .now in
-    c .is-product .ensures
-    ∙ ap₂ (λ (s n : ℕ). eqb (length image) (s * n)) (at-size .size-of-ty .ensures)
-    (at-times .times-of .ensures ∙ ap times same)
-
 -- the image fits
-fits : (c : tie.Else2)
-    → imageFits (c .before .before .before .before .before .before .before .before .before .args .types .now)
-    (c .before .before .before .before .before .before .before .before .before .args .ty)
-    (c .before .before .before .before .before .before .before .before .before .args .count)
-    (c .before .before .before .before .before .before .before .before .before .args .image .now) ≡ true
-fits c = sym (product (c .before)) ∙ not-false _ (c .if2 .left)
+fits : (c : tie.After-enum-told)
+    → let a = c .before .before .before .before .before .args in
+    done tt ≡ saidOfImage (a .types .now) (a .ty) (a .count) (length (a .image .now))
+fits c = rw (c .enum-told .given .1) at (c .before .before .image-fit .ensures)
 
 returns : tie.Need-returns
 returns c =
-    let at-there = c .before in
-    let a = at-there .before .before .before .args in
-    no-type (a .types .now) (a .members .now) (a .ty) (a .count) (a .s .now) (a .image .now)
-    (sym (at-there .is-there .ensures) ∙ not-true _ (c .if1 .taken))
-
-size-of-ty-requires : tie.Need-size-of-ty-requires
-size-of-ty-requires c κs =
-    let a = c .before .before .before .before .before .args in
-    there-fits (a .types .now) (a .ty) (there (c .before))
-
-returns-2 : tie.Need-returns-2
-returns-2 c =
-    let at-product = c .before in
-    let at-else = at-product .before .before .before .before in
-    let a = at-else .before .before .before .before .args in
-    no-image (a .types .now) (a .members .now) (a .ty) (a .count) (a .s .now) (a .image .now) (there at-else)
-    (sym (product at-product) ∙ not-true _ (c .if2 .taken))
-
-returns-3 : tie.Need-returns-3
-returns-3 c =
     let at-form = c .before in
     let at-fits = at-form .before in
-    let at-else = at-fits .before .before .before .before .before in
-    let a = at-else .before .before .before .before .args in
-    no-stream (a .types .now) (a .members .now) (a .ty) (a .count) (a .s .now) (a .image .now) (there at-else)
-    (fits at-fits) (sym (at-form .stream-ok .ensures) ∙ not-true _ (c .if3 .taken))
+    let a = at-fits .before .before .before .before .before .args in
+    no-stream (a .types .now) (a .members .now) (a .ty) (a .count) (a .s .now) (a .image .now) (fits at-fits)
+    (sym (at-form .stream-ok .ensures) ∙ not-true _ (c .if1 .taken))
 
 write-entries-requires : tie.Need-write-entries-requires
 write-entries-requires c κs =
-    let at-good = c .before in
+    let at-size = c .before in
+    let at-good = at-size .before in
     let at-form = at-good .before in
     let at-fits = at-form .before in
-    let at-size = at-fits .before .before .before .before in
-    let at-else = at-size .before in
-    let at-start = at-else .before .before .before .before in
-    let a = at-start .args in
-    let same = at-size .as-size .ensures in (
+    let at-start = at-fits .before .before .before .before .before in
+    let a = at-start .args in (
       kept-walkable (at-start .pre .kept),
       (
-        record {
-          fits = there-fits (a .types .now) (a .ty) (there at-else);
-          long = eqb-true (length (a .image .now)) (sizeIn (sizesIn (a .types .now)) (a .ty) * times (a .count))
-              (fits at-fits) ∙ ap (λ (n : ℕ). sizeIn (sizesIn (a .types .now)) (a .ty) * times n) (sym same);
-        },
-        sym (at-form .stream-ok .ensures) ∙ not-false _ (at-good .if3 .left),
+        rw (at-size .as-size .ensures) (fit-image (a .types .now) (a .ty) (a .count) (a .image .now) (fits at-fits)),
+        sym (at-form .stream-ok .ensures) ∙ not-false _ (at-good .if1 .left),
       ),
     )
 
-returns-4 : tie.Need-returns-4
-returns-4 c =
+returns-2 : tie.Need-returns-2
+returns-2 c =
     let at-entries = c .before .before in
-    let at-good = at-entries .before .before in
+    let at-size = at-entries .before .before in
+    let at-good = at-size .before in
     let at-form = at-good .before in
     let at-fits = at-form .before in
-    let at-size = at-fits .before .before .before .before in
-    let at-else = at-size .before in
-    let a = at-else .before .before .before .before .args in
-    entered-done (a .types .now) (a .members .now) (a .ty) (a .count) (a .s .now) (a .image .now) (there at-else)
-    (fits at-fits) (sym (at-form .stream-ok .ensures) ∙ not-false _ (at-good .if3 .left))
+    let a = at-fits .before .before .before .before .before .args in
+    entered-done (a .types .now) (a .members .now) (a .ty) (a .count) (a .s .now) (a .image .now) (fits at-fits)
+    (sym (at-form .stream-ok .ensures) ∙ not-false _ (at-good .if1 .left))
     (rw (at-size .as-size .ensures) at (at-entries .write-entries .ensures))
+
+returns-3 : tie.Need-returns-3
+returns-3 c =
+    let at-fit = c .before .before .before in
+    let a = at-fit .before .before .before .args in
+    unfit-write (a .types .now) (a .members .now) (a .ty) (a .count) (a .s .now) (a .image .now) _
+    (rw (c .before .why .given .1) at (at-fit .image-fit .ensures))
 
 pub write-spec : {M : Type 1} → statement M
 write-spec =
     tie.close
     (tie.spec
     (λ c κs. search needs)
+    (λ c. search needs)
+    (λ c. search needs)
+    (λ c κs. search needs)
     returns
     (λ c κs. search needs)
-    size-of-ty-requires
-    (λ c κs. search needs)
-    (λ c κs. search needs)
-    returns-2
-    (λ c κs. search needs)
-    returns-3
     write-entries-requires
     (λ c. search needs)
-    returns-4)
+    returns-2
+    returns-3)

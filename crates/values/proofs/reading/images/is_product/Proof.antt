@@ -1,8 +1,8 @@
 -- `values::is_product` meets its contract.
 use Rattle.words.proofs.ArithLaws.{product-none, product-not, product-is}
 use borrow.Author.Needs.{needs}
-use Rattle.values.proofs.reading.read.is_product.Statement.{statement}
-use Rattle.values.proofs.reading.read.is_product.Tie as tie
+use Rattle.values.proofs.reading.images.is_product.Statement.{statement}
+use Rattle.values.proofs.reading.images.is_product.Tie as tie
 
 returns : tie.Need-returns
 returns c = product-none (c .before .args .long) (c .before .args .size) (c .before .args .n) (c .if1 .taken)

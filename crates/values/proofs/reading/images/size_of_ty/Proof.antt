@@ -1,7 +1,7 @@
 -- `values::size_of_ty` meets its contract.
 use borrow.Author.Needs.{needs}
-use Rattle.values.proofs.reading.read.size_of_ty.Statement.{statement}
-use Rattle.values.proofs.reading.read.size_of_ty.Tie as tie
+use Rattle.values.proofs.reading.images.size_of_ty.Statement.{statement}
+use Rattle.values.proofs.reading.images.size_of_ty.Tie as tie
 
 struct-size-requires : tie.Need-struct-size-requires
 struct-size-requires c κs = rw (c .before .ty2 .given .1) at (c .before .before .before .pre)
