@@ -46,8 +46,8 @@ module _ (m : Member) (nested : isNested m ≡ true) where
   nested-whole = parts .1 .0
 
   -- it is no atomic
-  pub never-atomic : (a : Atomic) → m .ty ≡ ty.Atomic a → ⊥
-  never-atomic a e = clash (parts .1 .1) (rw e)
+  pub never-atomic : {a : Atomic} → m .ty ≡ ty.Atomic a → ⊥
+  never-atomic e = clash (parts .1 .1) (rw e)
 
 -- ---- what a row gives
 

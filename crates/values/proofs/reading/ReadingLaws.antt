@@ -52,9 +52,10 @@ module _ (types members : List ℕ) (t : Ty) (n : ℕ) (image out : List ℕ) wh
   no-image e f = record { answer = rw (e, f) refl; leaves = rw (e, f) refl }
 
   -- the ways out with 15 and 14: the image is not one of the type, and nothing is written
-  pub unfit-read : (w : Refusal) → why w ≡ saidOfImage types t n (length image)
+  pub unfit-read : {w : Refusal} → why w ≡ saidOfImage types t n (length image)
       → Answered types members t n image out (Refused w) out
-  unfit-read = unfit types t n image (λ w. Answered types members t n image out (Refused w) out) no-type no-image
+  unfit-read {w} e =
+      unfit types t n image (λ w. Answered types members t n image out (Refused w) out) no-type no-image w e
 
   -- the image is one of the type: the answer is the one about the stream
   pub answered : {r : Streamed} {new : List ℕ} → done tt ≡ saidOfImage types t n (length image)

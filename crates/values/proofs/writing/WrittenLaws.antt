@@ -135,9 +135,10 @@ module _ (types members : List ℕ) (t : Ty) (n : ℕ) (s image : List ℕ) wher
   no-image e f = record { answer = rw (e, f) refl; leaves = rw (e, f) refl }
 
   -- the ways out with 15 and 14: the image is not one of the type, and it is as it was
-  pub unfit-write : (w : Refusal) → why w ≡ saidOfImage types t n (length image)
+  pub unfit-write : {w : Refusal} → why w ≡ saidOfImage types t n (length image)
       → Done types members t n s image (Refused w) image
-  unfit-write = unfit types t n image (λ w. Done types members t n s image (Refused w) image) no-type no-image
+  unfit-write {w} e =
+      unfit types t n image (λ w. Done types members t n s image (Refused w) image) no-type no-image w e
 
   module _ (fits : done tt ≡ saidOfImage types t n (length image)) where
     there-is : isThere types t ≡ true

@@ -90,9 +90,10 @@ module _ (types members : List ℕ) (t : Ty) (n : ℕ) (image : List ℕ) where
   no-image e f = record { answer = rw (e, f) refl; leaves = rw (e, f) refl }
 
   -- the ways out with 15 and 14: the image is not one of the type, and it is as it was
-  pub unfit-normal : (w : Refusal) → why w ≡ saidOfImage types t n (length image)
+  pub unfit-normal : {w : Refusal} → why w ≡ saidOfImage types t n (length image)
       → MadeNormal types members t n image (Refused w) image
-  unfit-normal = unfit types t n image (λ w. MadeNormal types members t n image (Refused w) image) no-type no-image
+  unfit-normal {w} e =
+      unfit types t n image (λ w. MadeNormal types members t n image (Refused w) image) no-type no-image w e
 
   -- the answer where the image is one of the type: nothing is refused, and the normal image is left
   pub whole-normal : {new : List ℕ} → done tt ≡ saidOfImage types t n (length image)

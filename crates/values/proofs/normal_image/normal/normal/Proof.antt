@@ -31,7 +31,7 @@ returns : tie.Need-returns
 returns c =
     let at-fit = c .before .before .before in
     let a = at-fit .before .before .args in
-    unfit-normal (a .types .now) (a .members .now) (a .ty) (a .count) (a .image .now) _
+    unfit-normal (a .types .now) (a .members .now) (a .ty) (a .count) (a .image .now)
     (rw (c .before .why .given .1) at (at-fit .image-fit .ensures))
 
 returns-2 : tie.Need-returns-2

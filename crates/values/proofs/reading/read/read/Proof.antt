@@ -55,7 +55,7 @@ returns-3 : tie.Need-returns-3
 returns-3 c =
     let at-fit = c .before .before .before in
     let a = at-fit .before .before .before .args in
-    unfit-read (a .types .now) (a .members .now) (a .ty) (a .count) (a .image .now) (a .out .now) _
+    unfit-read (a .types .now) (a .members .now) (a .ty) (a .count) (a .image .now) (a .out .now)
     (rw (c .before .why .given .1) at (at-fit .image-fit .ensures))
 
 pub read-spec : {M : Type 1} → statement M

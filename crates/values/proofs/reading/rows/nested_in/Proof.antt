@@ -9,7 +9,7 @@ use Rattle.values.proofs.reading.rows.nested_in.Tie as tie
 returns : tie.Need-returns
 returns c =
     let read = c .before .before .before .before in
-    absurd (never-atomic _ (read .before .pre .1) _
+    absurd (never-atomic _ (read .before .pre .1)
     (ap (λ (m : Member). m .ty) (sym (read .member-row .ensures)) ∙ c .enum-told .given .1))
 
 returns-2 : tie.Need-returns-2

@@ -56,7 +56,7 @@ returns-3 : tie.Need-returns-3
 returns-3 c =
     let at-fit = c .before .before .before in
     let a = at-fit .before .before .before .args in
-    unfit-write (a .types .now) (a .members .now) (a .ty) (a .count) (a .s .now) (a .image .now) _
+    unfit-write (a .types .now) (a .members .now) (a .ty) (a .count) (a .s .now) (a .image .now)
     (rw (c .before .why .given .1) at (at-fit .image-fit .ensures))
 
 pub write-spec : {M : Type 1} → statement M

@@ -84,12 +84,6 @@ module _ (t : ℕ) where
   member-row-requires : so lts.Need-member-row-requires
   member-row-requires c κs = c .before .pre .1 .1 .0 .row-of .inside
 
-  wide-requires : so lts.Need-wide-requires
-  wide-requires c κs = search needs
-
-  wide-requires-2 : so lts.Need-wide-requires-2
-  wide-requires-2 c κs = search needs
-
   add-clear : so lts.Need-add-clear
   add-clear c =
       let w = held (c .before) in
@@ -119,9 +113,6 @@ module _ (t : ℕ) where
       let at-clear = at-ty .before .before .before .before in
       atomics-end (held (read-of at-clear)) (at-ty .ty .given .1) (at-size .size-of .ensures) (c .times-of .ensures)
 
-  enum-known-ty : so lts.Need-enum-known-ty
-  enum-known-ty c = search needs
-
   add-normal-atomics : so lts.Need-add-normal-atomics
   add-normal-atomics c =
       let at-clear = c .before .before .before .before .before .before in
@@ -133,20 +124,11 @@ module _ (t : ℕ) where
       let at-clear = at-ty .before .before .before .before in
       atomics-here (held (read-of at-clear)) (at-ty .ty .given .1) (at-clear .clear .ensures)
 
-  size-of-requires : so lts.Need-size-of-requires
-  size-of-requires c κs = search needs
-
-  times-of-requires : so lts.Need-times-of-requires
-  times-of-requires c κs = search needs
-
   mul-result : so lts.Need-mul-result
   mul-result c = omega (arith, atomics-fit c, start-of (atomics-clear c) .good)
 
   add-result : so lts.Need-add-result
   add-result c = omega (arith, atomics-fit c, start-of (atomics-clear c) .good)
-
-  same-length : so lts.Need-same-length
-  same-length c = search needs
 
   returns : so lts.Need-returns
   returns c =
@@ -158,9 +140,6 @@ module _ (t : ℕ) where
       (at-clear .clear .ensures) (at-atomics .normal-atomics .ensures)
 
   -- ---- a structure
-
-  enum-known-ty-2 : so lts.Need-enum-known-ty-2
-  enum-known-ty-2 c = search needs
 
   struct-size-requires : so lts.Need-struct-size-requires
   struct-size-requires c κs =
@@ -193,9 +172,6 @@ module _ (t : ℕ) where
       let fits = one-end (held (read-of at-clear)) (at-ty .ty2 .given .1) (then1 .if1 .taken)
       (at-size .struct-size .ensures) in
       omega (arith, fits, start-of at-clear .good)
-
-  same-length-2 : so lts.Need-same-length-2
-  same-length-2 c = search needs
 
   returns-2 : so lts.Need-returns-2
   returns-2 c =
@@ -247,9 +223,6 @@ module _ (t : ℕ) where
   add-result-3 : so lts.Need-add-result-3
   add-result-3 c = omega (arith, all-fit c, start-of (all-clear c) .good)
 
-  same-length-3 : so lts.Need-same-length-3
-  same-length-3 c = search needs
-
   returns-3 : so lts.Need-returns-3
   returns-3 c =
       let at-elements = c .before .before in
@@ -263,8 +236,32 @@ module _ (t : ℕ) where
   -- it meets its contract where those that it calls meet theirs below its measure
   pub closed : {M : Type 1} → lts.Closed (claims t) (measures.member-row t) reads.Post M
   closed =
-      lts.spec (claims t) (measures.member-row t) reads.Post member-row-requires wide-requires wide-requires-2 add-clear
-      sub-clear clear-requires enum-known-ty add-normal-atomics normal-atomics-requires size-of-requires
-      times-of-requires mul-result add-result same-length returns enum-known-ty-2 struct-size-requires
-      add-normal-struct normal-struct-requires add-result-2 same-length-2 returns-2 add-normal-elements
-      normal-elements-requires mul-result-2 add-result-3 same-length-3 returns-3
+      lts.spec (claims t) (measures.member-row t) reads.Post
+      member-row-requires
+      (λ c κs. search needs)
+      (λ c κs. search needs)
+      add-clear
+      sub-clear
+      clear-requires
+      (λ c. search needs)
+      add-normal-atomics
+      normal-atomics-requires
+      (λ c κs. search needs)
+      (λ c κs. search needs)
+      mul-result
+      add-result
+      (λ c. search needs)
+      returns
+      (λ c. search needs)
+      struct-size-requires
+      add-normal-struct
+      normal-struct-requires
+      add-result-2
+      (λ c. search needs)
+      returns-2
+      add-normal-elements
+      normal-elements-requires
+      mul-result-2
+      add-result-3
+      (λ c. search needs)
+      returns-3

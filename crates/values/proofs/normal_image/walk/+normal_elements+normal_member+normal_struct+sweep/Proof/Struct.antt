@@ -52,15 +52,6 @@ module _ (t : ℕ) where
   type-row-requires : so lts.Need-type-row-requires
   type-row-requires c κs = c .before .pre .1 .1 .low
 
-  wide-requires : so lts.Need-wide-requires
-  wide-requires c κs = search needs
-
-  wide-requires-2 : so lts.Need-wide-requires-2
-  wide-requires-2 c κs = search needs
-
-  is-string-requires : so lts.Need-is-string-requires
-  is-string-requires c κs = search needs
-
   capacity-at-requires : so lts.Need-capacity-at-requires
   capacity-at-requires c κs =
       let at-string = c .before in
@@ -81,9 +72,6 @@ module _ (t : ℕ) where
       string-fits (p .0) (p .1) (at-type .type-row .ensures) (at-first .wide .ensures) (at-string .is-string .ensures)
       (then1 .if1 .taken) (at-capacity .capacity-at .ensures)
 
-  same-length : so lts.Need-same-length
-  same-length c = search needs
-
   returns : so lts.Need-returns
   returns c =
       let at-text = c .before .before in
@@ -95,9 +83,6 @@ module _ (t : ℕ) where
       let p = at-type .before .before .pre .1 in
       string-made (p .0) (p .1) (at-type .type-row .ensures) (at-first .wide .ensures) (at-string .is-string .ensures)
       (then1 .if1 .taken) (at-capacity .capacity-at .ensures) (at-text .normal-text .ensures)
-
-  slice-aggregate-keep-flags : so lts.Need-slice-aggregate-keep-flags
-  slice-aggregate-keep-flags c = search needs
 
   keep-flags-requires : so lts.Need-keep-flags-requires
   keep-flags-requires c κs =
@@ -113,9 +98,6 @@ module _ (t : ℕ) where
   sweep-requires c κs =
       let p = c .before .before .before .before .before .before .before .before .before .before .before .pre in
       (omega (arith, p .0), p .1)
-
-  slice-aggregate-put-flags : so lts.Need-slice-aggregate-put-flags
-  slice-aggregate-put-flags c = search needs
 
   put-flags-requires : so lts.Need-put-flags-requires
   put-flags-requires c κs =
@@ -133,9 +115,6 @@ module _ (t : ℕ) where
           at-keep .keep-flags .kept .1 .1 .1 .1 .1 .0,
         ),
       )
-
-  same-length-2 : so lts.Need-same-length-2
-  same-length-2 c = search needs
 
   returns-2 : so lts.Need-returns-2
   returns-2 c =
@@ -155,6 +134,19 @@ module _ (t : ℕ) where
   -- it meets its contract where those that it calls meet theirs below its measure
   pub closed : {M : Type 1} → lts.Closed (claims t) (measures.struct-at t) reads.Post M
   closed =
-      lts.spec (claims t) (measures.struct-at t) reads.Post type-row-requires wide-requires wide-requires-2
-      is-string-requires capacity-at-requires normal-text-requires same-length returns slice-aggregate-keep-flags
-      keep-flags-requires sweep-requires slice-aggregate-put-flags put-flags-requires same-length-2 returns-2
+      lts.spec (claims t) (measures.struct-at t) reads.Post
+      type-row-requires
+      (λ c κs. search needs)
+      (λ c κs. search needs)
+      (λ c κs. search needs)
+      capacity-at-requires
+      normal-text-requires
+      (λ c. search needs)
+      returns
+      (λ c. search needs)
+      keep-flags-requires
+      sweep-requires
+      (λ c. search needs)
+      put-flags-requires
+      (λ c. search needs)
+      returns-2

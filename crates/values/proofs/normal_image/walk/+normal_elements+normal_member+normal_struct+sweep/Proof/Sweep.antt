@@ -51,12 +51,6 @@ module _ (t : ℕ) where
   type-row-requires : so lts.Need-type-row-requires
   type-row-requires c κs = c .before .pre .1 .1 .low
 
-  wide-requires : so lts.Need-wide-requires
-  wide-requires c κs = search needs
-
-  wide-requires-2 : so lts.Need-wide-requires-2
-  wide-requires-2 c κs = search needs
-
   loop-holds : so lts.Need-loop-holds
   loop-holds c =
       let at-type = c .before .before in
@@ -118,9 +112,6 @@ module _ (t : ℕ) where
       let start = past .before .before .before .before .before .before in
       omega (arith, sweep-low v (past .loop-test .left), v .here .inside, start .good)
 
-  wide-requires-3 : so lts.Need-wide-requires-3
-  wide-requires-3 c κs = search needs
-
   -- the bytes that are left
   size-is : (c : so lts.After-wide3)
       → let a = c .before .before .before .before .before .before .before .before .args in
@@ -156,6 +147,21 @@ module _ (t : ℕ) where
   -- it meets its contract where those that it calls meet theirs below its measure
   pub closed : {M : Type 1} → lts.Closed (claims t) (measures.sweep-at t) reads.Post M
   closed =
-      lts.spec (claims t) (measures.sweep-at t) reads.Post Inv μ type-row-requires wide-requires wide-requires-2
-      loop-holds add-is-plain is-plain-requires add-normal-member normal-member-requires add-k loop-less loop-again
-      add-clear wide-requires-3 sub-clear clear-requires same-length returns
+      lts.spec (claims t) (measures.sweep-at t) reads.Post Inv μ
+      type-row-requires
+      (λ c κs. search needs)
+      (λ c κs. search needs)
+      loop-holds
+      add-is-plain
+      is-plain-requires
+      add-normal-member
+      normal-member-requires
+      add-k
+      loop-less
+      loop-again
+      add-clear
+      (λ c κs. search needs)
+      sub-clear
+      clear-requires
+      same-length
+      returns

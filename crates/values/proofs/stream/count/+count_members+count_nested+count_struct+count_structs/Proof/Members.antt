@@ -54,12 +54,6 @@ module _ (t : ℕ) where
   type-row-requires : so lts.Need-type-row-requires
   type-row-requires c κs = c .pre .1 .1 .0
 
-  wide-requires : so lts.Need-wide-requires
-  wide-requires c κs = search needs
-
-  wide-requires-2 : so lts.Need-wide-requires-2
-  wide-requires-2 c κs = search needs
-
   add-sum : so lts.Need-add-sum
   add-sum c = omega (arith, c .before .before .before .pre .1)
 
@@ -173,7 +167,25 @@ module _ (t : ℕ) where
   -- it meets its contract where those that it calls meet theirs below its measure
   pub closed : {M : Type 1} → lts.Closed (claims t) (measures.members-at t) reads.Post M
   closed =
-      lts.spec (claims t) (measures.members-at t) reads.Post Inv μ type-row-requires wide-requires wide-requires-2
-      add-sum loop-holds returns add-row is-nested-requires add-if3 count-nested-requires returns-2
-      count-nested-requires-2 add-j loop-less loop-again leaf-entries-requires add-sum-2 add-j-2 loop-less-2
-      loop-again-2 returns-3
+      lts.spec (claims t) (measures.members-at t) reads.Post Inv μ
+      type-row-requires
+      (λ c κs. search needs)
+      (λ c κs. search needs)
+      add-sum
+      loop-holds
+      returns
+      add-row
+      is-nested-requires
+      add-if3
+      count-nested-requires
+      returns-2
+      count-nested-requires-2
+      add-j
+      loop-less
+      loop-again
+      leaf-entries-requires
+      add-sum-2
+      add-j-2
+      loop-less-2
+      loop-again-2
+      returns-3

@@ -45,9 +45,6 @@ module _ (t : ℕ) where
   type-row-requires : so lts.Need-type-row-requires
   type-row-requires c κs = c .pre .1 .1 .0
 
-  is-string-requires : so lts.Need-is-string-requires
-  is-string-requires c κs = search needs
-
   add-result : so lts.Need-add-result
   add-result c = omega (arith, c .before .before .before .pre .1)
 
@@ -70,5 +67,10 @@ module _ (t : ℕ) where
   -- it meets its contract where those that it calls meet theirs below its measure
   pub closed : {M : Type 1} → lts.Closed (claims t) (measures.struct-at t) reads.Post M
   closed =
-      lts.spec (claims t) (measures.struct-at t) reads.Post type-row-requires is-string-requires add-result returns
-      count-members-requires returns-2
+      lts.spec (claims t) (measures.struct-at t) reads.Post
+      type-row-requires
+      (λ c κs. search needs)
+      add-result
+      returns
+      count-members-requires
+      returns-2

@@ -63,12 +63,6 @@ module _ (t : ℕ) where
   add-end : so lts.Need-add-end
   add-end c = omega (arith, inside c, start (c .before .before) .good)
 
-  sub-text-struct : so lts.Need-sub-text-struct
-  sub-text-struct c = search needs
-
-  part-text-struct-start : so lts.Need-part-text-struct-start
-  part-text-struct-start c = search needs
-
   part-text-struct-end : so lts.Need-part-text-struct-end
   part-text-struct-end c = inside c
 
@@ -85,12 +79,6 @@ module _ (t : ℕ) where
   add-t c =
       let else1 = c .before .before in
       omega (arith, c .text-struct .ensures .small, else1 .if1 .left, start (else1 .before .before) .pre .1 .1 .1)
-
-  add-k : so lts.Need-add-k
-  add-k c = search needs
-
-  loop-less : so lts.Need-loop-less
-  loop-less c = search needs
 
   loop-again : so lts.Need-loop-again
   loop-again c =
@@ -109,6 +97,18 @@ module _ (t : ℕ) where
   -- it meets its contract where those that it calls meet theirs below its measure
   pub closed : {M : Type 1} → lts.Closed (claims t) (measures.elements-at t) reads.Post M
   closed =
-      lts.spec (claims t) (measures.elements-at t) reads.Post Inv μ struct-size-requires loop-holds returns mul-start
-      add-end sub-text-struct part-text-struct-start part-text-struct-end text-struct-requires add-t add-k loop-less
-      loop-again returns-2
+      lts.spec (claims t) (measures.elements-at t) reads.Post Inv μ
+      struct-size-requires
+      loop-holds
+      returns
+      mul-start
+      add-end
+      (λ c. search needs)
+      (λ c. search needs)
+      part-text-struct-end
+      text-struct-requires
+      add-t
+      (λ c. search needs)
+      (λ c. search needs)
+      loop-again
+      returns-2

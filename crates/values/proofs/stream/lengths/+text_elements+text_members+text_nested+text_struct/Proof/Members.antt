@@ -53,12 +53,6 @@ module _ (t : ℕ) where
   type-row-requires : so lts.Need-type-row-requires
   type-row-requires c κs = c .before .pre .1 .1 .0 .low
 
-  wide-requires : so lts.Need-wide-requires
-  wide-requires c κs = search needs
-
-  wide-requires-2 : so lts.Need-wide-requires-2
-  wide-requires-2 c κs = search needs
-
   loop-holds : so lts.Need-loop-holds
   loop-holds c = rows-start
 
@@ -103,24 +97,12 @@ module _ (t : ℕ) where
       let else1 = c .before .before .before in
       omega (arith, c .text-nested .ensures 0 .small, else1 .if1 .left, start (else1 .before .before) .pre .1 .1 .1)
 
-  add-j : so lts.Need-add-j
-  add-j c = search needs
-
-  loop-less : so lts.Need-loop-less
-  loop-less c = search needs
-
   loop-again : so lts.Need-loop-again
   loop-again c =
       let else1 = c .before .before .before in
       let at-loop = else1 .before .before in
       rows-on (at-loop .loop .inv) (count at-loop) (first at-loop) (else1 .before .loop-test .taken)
       (else1 .if1 .left) (c .text-nested .ensures (at-loop .loop .j))
-
-  add-j-2 : so lts.Need-add-j-2
-  add-j-2 c = search needs
-
-  loop-less-2 : so lts.Need-loop-less-2
-  loop-less-2 c = search needs
 
   loop-again-2 : so lts.Need-loop-again-2
   loop-again-2 c =
@@ -135,6 +117,20 @@ module _ (t : ℕ) where
   -- it meets its contract where those that it calls meet theirs below its measure
   pub closed : {M : Type 1} → lts.Closed (claims t) (measures.members-at t) reads.Post M
   closed =
-      lts.spec (claims t) (measures.members-at t) reads.Post Inv μ type-row-requires wide-requires wide-requires-2
-      loop-holds returns add-row is-nested-requires text-nested-requires add-t add-j loop-less loop-again add-j-2
-      loop-less-2 loop-again-2 returns-2
+      lts.spec (claims t) (measures.members-at t) reads.Post Inv μ
+      type-row-requires
+      (λ c κs. search needs)
+      (λ c κs. search needs)
+      loop-holds
+      returns
+      add-row
+      is-nested-requires
+      text-nested-requires
+      add-t
+      (λ c. search needs)
+      (λ c. search needs)
+      loop-again
+      (λ c. search needs)
+      (λ c. search needs)
+      loop-again-2
+      returns-2

@@ -68,12 +68,6 @@ module _ (t : ℕ) where
   add-end : so lts.Need-add-end
   add-end c = let sized = c .before .before in omega (arith, one-fits (held sized) (c .if1 .taken), start sized .good)
 
-  sub-text-struct : so lts.Need-sub-text-struct
-  sub-text-struct c = search needs
-
-  part-text-struct-start : so lts.Need-part-text-struct-start
-  part-text-struct-start c = search needs
-
   part-text-struct-end : so lts.Need-part-text-struct-end
   part-text-struct-end c = one-fits (held (c .before .before)) (c .if1 .taken)
 
@@ -105,12 +99,6 @@ module _ (t : ℕ) where
       let sized = c .before .before .before in
       omega (arith, some-fits (held sized) (c .before .if1 .left), start sized .good)
 
-  sub-text-elements : so lts.Need-sub-text-elements
-  sub-text-elements c = search needs
-
-  part-text-elements-start : so lts.Need-part-text-elements-start
-  part-text-elements-start c = search needs
-
   part-text-elements-end : so lts.Need-part-text-elements-end
   part-text-elements-end c = some-fits (held (c .before .before .before)) (c .before .if1 .left)
 
@@ -134,6 +122,19 @@ module _ (t : ℕ) where
   -- it meets its contract where those that it calls meet theirs below its measure
   pub closed : {M : Type 1} → lts.Closed (claims t) (measures.nested-at t) reads.Post M
   closed =
-      lts.spec (claims t) (measures.nested-at t) reads.Post nested-in-requires struct-size-requires add-end
-      sub-text-struct part-text-struct-start part-text-struct-end text-struct-requires returns mul-end add-end-2
-      sub-text-elements part-text-elements-start part-text-elements-end text-elements-requires returns-2
+      lts.spec (claims t) (measures.nested-at t) reads.Post
+      nested-in-requires
+      struct-size-requires
+      add-end
+      (λ c. search needs)
+      (λ c. search needs)
+      part-text-struct-end
+      text-struct-requires
+      returns
+      mul-end
+      add-end-2
+      (λ c. search needs)
+      (λ c. search needs)
+      part-text-elements-end
+      text-elements-requires
+      returns-2

@@ -50,12 +50,6 @@ module _ (t : ℕ) where
   type-row-requires : so lts.Need-type-row-requires
   type-row-requires c κs = c .before .pre .1 .1 .0 .low
 
-  is-string-requires : so lts.Need-is-string-requires
-  is-string-requires c κs = search needs
-
-  wide-requires : so lts.Need-wide-requires
-  wide-requires c κs = search needs
-
   -- what the test says of the table's row
   kind : (c : so lts.After-is-string) → let a = start c .args in
       isStringKind (typeAt (a .types .now) (a .i) .kind) ≡ c .is-string .result
@@ -101,5 +95,12 @@ module _ (t : ℕ) where
   -- it meets its contract where those that it calls meet theirs below its measure
   pub closed : {M : Type 1} → lts.Closed (claims t) (measures.struct-at t) reads.Post M
   closed =
-      lts.spec (claims t) (measures.struct-at t) reads.Post type-row-requires is-string-requires wide-requires
-      capacity-at-requires text-length-requires returns text-members-requires returns-2
+      lts.spec (claims t) (measures.struct-at t) reads.Post
+      type-row-requires
+      (λ c κs. search needs)
+      (λ c κs. search needs)
+      capacity-at-requires
+      text-length-requires
+      returns
+      text-members-requires
+      returns-2

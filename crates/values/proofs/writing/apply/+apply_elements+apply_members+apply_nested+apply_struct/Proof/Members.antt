@@ -86,9 +86,6 @@ module _ (t : ℕ) where
   type-row-requires : so lts.Need-type-row-requires
   type-row-requires c κs = asked (c .before .before .before .before) .here .low
 
-  wide-requires : so lts.Need-wide-requires
-  wide-requires c κs = search needs
-
   add-p : so lts.Need-add-p
   add-p c =
       let w = asked (c .before .before .before .before .before .before) in
@@ -122,9 +119,6 @@ module _ (t : ℕ) where
   payload-of-requires c κs =
       let v = c .before .before .loop .inv in
       (v .asked .form, member-there v .inside)
-
-  as-size-requires : so lts.Need-as-size-requires
-  as-size-requires c κs = search needs
 
   -- the entry names a visible member
   named-is : (c : so lts.After-as-size)
@@ -219,7 +213,27 @@ module _ (t : ℕ) where
   -- it meets its contract where those that it calls meet theirs below its measure
   pub closed : {M : Type 1} → lts.Closed (claims t) (measures.members-at t) reads.Post M
   closed =
-      lts.spec (claims t) (measures.members-at t) reads.Post Inv μ kind-of-requires add-result returns type-row-requires
-      wide-requires add-p loop-holds kind-of-requires-2 add-result-2 same-length returns-2 payload-of-requires
-      as-size-requires add-row is-nested-requires add-apply-nested apply-nested-requires loop-less loop-again
-      add-set-leaf set-leaf-requires loop-less-2 loop-again-2
+      lts.spec (claims t) (measures.members-at t) reads.Post Inv μ
+      kind-of-requires
+      add-result
+      returns
+      type-row-requires
+      (λ c κs. search needs)
+      add-p
+      loop-holds
+      kind-of-requires-2
+      add-result-2
+      same-length
+      returns-2
+      payload-of-requires
+      (λ c κs. search needs)
+      add-row
+      is-nested-requires
+      add-apply-nested
+      apply-nested-requires
+      loop-less
+      loop-again
+      add-set-leaf
+      set-leaf-requires
+      loop-less-2
+      loop-again-2

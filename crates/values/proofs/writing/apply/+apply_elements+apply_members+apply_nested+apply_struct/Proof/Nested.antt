@@ -69,9 +69,6 @@ module _ (t : ℕ) where
         ),
       )
 
-  same-length : so lts.Need-same-length
-  same-length c = search needs
-
   returns : so lts.Need-returns
   returns c =
       let at-struct = c .before .before in
@@ -96,9 +93,6 @@ module _ (t : ℕ) where
         ),
       )
 
-  same-length-2 : so lts.Need-same-length-2
-  same-length-2 c = search needs
-
   returns-2 : so lts.Need-returns-2
   returns-2 c =
       let at-elements = c .before .before in
@@ -111,5 +105,12 @@ module _ (t : ℕ) where
   -- it meets its contract where those that it calls meet theirs below its measure
   pub closed : {M : Type 1} → lts.Closed (claims t) (measures.nested-at t) reads.Post M
   closed =
-      lts.spec (claims t) (measures.nested-at t) reads.Post nested-in-requires add-start apply-struct-requires
-      same-length returns apply-elements-requires same-length-2 returns-2
+      lts.spec (claims t) (measures.nested-at t) reads.Post
+      nested-in-requires
+      add-start
+      apply-struct-requires
+      (λ c. search needs)
+      returns
+      apply-elements-requires
+      (λ c. search needs)
+      returns-2

@@ -53,12 +53,6 @@ module _ (t : ℕ) where
   type-row-requires : so lts.Need-type-row-requires
   type-row-requires c κs = c .before .before .pre .1 .0 .1 .0 .low
 
-  is-string-requires : so lts.Need-is-string-requires
-  is-string-requires c κs = search needs
-
-  wide-requires : so lts.Need-wide-requires
-  wide-requires c κs = search needs
-
   capacity-at-requires : so lts.Need-capacity-at-requires
   capacity-at-requires c κs =
       let then1 = c .before in
@@ -102,9 +96,6 @@ module _ (t : ℕ) where
         accepted-as (text-is at-capacity (flat (now (start .args .image)))) (start .pre .1 .1),
       )
 
-  same-length : so lts.Need-same-length
-  same-length c = search needs
-
   returns : so lts.Need-returns
   returns c =
       let at-text = c .before .before in
@@ -134,9 +125,6 @@ module _ (t : ℕ) where
       let p = start .pre in
       (omega (arith, p .0), (p .1 .0, accepted-as (members-are else1 (flat (now (start .args .image)))) (p .1 .1)))
 
-  same-length-2 : so lts.Need-same-length-2
-  same-length-2 c = search needs
-
   returns-2 : so lts.Need-returns-2
   returns-2 c =
       let at-members = c .before .before in
@@ -147,5 +135,14 @@ module _ (t : ℕ) where
   -- it meets its contract where those that it calls meet theirs below its measure
   pub closed : {M : Type 1} → lts.Closed (claims t) (measures.struct-at t) reads.Post M
   closed =
-      lts.spec (claims t) (measures.struct-at t) reads.Post type-row-requires is-string-requires wide-requires
-      capacity-at-requires set-text-requires same-length returns apply-members-requires same-length-2 returns-2
+      lts.spec (claims t) (measures.struct-at t) reads.Post
+      type-row-requires
+      (λ c κs. search needs)
+      (λ c κs. search needs)
+      capacity-at-requires
+      set-text-requires
+      (λ c. search needs)
+      returns
+      apply-members-requires
+      (λ c. search needs)
+      returns-2

@@ -97,12 +97,6 @@ module _ (t : ℕ) where
   type-row-requires : so lts.Need-type-row-requires
   type-row-requires c κs = c .before .before .before .before .pre .1 .0 .1
 
-  wide-requires : so lts.Need-wide-requires
-  wide-requires c κs = search needs
-
-  wide-requires-2 : so lts.Need-wide-requires-2
-  wide-requires-2 c κs = search needs
-
   add-p : so lts.Need-add-p
   add-p c =
       let p = c .before .before .before .before .before .before .before .pre .1 .1 in
@@ -152,9 +146,6 @@ module _ (t : ℕ) where
       let in-loop = c .before .before .before in
       let told = in-loop .before .loop .inv .told in
       (told .form, omega (arith, told .count, in-loop .loop-test .taken))
-
-  as-size-requires : so lts.Need-as-size-requires
-  as-size-requires c κs = search needs
 
   visible-row-requires : so lts.Need-visible-row-requires
   visible-row-requires c κs = rows-inside (c .before .before .before .before .before .before .loop .inv)
@@ -278,8 +269,37 @@ module _ (t : ℕ) where
   -- it meets its contract where those that it calls meet theirs below its measure
   pub closed : {M : Type 1} → lts.Closed (claims t) (measure.members-at t) reads.Post M
   closed =
-      lts.spec (claims t) (measure.members-at t) reads.Post Inv μ kind-at-requires add-result returns refused-requires
-      returns-2 type-row-requires wide-requires wide-requires-2 add-p loop-holds kind-of-requires add-result-2 returns-3
-      refused-requires-2 returns-4 payload-of-requires as-size-requires visible-row-requires refused-requires-3
-      returns-5 is-nested-requires add-check-nested check-nested-requires returns-6 loop-less loop-again add-check-leaf
-      check-leaf-requires returns-7 loop-less-2 loop-again-2 refused-requires-4 returns-8
+      lts.spec (claims t) (measure.members-at t) reads.Post Inv μ
+      kind-at-requires
+      add-result
+      returns
+      refused-requires
+      returns-2
+      type-row-requires
+      (λ c κs. search needs)
+      (λ c κs. search needs)
+      add-p
+      loop-holds
+      kind-of-requires
+      add-result-2
+      returns-3
+      refused-requires-2
+      returns-4
+      payload-of-requires
+      (λ c κs. search needs)
+      visible-row-requires
+      refused-requires-3
+      returns-5
+      is-nested-requires
+      add-check-nested
+      check-nested-requires
+      returns-6
+      loop-less
+      loop-again
+      add-check-leaf
+      check-leaf-requires
+      returns-7
+      loop-less-2
+      loop-again-2
+      refused-requires-4
+      returns-8

@@ -43,12 +43,6 @@ module _ (t : ℕ) where
   type-row-requires : so lts.Need-type-row-requires
   type-row-requires c κs = c .before .pre .1 .0 .1
 
-  is-string-requires : so lts.Need-is-string-requires
-  is-string-requires c κs = search needs
-
-  wide-requires : so lts.Need-wide-requires
-  wide-requires c κs = search needs
-
   capacity-at-requires : so lts.Need-capacity-at-requires
   capacity-at-requires c κs =
       let then1 = c .before in
@@ -89,5 +83,12 @@ module _ (t : ℕ) where
   -- it meets its contract where those that it calls meet theirs below its measure
   pub closed : {M : Type 1} → lts.Closed (claims t) (measure.struct-at t) reads.Post M
   closed =
-      lts.spec (claims t) (measure.struct-at t) reads.Post type-row-requires is-string-requires wide-requires
-      capacity-at-requires check-text-requires returns check-members-requires returns-2
+      lts.spec (claims t) (measure.struct-at t) reads.Post
+      type-row-requires
+      (λ c κs. search needs)
+      (λ c κs. search needs)
+      capacity-at-requires
+      check-text-requires
+      returns
+      check-members-requires
+      returns-2
