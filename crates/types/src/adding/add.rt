@@ -77,18 +77,10 @@ fn add_members(
 {
     let c = check_members(book, new.at, new.count, new.aoi);
     match c {
-        Checked::Good => {
-            return add_laid(book, tys, new, name, types, members, names);
-        }
-        Checked::NameWrong => {
-            return Progress::Refused(Refusal::NameOutsideRule(new.number));
-        }
-        Checked::Twice => {
-            return Progress::Refused(Refusal::MemberTwice(new.number));
-        }
-        Checked::LocalOutside => {
-            return Progress::Refused(Refusal::LocalOutsideAoi(new.number));
-        }
+        Checked::Good => add_laid(book, tys, new, name, types, members, names),
+        Checked::NameWrong => Progress::Refused(Refusal::NameOutsideRule(new.number)),
+        Checked::Twice => Progress::Refused(Refusal::MemberTwice(new.number)),
+        Checked::LocalOutside => Progress::Refused(Refusal::LocalOutsideAoi(new.number)),
     }
 }
 

@@ -17,6 +17,7 @@ use types::TypeTable;
 use types::is_there;
 use types::size_of;
 
+// The bytes of a type; those of an atomic without its table, for pace.
 fn size_of_ty(types: &TypeTable, ty: Ty) -> usize
     requires { ⌜ TyFits ty ⌝ }
     ensures { λ r. ⌜ r ≡ sizeIn (sizesIn (now (types .entry))) ty ⌝ }
