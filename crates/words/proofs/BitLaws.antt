@@ -85,7 +85,7 @@ pub bit-digit : (x k : ℕ) → x / 2 ^ k % 2 ≡ digit (bitOf x k)
 unfolding bitOf
 bit-digit x k = sym (digit-odd (x / 2 ^ k))
 
--- the only bit of a digit
+-- the lowest bit of a digit is the test that it stands for
 pub digit-bit : (t : Bool) → bitOf (digit t) 0 ≡ t
 unfolding bitOf
 digit-bit true = refl
@@ -131,7 +131,7 @@ val-split (suc m) n b =
 
 -- ---- a list of bytes as bits
 
--- bit k of the byte at a place
+-- bit 8 at + k of some bytes is bit k of the byte at that place
 pub flat-at : (s : List ℕ) (at k : ℕ) → k < 8 → flat s (8 * at + k) ≡ bitOf (getD s at 0) k
 unfolding flat
 flat-at s at k h =
@@ -174,16 +174,16 @@ part-val n s at b =
     word-val n s at b
     ∙ val-ext (8 * n) (from (8 * at) (flat s)) (flat (part s at n)) (λ k l. sym (flat-part s at n k l))
 
--- bit k of a list of one byte
+-- bit k of a list of one byte is bit k of that byte
 pub one-byte : (x k : ℕ) → k < 8 → flat (x ∷ []) k ≡ bitOf x k
 one-byte x k h = ap (flat (x ∷ [])) (sym (zero-add k)) ∙ flat-at (x ∷ []) 0 k h
 
--- the bits of two lists, one after the other: those of the first
+-- of two lists, one after the other, the first bits are those of the first list
 pub append-first : (a b : List ℕ) (k : ℕ) → k < 8 * length a → flat (a ++ b) k ≡ flat a k
 unfolding flat
 append-first a b k l = ap (λ (x : ℕ). bitOf x (k % 8)) (List·getD-append a b 0 (k / 8) (omega arith))
 
--- and those of the second
+-- and the bits after them are those of the second
 pub append-second : (a b : List ℕ) (k : ℕ) → flat (a ++ b) (8 * length a + k) ≡ flat b k
 unfolding flat
 append-second a b k =

@@ -84,7 +84,7 @@ module _ {A : Type 0} where
       part-beside (set l i v) (suc i) vs at n (⊎-elim (λ a. inl (omega arith)) (λ b. inr (omega arith)) h)
       ∙ part-set l i v at n (⊎-elim (λ a. inl (omega arith)) (λ b. inr (omega arith)) h)
 
-  -- the part that a run of stores fills
+  -- the part that a run of stores fills is what was stored
   pub part-run : (l : List A) (i : ℕ) (vs : List A) → i + length vs ≤ length l → part (sets l i vs) i (length vs) ≡ vs
   unfolding part
   part-run l i vs h =
@@ -193,11 +193,11 @@ module _ {A : Type 0} where
       sets-eq b (xs ++ (b ++ ys)) (length xs) (omega arith)
       ∙ rw (take-append-seam, drop-append-add, drop-append-seam) (append-assoc xs b ys)
 
-  -- from a place on, after a store there
+  -- from a place on, after a store there, comes what was stored and then what stood after it
   pub drop-set : (l : List A) (i : ℕ) (v : A) → i < length l → drop i (set l i v) ≡ v ∷ drop (suc i) l
   drop-set l i v h = rw (set-split l i v h) (drop-at (take i l) _ i (length-take-le i l (omega arith)))
 
-  -- fewer copies of one element
+  -- some of many copies of one element are so many copies
   pub take-replicate : (n m : ℕ) (a : A) → n ≤ m → take n (replicate m a) ≡ replicate n a
   take-replicate zero m a h = refl
   take-replicate (suc n) zero a h = absurd (omega arith)

@@ -36,7 +36,7 @@ stamp-none p b z = fun-ext (λ k. go k (lies p 0 k))
     go k (among l m e) = absurd (let y : ⊥ = omega arith in y)
     go k (beside f e) = rw e refl
 
--- two runs, one after the other
+-- two runs put one after the other are put as one
 pub stamp-two : (p m n : ℕ) (b z : Bits) → stamp (p + m) n (from m b) (stamp p m b z) ≡ stamp p (m + n) b z
 unfolding stamp
 stamp-two p m n b z = fun-ext (λ k. go k (lies (p + m) n k) (lies p m k) (lies p (m + n) k) (decLt k (p + m)))
@@ -122,7 +122,7 @@ flat-bytes (suc w) x k l = go (decLt k 8) (λ j h. flat-bytes w (x / 256) j h)
         ap (flat (x % 256 ∷ bytesOf w (x / 256))) e ∙ flat-after (x % 256) (bytesOf w (x / 256)) (k - 8)
         ∙ rest (k - 8) (omega arith) ∙ sym (high-bit 8 x (k - 8)) ∙ ap (bitOf x) (sym e)
 
--- a number stored in w bytes
+-- a number stored in w bytes puts its bits there
 pub flat-word : (image : List ℕ) (at w x : ℕ) → at + w ≤ length image
     → flat (sets image at (bytesOf w x)) ≡ stamp (8 * at) (8 * w) (bitOf x) (flat image)
 flat-word image at w x l =

@@ -47,7 +47,7 @@ either P false {x} {y} f g = g refl
 pub picked : {A : Type 0} (P : A → Type 0) (t : Bool) (x y : A) → P x → P y → P (cond t x y)
 picked P t x y p q = either P t (λ e. p) (λ e. q)
 
--- a test between a thing and itself
+-- a test between a thing and itself gives that thing
 pub cond-same : {A : Type 0} (b : Bool) (u : A) → cond b u u ≡ u
 cond-same true u = refl
 cond-same false u = refl

@@ -15,7 +15,7 @@ use Rattle.words.proofs.Lists.{sets-append, getD-sets, part-cons}
 power-pos : (n : ℕ) → 0 < 256 ^ n
 power-pos n = one-le-pow n 256 (omega arith)
 
--- the one law of the loads: m bytes, and n bytes after them
+-- the one law of the loads: a word of m + n bytes is its m low bytes and 256 ^ m times its n high ones
 pub word-split : (m n : ℕ) (s : List ℕ) (at : ℕ) → wordAt (m + n) s at ≡ wordAt m s at + 256 ^ m * wordAt n s (at + m)
 unfolding wordAt
 word-split zero n s at = simp (zero-add, add-zero) (omega arith)
@@ -115,14 +115,14 @@ bytes-back (suc n) s at b h =
     rw (e, f, drop-cons s at 0 (omega arith), ← g)
     (ap (λ (l : List ℕ). getD s at 0 ∷ l) (bytes-back n s (at + 1) b (omega arith)))
 
--- the two bytes of a word of 16 bits
+-- the low and the high byte of a word of 16 bits are its two bytes
 pub two-bytes : {x : ℕ} → x < 65536 → x % 256 ∷ x / 256 ∷ [] ≡ bytesOf 2 x
 unfolding bytesOf
 two-bytes {x} h =
     let e : x / 256 % 256 ≡ x / 256 = omega arith in
     rw e
 
--- the low two bytes of a number, stored over two zeros
+-- the low two bytes of a number, stored over two zeros, are its two bytes
 pub two-stored : (x : ℕ) → sets (replicate 2 0) 0 (bytesOf 2 (x % 65536)) ≡ bytesOf 2 x
 two-stored x = whole (x % 65536) ∙ bytes-low 2 x
   where
@@ -144,7 +144,7 @@ pub word-one : (s : List ℕ) (at : ℕ) → wordAt 1 s at ≡ getD s at 0
 unfolding wordAt
 word-one s at = add-zero (getD s at 0)
 
--- a word of four bytes, byte by byte
+-- a word of four bytes is the sum of its bytes, each counted 256 times as much as the one before
 pub word-four : (s : List ℕ) (at : ℕ) → wordAt 4 s at
     ≡ getD s at 0 + 256 * getD s (at + 1) 0 + 65536 * getD s (at + 2) 0 + 16777216 * getD s (at + 3) 0
 unfolding wordAt

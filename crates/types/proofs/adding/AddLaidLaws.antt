@@ -28,7 +28,7 @@ use Rattle.types.proofs.layout.LaidOutLaws.{laid-passes}
 
 -- ---- strings
 
--- two parts, with seven bytes of names
+-- a string has two parts, with seven bytes of names beside its own name
 pub string-counted : (name : List ℕ) (capacity n : ℕ) → PartsCounted name (stringParts capacity) n 2 (length name + 7)
 unfolding stringParts namesOf
 string-counted name capacity n =
@@ -128,7 +128,7 @@ module _ {types book tys type : List ℕ} {new : NewType} (s : StorableType type
         names = rw a at (s .names);
       }
 
--- as many hosts as the counted BOOLs ask for
+-- where the BOOLs are counted, the hosts are as many as they ask for
 pub hosts-counted : {n r h : ℕ} {ds : List Decl} → BoolsCounted n ds r → h ≡ (2 + r + 31) / 32 → h ≡ aoiHosts ds
 unfolding aoiHosts
 hosts-counted b e = e ∙ rw (b .is)

@@ -150,7 +150,7 @@ module _ (types members names : List ℕ) (u : Used) {name : List ℕ} {parts : 
       names-fit : u .bytes + length (name ++ namesOf parts) ≤ mostNames
       names-fit = omega (arith, p .long, stored-room .bytes)
 
-      -- its row can be read
+      -- once its parts are stored, the row of the type can be read
       pub stored-readable : Readable (sets members (8 * u .members) (rowsOf (u .bytes + length name) parts)) head
       stored-readable =
           rw same-head

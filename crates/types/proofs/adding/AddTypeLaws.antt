@@ -104,7 +104,7 @@ module _ (v : View) (book : List ℕ) (i at : ℕ) (e : TypeEntry) (name : List 
     unfolding addNamed addString
     named-string p = rw (sym es ∙ q, sym ek ∙ p)
 
-    -- an entry of a wrong string: refusal 7
+    -- an entry of a wrong string gets refusal 7
     pub named-wrong : k ≡ false → addNamed v book i at e name id ds ≡ no (7, i)
     unfolding addNamed addString
     named-wrong p = rw (sym es ∙ q, sym ek ∙ p)
@@ -124,7 +124,7 @@ module _ (v : View) (book : List ℕ) (i at : ℕ) (e : TypeEntry) (name : List 
   unfolding addFresh
   fresh-free {id} q = rw (← ep, q)
 
-  -- a given id outside 0x100..0xEFF: refusal 4
+  -- a given id outside 0x100..0xEFF gets refusal 4
   pub fresh-outside : p ≡ OutsideRange → addFresh v book i at e name ds ≡ no (4, i)
   unfolding addFresh
   fresh-outside q = rw (← ep, q)
@@ -143,7 +143,7 @@ module _ (v : View) (book : List ℕ) (i at : ℕ) (e : TypeEntry) (name : List 
 
 module _ (v : View) (book : List ℕ) (i at : ℕ) (e : TypeEntry) (name : List ℕ) (ds : List Decl) (g : Bool)
     (eg : g ≡ goodName name) where
-  -- a type name outside the rule: refusal 2
+  -- a type name outside the rule gets refusal 2
   pub entry-bad : g ≡ false → addEntry v book i at e name ds ≡ no (2, i)
   unfolding addEntry
   entry-bad q = rw (sym eg ∙ q)

@@ -257,7 +257,7 @@ module _ (book : List ℕ) (ds : List Def) (i : ℕ) where
   pub verdict-name : (d : Def) → verdictOn book (viewOf ds) i ≡ yes d → d .name ≡ nameIn book (typeEntry book i .name)
   verdict-name d e = verdict-made d e .name
 
-  -- no way out is refusal 10
+  -- no type is refused with 10 once its turn has come
   pub verdict-never : (p : ℕ) → verdictOn book (viewOf ds) i ≡ no (stuckAt p) → ⊥
   verdict-never p e =
       let z : stuckAt p .0 ≡ 10 → ⊥ = rw e at verdict-ends in
@@ -320,7 +320,7 @@ module _ (book : List ℕ) (ds : List Def) (i : ℕ) (d : Def) (e : verdictOn bo
   pub verdict-most : d .size ≤ mostSize + 224
   verdict-most = verdict-made book ds i d e .most
 
-  -- and proper, after the predefined types
+  -- a type that is added after the predefined types is proper
   pub verdict-proper : 4 ≤ length ds → Proper (length ds) d
   verdict-proper l =
       let m = verdict-made book ds i d e in

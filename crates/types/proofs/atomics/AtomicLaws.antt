@@ -24,7 +24,7 @@ use Rattle.types.specs.declared.atomics.atomic.AtomicRow.{AtomicRow}
 use Rattle.types.specs.declared.atomics.atomic.FoundAtomic.{FoundAtomic}
 use Rattle.types.specs.declared.atomics.atomic.FoundAtomic.the-variants.{Is, Nothing}
 
--- the atomic at its own place
+-- the atomic at the place of an atomic is that atomic
 pub at-num : (a : Atomic) → atomicAt (numOf a) ≡ a
 unfolding atomicAt
 at-num BOOL = refl
@@ -135,7 +135,7 @@ pub at-said : (i : ℕ) → codeOf (atomicAt i) ≡ codeAt i
 unfolding atomicAt codeAt codeOf
 at-said i = sym (List·getD-map codeOf atomics i BOOL)
 
--- and no other has it
+-- an atomic with the code at a place is the one at that place
 pub at-is : {a : Atomic} (i : ℕ) → codeOf a ≡ codeAt i → a ≡ atomicAt i
 at-is {a} i e = code-same a (atomicAt i) (e ∙ sym (at-said i))
 

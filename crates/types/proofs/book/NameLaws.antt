@@ -203,6 +203,6 @@ name-rule s q =
       bytes = and-right (a && b) (nameBytes s) q;
     }
 
--- and what has it is good
+-- a name of 1 to 40 bytes, each of them allowed, is good
 pub rule-good : (s : List ℕ) → NameRule s → goodName s ≡ true
 rule-good s r = sym (good-within s (r .least) (r .most)) ∙ r .bytes

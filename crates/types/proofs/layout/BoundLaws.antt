@@ -96,7 +96,7 @@ module _ (name : Decl → List ℕ) (type : List ℕ) (ds : List Decl) (n₀ : �
       let h = aoiHosts ds in
       simp (names-append, length-append) (omega (arith, names-count name (hostName type) c n (aoiStart h) n₀ ds l q))
 
--- either, by its kind
+-- a UDT or an AOI has as many parts as were counted
 pub type-count : (aoi : Bool) (name : Decl → List ℕ) (type : List ℕ) (ds : List Decl) (c : Cursor) (n : ℕ)
     → measuredOf aoi type ds ≡ Came c n → length (partsOf aoi name type ds) ≡ c .members
 unfolding measuredAoi

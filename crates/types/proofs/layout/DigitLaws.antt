@@ -188,7 +188,7 @@ module _ (i : ℕ) {d : Decimal} (s : TwoDigits i d) where
   pub bit-host-long : 9 + (20 - d .from) ≡ length (bitHostName i)
   bit-host-long = rw (← s .is) (simp length-append (omega (arith, decimal-long d (s .long))))
 
-  -- two writes are one name
+  -- nine bytes and then the digits, written, are the name of an AOI's host
   pub bit-host-put : (t : List ℕ) (at : ℕ)
       → sets (sets t at bitHost) (at + 9) (take (20 - d .from) (drop (d .from) (d .bytes)))
       ≡ sets t at (bitHostName i)

@@ -47,7 +47,7 @@ digits-bytes (suc n) x =
 
 -- ---- hosts
 
--- ten Z, the type's first 10 bytes and a count
+-- the name of a UDT's host is good where the type's is
 pub host-good : (name : List ℕ) (k : ℕ) → goodName name ≡ true → goodName (hostName name k) ≡ true
 unfolding hostName digits nameByte nameBytes
 host-good name k g =
@@ -60,7 +60,7 @@ host-good name k g =
       bytes = bytes-append tenZ (take 10 name ++ digits k) refl rest;
     })
 
--- `__BitHost` and two or more digits
+-- the name of an AOI's host is good
 pub bit-host-good : (i : ℕ) → goodName (bitHostName i) ≡ true
 unfolding bitHostName digits nameByte nameBytes
 bit-host-good i =

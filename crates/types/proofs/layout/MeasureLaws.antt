@@ -33,7 +33,7 @@ module _ (host : ℕ → List ℕ) (c : Cursor) (n : ℕ) (d : Decl) {p : Placed
   unfolding measureOne
   one-alone q = rw (← e, q)
 
-  -- the way out at a wrong access
+  -- a member with a wrong access is measured as that
   pub one-access : p ≡ AccessWrong → accessWrong ≡ measureOne host c n d
   unfolding measureOne
   one-access q = rw (← e, q)

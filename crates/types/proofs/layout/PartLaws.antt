@@ -133,13 +133,13 @@ module _ (book type : List ℕ) (good : goodName type ≡ true) where
         ),
       )
 
--- the parts of a UDT or an AOI are so ..
+-- the parts of a UDT or an AOI are formed so, where the names follow the rule
 pub type-formed : (aoi : Bool) (book type : List ℕ) → goodName type ≡ true → (ds : List Decl) → NamedDecls book ds
     → Every PartFormed (partsOf aoi (namedIn book) type ds)
 type-formed true book type good ds a = aoi-formed book type good ds a
 type-formed false book type good ds a = udt-formed book type good ds a
 
--- .. of a string ..
+-- the parts of a string are formed so
 pub string-formed : (c : ℕ) → Every PartFormed (stringParts c)
 unfolding stringParts Every isBool goodName nameBytes nameByte
 string-formed c = (
@@ -160,7 +160,7 @@ status-formed i (s ∷ bits) e = (
   status-formed (i + 1) bits (and-right (goodName s) _ e),
 )
 
--- .. and of TIMER, COUNTER and CONTROL
+-- the parts of TIMER, COUNTER and CONTROL are formed so, where their names are good
 pub control-formed : (one two : List ℕ) (bits : List (List ℕ)) → every goodName (one ∷ two ∷ bits) ≡ true
     → Every PartFormed (controlParts one two bits)
 unfolding controlParts Every every isBool goodName nameBytes nameByte

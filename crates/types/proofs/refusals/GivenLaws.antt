@@ -55,7 +55,7 @@ module _ {s out left : List ℕ} {n : ℕ} (l : Lined s out n left) where
   pub line-long : n ≡ length (take n left)
   line-long = rw line-part (l .long)
 
-  -- and it can be given
+  -- a line of a buffer below 2^32 bytes can be given
   pub line-short : length out < 2 ^ 32 → length (take n left) < 2 ^ 32
   line-short h = omega (arith, line-long, l .long, l .room)
 

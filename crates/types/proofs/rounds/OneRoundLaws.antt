@@ -166,7 +166,7 @@ module _ {book t₀ m₀ n₀ tys₀ f₀ k₀ r₀ t m n tys f k r : List ℕ} 
           word-below 2 book 2 (w .const .bytes),
         )
 
-    -- type i has a flag
+    -- the type whose turn it is has a flag
     pub within-flag : i < length f
     within-flag = omega (arith, within-now .flags, l)
 

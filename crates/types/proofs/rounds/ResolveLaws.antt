@@ -52,7 +52,7 @@ found-below known s = go (atomicNamed s)
     go (found a) = tt
     go none = rw zero-add at (among-below known s 0)
 
--- an atomic, or one of the known types
+-- a type that is found is an atomic or one of the known types
 pub found-earlier : (known : List (List ℕ)) (s : List ℕ) (ty : Ty) → typeAmong known s ≡ Is ty
     → Earlier (length known) ty
 found-earlier known s ty e = rw e at (found-below known s)
@@ -73,7 +73,7 @@ module _ {known : List (List ℕ)} {book : List ℕ} {at n : ℕ} {tys₀ tys : 
     names-cons : typeNames book at j (n - j) ≡ typeName book at j ∷ typeNames book at (j + 1) (n - (j + 1))
     names-cons = from-cons (typeName book at) n j l
 
-    -- one more was found
+    -- where the j-th member's type is found, its word is stored and those after it are left
     pub left-on : (ty : Ty) → typeAmong known (typeName book at j) ≡ Is ty
         → WordsLeft known book at n tys₀ (set tys j (tyWord ty)) (j + 1)
     unfolding foundWords
@@ -85,7 +85,7 @@ module _ {known : List (List ℕ)} {book : List ℕ} {at n : ℕ} {tys₀ tys : 
           long = length-set tys j (tyWord ty) ∙ w .long;
         }
 
-    -- one is not known
+    -- where the j-th member's type is not known, the types are resolved up to it
     pub left-stop : typeAmong known (typeName book at j) ≡ Nothing
         → Resolves known (typeNames book at 0 n) tys₀ tys j
     unfolding foundWords
@@ -95,7 +95,7 @@ module _ {known : List (List ℕ)} {book : List ℕ} {at n : ℕ} {tys₀ tys : 
           words = sym (w .words ∙ rw (names-cons, e));
         }
 
-  -- all were found
+  -- past the last member all types are resolved
   pub left-end : n ≤ j → Resolves known (typeNames book at 0 n) tys₀ tys j
   unfolding foundWords
   left-end l =

@@ -149,7 +149,7 @@ module _ {S R : Type 0} (stuck : ℕ → R) (ready : S → ℕ → Bool) (add : 
   rounds-none (suc k) s [] e = refl
   rounds-none (suc k) s (w ∷ ws) e = absurd (omega arith)
 
-  -- where some wait, one round and then the others
+  -- where some wait, the rounds are one round and then those after it
   pub rounds-some : (k : ℕ) (s : S) (ws : List ℕ) → 0 < length ws → length ws ≤ k
       → rounds stuck ready add k s ws
       ≡ onRound stuck (length ws) (round stuck ready add s ws) (λ s′ ws′. rounds stuck ready add (k - 1) s′ ws′)

@@ -84,7 +84,7 @@ module _ {book f₀ t m n f : List ℕ} {ds₀ : List Def} {u : Used} {left i at
   unfolding round
   round-on ds ws = refl
 
-  -- one that still waits
+  -- where the type still waits, the round goes on with the next one
   pub inner-wait : getD f i 0 ≡ 0 → readyIn book (w .ds) i ≡ false
       → Inner book ds₀ f₀ T t m n f u left (i + 1) (at + 16 * countOf book i)
   inner-wait o r =
@@ -100,12 +100,12 @@ module _ {book f₀ t m n f : List ℕ} {ds₀ : List Def} {u : Used} {left i at
         flags = w .flags;
       }
 
-  -- one that is refused
+  -- where the type is refused, so is the round
   pub inner-no : (x : Why) → getD f i 0 ≡ 0 → readyIn book (w .ds) i ≡ true → addIn book (w .ds) i ≡ no x
       → roundIn book ds₀ (waits f₀ 0 T) ≡ stop x
   inner-no x o r a = w .goes ∙ rw (waits-on f T i l o, round-on, r, a)
 
-  -- one that is added
+  -- where the type is added, the round goes on with it known, its flag set and one fewer left
   pub inner-yes : {t′ m′ n′ : List ℕ} {u′ : Used} (ds : List Def) → getD f i 0 ≡ 0 → readyIn book (w .ds) i ≡ true
       → addIn book (w .ds) i ≡ ok ds → TablesShow ds → Stands ds t′ m′ n′ u′
       → Inner book ds₀ f₀ T t′ m′ n′ (set f i 1) u′ (left - 1) (i + 1) (at + 16 * countOf book i)
@@ -123,7 +123,7 @@ module _ {book f₀ t m n f : List ℕ} {ds₀ : List Def} {u : Used} {left i at
         flags = omega (arith, length-set f i 1, w .flags);
       }
 
--- at the end of a round
+-- at the end of a round it went as the definition says, and so many are left
 pub inner-end : {book f₀ t m n f : List ℕ} {ds₀ : List Def} {u : Used} {left i at T : ℕ}
     (w : Inner book ds₀ f₀ T t m n f u left i at) → T ≤ i
     → (roundIn book ds₀ (waits f₀ 0 T) ≡ went (w .ds) (waits f 0 T)) × (left ≡ length (waits f 0 T))

@@ -87,7 +87,7 @@ module _ (f : ℕ → List ℕ) (s : List ℕ) (from n : ℕ) (u : Unseen (listF
 
 -- ---- a member's type that is not found
 
--- not all are known
+-- where one name is not known, not all are
 pub one-unknown : (known names : List (List ℕ)) (k : ℕ) → k < length names → typeAmong known (getD names k []) ≡ Nothing
     → allKnown hasName known names ≡ false
 unfolding every
@@ -169,11 +169,11 @@ module _ {book stuck tried : List ℕ} {known : List (List ℕ)} (t : Tries book
       missed-now : Missed book known i k n
       missed-now = record { below = below; unseen = unseen-all known none-is n long }
 
-      -- type i still waits for the same member ..
+      -- where type i still waits for the same member, what the scratches say stays true
       pub tries-again : getD stuck i 0 ≡ k → Tries book known stuck (set tried i n)
       tries-again e = tries-at stuck (t .members) (λ j d. refl) (rw e missed-now)
 
-      -- .. or waits for the k-th
+      -- where type i waits for the k-th member, what the scratches then say is true
       pub tries-new : Tries book known (set stuck i k) (set tried i n)
       tries-new =
           tries-at (set stuck i k) (omega (arith, t .members, length-set stuck i k))

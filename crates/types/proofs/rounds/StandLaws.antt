@@ -143,7 +143,7 @@ module _ {b : Bool} {v : Verdict} {u : Used} {t m n t′ m′ n′ : List ℕ} {
     pub turn-added : (u′ : Used) → r ≡ Added u′ → AddedBy b v u t m n t′ m′ n′ u′
     turn-added u′ e = added-of u′ b v u r h e
 
--- and one name more
+-- what the scratches say stays true once a type is added to the tables
 pub tries-stand : {ds : List Def} {t m n t′ m′ n′ book stuck tried : List ℕ} {u u′ : Used} (d : Def) → TablesShow ds
     → Stands ds t m n u → TablesShow (ds ++ d ∷ []) → Stands (ds ++ d ∷ []) t′ m′ n′ u′
     → Tries book (rowNames t n (u .types)) stuck tried → Tries book (rowNames t′ n′ (u′ .types)) stuck tried

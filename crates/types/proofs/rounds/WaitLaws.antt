@@ -16,7 +16,7 @@ use Rattle.types.specs.rounds.Turns.{upFrom}
 use Rattle.types.specs.tables.Limits.{mostNames, typeWords, memberWords}
 use Rattle.types.specs.tables.Registry.{noTypes, noMembers, noNames}
 
--- tables of zeros
+-- tables of zeros are cleared
 pub cleared : Cleared (replicate typeWords 0) (replicate memberWords 0) (replicate mostNames 0)
 unfolding noTypes noMembers noNames
 cleared = record { types = refl; members = refl; names = refl }

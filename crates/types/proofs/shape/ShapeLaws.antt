@@ -176,7 +176,7 @@ module _ (sizes : ℕ → ℕ) (t : Ty) (lengths : List ℕ) (used n : ℕ) {siz
   unfolding within
   within-fits f = rw (← e) (simp f)
 
-  -- elements of more than 2^26 bytes in all: refusal 24
+  -- elements of more than 2^26 bytes in all get refusal 24
   pub within-over : leb (size * n) mostSize ≡ false → refusedShape 24 0 ≡ within sizes t lengths used n
   unfolding within
   within-over f = rw (← e) (simp f)

@@ -33,12 +33,12 @@ module _ (f g : ℕ → ℕ) (n : ℕ) (same : (k : ℕ) → k < n → f k ≡ g
   infos-same [] e = refl
   infos-same (p ∷ ps) e = rw (type-same (p .member .ty) (e .0 .earlier), infos-same ps (e .1))
 
-  -- a template by either ids
+  -- ids that agree for the earlier types give the same template
   pub template-same : (d : Def) → Every (PartFits n) (d .parts) → templateOf f d ≡ templateOf g d
   unfolding templateOf frontOf
   template-same d e = rw (infos-same (d .parts) e)
 
-  -- the size of an earlier type by either sizes
+  -- sizes that agree for the earlier types give an earlier type the same size
   pub size-same : (ty : Ty) → Earlier n ty → sizeIn f ty ≡ sizeIn g ty
   size-same (Atomic a) e = refl
   size-same (Struct k) e = same k e
@@ -51,7 +51,7 @@ module _ (f g : ℕ → ℕ) (n : ℕ) (same : (k : ℕ) → k < n → f k ≡ g
       go true = refl
       go false = size-same ty e
 
-  -- a declared member by either sizes
+  -- sizes that agree for the earlier types give the same declared member
   pub declared-same : (ty : Ty) (e : MemberEntry) → Earlier n ty → declared f ty e ≡ declared g ty e
   unfolding resolved
   declared-same ty e h = rw (stored-same ty (e .dim) h)
@@ -74,7 +74,7 @@ module _ {A : Type 0} where
       let e : i + suc k ≡ i + 1 + k = omega arith in
       rw e (getD-from f (i + 1) n k d (omega arith))
 
-  -- the k-th
+  -- the k-th of the list of the first n values is the value with number k
   pub getD-list : (f : ℕ → A) (n k : ℕ) (d : A) → k < n → getD (listFrom f 0 n) k d ≡ f k
   getD-list f n k d h =
       let e : 0 + k ≡ k = omega arith in

@@ -215,7 +215,7 @@ earlier-fits n h (Struct k) e = omega arith
 pub within-fits : {m : List ℕ} {n edge row : ℕ} → n ≤ mostTypes → RowWithin m n edge row → TyFits (memberAt m row .ty)
 within-fits {m} {n} {edge} {row} h w = earlier-fits n h (memberAt m row .ty) (w .earlier)
 
--- its rows can be read
+-- once the parts of a structure are stored, its rows can be read
 pub head-readable : (m : List ℕ) (row at n : ℕ) (d : Def) → length m ≡ memberWords
     → row + length (d .parts) ≤ mostMembers
     → at + length (ownNames d) ≤ mostNames → n ≤ mostTypes → Every (PartFits n) (d .parts)

@@ -145,7 +145,7 @@ module _ (ds : List Def) (g : Good ds) where
         (partsAt members names (typeAt types i .first) (typeAt types i .count))
     good-laid = rw (r .head, parts-are) def-laid
 
-    -- it holds an id
+    -- the row of a type holds an id
     pub good-used : typeAt types i .id ≡ 0 → ⊥
     good-used = rw (r .head) (r .used)
 

@@ -127,7 +127,7 @@ module _ {types members names : List ℕ} (k : Kept types members names) where
   pub kept-count : typeCount types ≡ length (k .defs)
   kept-count = rw (k .rows) (good-count (k .defs) good)
 
-  -- a row below the count is a type's ..
+  -- a row below the count is a type's
   pub kept-type : (i : ℕ) → i < typeCount types → TypeRow types members names i
   kept-type =
       rw (k .rows, k .parts, k .bytes)

@@ -43,7 +43,7 @@ pub user-inside : (id : ℕ) → 0x100 ≤ id → id ≤ 0xEFF → userId id ≡
 unfolding userId
 user-inside id l h = rw (le-leb 0x100 id l, le-leb id 0xEFF h)
 
--- a kind is not Predefined
+-- a kind whose word is not 1 is not Predefined
 pub not-predefined : (k : StructKind) → eqb (kindWord k) 1 ≡ false → k ≡ Predefined → ⊥
 not-predefined k n e = true≢false (sym (ap (λ (x : StructKind). eqb (kindWord x) 1) e) ∙ n)
 
@@ -124,7 +124,7 @@ module _ (ids : PredefinedIds) (good : predefinedIds ids ≡ true) where
       (early-proper 2 (omega arith) (ids-allowed ids good .control) (record { name = refl; kind = refl }) refl
       (control-formed _ _ _ refl))
 
-  -- all four are proper
+  -- all four predefined types are proper
   pub predefined-proper : AllProper (predefined ids)
   unfolding withTimer withCounter withControl predefined newDef goodName nameBytes nameByte
   predefined-proper =

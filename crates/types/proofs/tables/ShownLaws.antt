@@ -259,7 +259,7 @@ pub sizes-same : (ds : List Def) → TablesShow ds → (k : ℕ) → k < length 
     → sizesIn (typesTable ds) k ≡ getD ds k noDef .size
 sizes-same ds s k l = ap (λ (h : StructDef). h .size) (s .rows k l .head)
 
--- the tables show what the registry shows
+-- the view of the tables is the view of the registry that they show
 pub view-same : (ds : List Def) → TablesShow ds → viewIn (typesTable ds) (namesTable ds) (usedBy ds) ≡ viewOf ds
 unfolding viewIn viewOf
 view-same ds s =

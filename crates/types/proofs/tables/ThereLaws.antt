@@ -19,7 +19,7 @@ use Rattle.types.proofs.tables.KeptLaws.{TypeRow, kept-used}
 pub there-below : (types : List ℕ) {n : ℕ} → hasTemplate types (Struct n) ≡ true → n < mostTypes
 there-below types {n} e = ltb-true _ _ (and-left (ltb n mostTypes) (not (eqb (typeAt types n .id) 0)) e)
 
--- and holds a type
+-- in kept tables a structure that is there is a type, with all that is known of one
 pub kept-there : {types members names : List ℕ} → Kept types members names → (n : ℕ)
     → hasTemplate types (Struct n) ≡ true → TypeRow types members names n
 kept-there {types} k n e =

@@ -26,7 +26,7 @@ none-came k out = record { at = omega arith; fold = refl; writes = refl; bytes =
     same true o = refl
     same false o = refl
 
--- two pieces are one
+-- two pieces that came one after the other came as one
 pub came-both : {s t : List ℕ} {k m r : Sink} {out left last : List ℕ}
     → Emitted s k out m left → Emitted t m left r last → Emitted (s ++ t) k out r last
 came-both {s} {t} {k} {m} {r} {out} {left} {last} a b =
@@ -57,14 +57,14 @@ pub record PiecesLeft (whole : List ℕ) (k : Sink) (out rest : List ℕ) (m : S
 pub left-all : {s : List ℕ} {k : Sink} {out : List ℕ} → SinkRoom s k out → PiecesLeft s k out s k out
 left-all h = record { long = refl; room = h; then = λ r last e. e }
 
--- the next piece fits
+-- the next piece of what is left fits
 pub left-room : {whole rest : List ℕ} {k m : Sink} {out left : List ℕ} (s t : List ℕ) → rest ≡ s ++ t
     → PiecesLeft whole k out rest m left → SinkRoom s m left
 left-room {whole} {rest} {k} {m} {out} {left} s t e l =
     let n : length rest ≡ length s + length t = ap length e ∙ length-append s t in
     record { small = omega (arith, l .room .small, n); room = λ w. omega (arith, l .room .room w, n) }
 
--- the next piece came
+-- where the next piece came, the pieces after it are left
 pub left-on : {whole rest s : List ℕ} {k m r : Sink} {out left last : List ℕ} (t : List ℕ) → rest ≡ s ++ t
     → PiecesLeft whole k out rest m left → Emitted s m left r last → PiecesLeft whole k out t r last
 left-on {whole} {rest} {s} {k} {m} {r} {out} {left} {last} t e l h =
@@ -78,7 +78,7 @@ left-on {whole} {rest} {s} {k} {m} {r} {out} {left} {last} t e l h =
       then = λ x y f. l .then x y (rw e (came-both h f));
     }
 
--- nothing is left
+-- where nothing is left, the whole came
 pub left-none : {whole rest : List ℕ} {k m : Sink} {out left : List ℕ} → rest ≡ [] → PiecesLeft whole k out rest m left
     → Emitted whole k out m left
 left-none {whole} {rest} {k} {m} {out} {left} e l = l .then m left (rw e (none-came m left))

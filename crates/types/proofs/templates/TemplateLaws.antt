@@ -131,7 +131,7 @@ ids-off n i h =
 
 -- ---- what a structure's rows give
 
--- no name matters to the infos
+-- the infos are the same whatever the names are
 pub infos-any : (ids : ℕ → ℕ) (members names other : List ℕ) (row n : ℕ)
     → infos ids (partsAt members names row n) ≡ infos ids (partsAt members other row n)
 unfolding infos partsAt partAt

@@ -28,7 +28,7 @@ chars-ext (suc n) b c h =
     ap₂ _∷_ (val-ext 8 b c (λ k l. h k (omega arith)))
     (chars-ext n (from 8 b) (from 8 c) (λ k l. h (8 + k) (omega arith)))
 
--- bytes tell their bits
+-- where n bytes made of bits are the same, the bits are the same
 pub chars-tell : (n : ℕ) (b c : Bits) → chars n b ≡ chars n c → (k : ℕ) → k < 8 * n → b k ≡ c k
 unfolding chars
 chars-tell zero b c e k l = absurd (let z : ⊥ = omega arith in z)

@@ -76,7 +76,7 @@ module _ {members : List ℕ} {row base : ℕ} {image : List ℕ} {m : Member} {
   unfolding isFlag
   chosen = rw (← w .is, w .flag) refl
 
-  -- kept as bit k
+  -- where the BOOL's bit was stored as bit k of those kept, the row's step is done
   pub flag-kept : {new : Bits} (k : ℕ) {r : ℕ} {v : Bool} (kept : Bits) → r ≡ k % 8
       → v ≡ flat image (8 * (base + start) + b) → new ≡ stamp (8 * (k / 8) + r) 1 (λ i. v) kept
       → new ≡ cond (isFlag (memberAt members row))
@@ -85,7 +85,7 @@ module _ {members : List ℕ} {row base : ℕ} {image : List ℕ} {m : Member} {
       rw chosen (f ∙ one-bit (8 * (k / 8) + r) k (8 * base + firstBit (memberAt members row)) v (flat image) kept
       (omega arith) (h ∙ ap (flat image) flag-first))
 
-  -- put back from bit k
+  -- where bit k of those kept was stored as the BOOL's bit, the row's step is done
   pub flag-put : {new : Bits} (k : ℕ) {r : ℕ} {v : Bool} (kept : List ℕ) → r ≡ k % 8 → v ≡ flat kept (8 * (k / 8) + r)
       → new ≡ stamp (8 * (base + start) + b) 1 (λ i. v) (flat image)
       → new ≡ cond (isFlag (memberAt members row))
@@ -97,7 +97,7 @@ module _ {members : List ℕ} {row base : ℕ} {image : List ℕ} {m : Member} {
 
 -- ---- the rows
 
--- one of n rows
+-- where n rows lie in an image, each of them lies in any image of the same length
 pub one-row : {members : List ℕ} {first n base : ℕ} {image : List ℕ} (k : ℕ) → RowsHere members first n base image
     → k < n → {new : List ℕ} → length new ≡ length image → RowsHere members (first + k) 1 base new
 one-row {members} {first} {n} {base} {image} k h l {new} e =

@@ -27,7 +27,7 @@ over-append [] b x z = refl
 over-append (say e ∷ a) b x z = over-append a b x z
 over-append (at p l ∷ a) b x z = over-append a b x (stamp p (width l) (norm l (from p x)) z)
 
--- where no two leaves share a bit
+-- where no two leaves share a bit, a held bit becomes its normal bit, and every other bit stands
 pub over-bit : (is : List Item) (x z : Bits) → HeldApart is → (k : ℕ)
     → over is x z k ≡ cond (held is k) (normal is x k) (z k)
 unfolding over held normal

@@ -102,7 +102,7 @@ text-takes : (c : ℕ) (s : List ℕ) → length s ≤ c → taken (str c) (text
 unfolding asText
 text-takes c s h = rw (le-leb (length s) c h) refl
 
--- bits made into n bytes, and seen as bits again
+-- bits made into n bytes and seen as bits again are the first 8 n of them
 pub flat-clip : (n : ℕ) (b : Bits) (k : ℕ) → flat (chars n b) k ≡ (ltb k (8 * n) && b k)
 flat-clip n b k =
     let c : Bits = λ j. ltb j (8 * n) && b j in

@@ -30,7 +30,7 @@ plain-is m e = go (m .hidden) (m .bit) refl refl e
     go false None f g q = record { visible = f; whole = g }
 
 module _ {types members : List ℕ} (s : Sweepable types members) where
-  -- they can be walked
+  -- tables that can be swept can be walked
   pub sweepable-walkable : Walkable types members
   sweepable-walkable = s .disjoint .walkable
 

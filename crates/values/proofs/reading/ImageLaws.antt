@@ -44,18 +44,18 @@ failed P false b p q w e = rw (why-same w NoSuchType e) (p refl)
 -- ---- what is said of a length
 
 module _ (types : List ℕ) (t : Ty) (n long : ℕ) where
-  -- 15: there is no such type
+  -- where there is no such type, 15 is said
   pub fit-absent : isThere types t ≡ false → refused 15 0 ≡ saidOfImage types t n long
   unfolding saidOfImage
   fit-absent e = rw e refl
 
   module _ (there : isThere types t ≡ true) where
-    -- 14: the length is not that of a value
+    -- where the length is not that of a value, 14 is said
     pub fit-wrong : eqb long (sizeIn (sizesIn types) t * times n) ≡ false → refused 14 0 ≡ saidOfImage types t n long
     unfolding saidOfImage
     fit-wrong e = rw (there, e) refl
 
-    -- else nothing is refused
+    -- where type and length are right, nothing is refused
     pub fit-done : eqb long (sizeIn (sizesIn types) t * times n) ≡ true → done tt ≡ saidOfImage types t n long
     unfolding saidOfImage
     fit-done e = rw (there, e) refl

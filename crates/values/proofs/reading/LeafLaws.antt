@@ -92,7 +92,7 @@ module _ (j : ℕ) {m x : Member} (image : List ℕ) (is : m ≡ x) where
   unfolding leafOut
   put-hidden out at e = rw (← is, e) (put-none out at)
 
-  -- else its number at least
+  -- where the entries of a visible member have room, its number has
   pub shown-room : (at : ℕ) {long : ℕ} → m .hidden ≡ false → at + 12 * length (leafOut j x image) ≤ long
       → at + 12 ≤ long
   unfolding leafOut

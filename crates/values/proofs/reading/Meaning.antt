@@ -270,7 +270,7 @@ module _ (types members : List ℕ) (w : Walkable types members) where
   unfolding structOut treeOf
   struct-meaning i image l e b = within-read mostTypes i image (omega arith) l e b
 
-  -- a value
+  -- what the walk over the rows gives for a value is the reading of the value's tree
   pub meaning : (t : Ty) (n : ℕ) (image : List ℕ) → TyFits t → length image ≡ sizeIn (sizesIn types) t * times n
       → Bytes image
       → valueOut types members t n image ≡ read (items (treeOfValue (knownIn types members) t n) 0) (flat image)

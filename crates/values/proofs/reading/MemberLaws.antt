@@ -45,7 +45,7 @@ module _ (m : Member) (nested : isNested m ≡ true) where
   pub nested-whole : m .bit ≡ None
   nested-whole = parts .1 .0
 
-  -- it is no atomic
+  -- a member that is a nested structure is no atomic
   pub never-atomic : {a : Atomic} → m .ty ≡ ty.Atomic a → ⊥
   never-atomic e = clash (parts .1 .1) (rw e)
 
@@ -68,7 +68,7 @@ module _ (types members : List ℕ) (rec : ℕ → List ℕ → List Token) (j :
       leaf-parts (m .hidden) (m .bit) (m .ty) (m .count) (m .offset)
       (λ k. bool (flat image (8 * m .offset + k)) ∷ []) e
 
-  -- a structure, or an array of structures
+  -- a nested structure, or an array of them, gives its number and what its own part of the image gives
   pub member-nested : (s : ℕ) → isNested m ≡ true → m .ty ≡ ty.Struct s
       → memberBy types members rec j m image
       ≡ member j
@@ -79,7 +79,7 @@ module _ (types members : List ℕ) (rec : ℕ → List ℕ → List Token) (j :
 -- ---- what the tables say of a row
 
 module _ {types members : List ℕ} where
-  -- row k of structure i
+  -- where the tables can be walked, row k of a structure is one of its rows
   pub row-of : {i k first n : ℕ} → Walkable types members → i < mostTypes → first ≡ typeAt types i .first
       → n ≡ typeAt types i .count → k < n → RowOf types members i (first + k)
   row-of {i} {k} w l p q h =

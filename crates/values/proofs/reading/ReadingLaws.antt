@@ -90,7 +90,7 @@ module _ (types : List ℕ) (i n : ℕ) (image : List ℕ) (v : ImagesOf types i
   pub image-some : (n ≡ 0 → ⊥) → ImagesOf types i n image
   image-some e = record { low = v .low; long = v .long ∙ ap (λ (k : ℕ). sizesIn types i * k) (sym (times-same n e)) }
 
--- the image of a value of a structure
+-- an image of a value of a structure is one of so many of that structure
 pub images : (types : List ℕ) (t : Ty) {i : ℕ} (n : ℕ) (image : List ℕ) → t ≡ ty.Struct i → ValueImage types t n image
     → ImagesOf types i (times n) image
 images types t {i} n image e v = let w = rw e at v in record { low = w .fits; long = w .long }
@@ -161,7 +161,7 @@ module _ (types members : List ℕ) (t : Ty) (n : ℕ) (image out : List ℕ) (r
   in-room l =
       le-leb (length (valueStream types members t n image)) (min (length out) mostBytes) (omega (arith, long, space))
 
-  -- the count of the entries, then entries and texts
+  -- where the count, the entries and the texts are written, so is the stream
   pub read-all : {entries text : ℕ} {mid new : List ℕ} {p : Place} → entries ≡ length ts → text ≡ length (bodies ts)
       → 12 * length ts + length (bodies ts) ≤ room → mid ≡ sets out 0 (bytesOf 4 entries)
       → TokensLaid mid (4 + 12 * entries) 4 0 ts new p
@@ -212,7 +212,7 @@ module _ {types members : List ℕ} {t : Ty} {n k : ℕ} {image out new : List �
   abbrev stream : List ℕ
   stream = valueStream types members t n image
 
-  -- a length tells all this
+  -- where a length is answered, type, image and room are right, and the stream is written
   pub length-told : LengthTold types members t n image out k new
   unfolding readAnswer streamAnswer part
   length-told =

@@ -102,7 +102,7 @@ pub record TreesSized (types : List ℕ) (trees : ℕ → Tree) (i : ℕ) : Type
   pub spans : (s : ℕ) → s < i → span (trees s) ≡ 8 * sizesIn types s
   pub insides : (s : ℕ) → s < i → Inside (trees s)
 
--- and so are fewer
+-- where the trees of the first f structures have their sizes, so have those of fewer
 pub sound-below : {types : List ℕ} {trees : ℕ → Tree} {f : ℕ} (i : ℕ) → i ≤ f → TreesSized types trees f
     → TreesSized types trees i
 sound-below i h sound =
@@ -207,7 +207,7 @@ struct-span types members trees i w = go (isStringKind (typeAt types i .kind)) r
 
 -- ---- all structures
 
--- the structures that a value's type may name
+-- a value's type is an atomic or one of the 200 structures
 pub earlier : (t : Ty) → TyFits t → Earlier mostTypes t
 earlier (ty.Atomic a) l = tt
 earlier (ty.Struct s) l = l

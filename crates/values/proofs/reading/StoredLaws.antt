@@ -126,7 +126,7 @@ pub held-struct : {types members : List ℕ} {t : Ty} {i : ℕ} {image : List �
     → TextHeld types members t image n
 held-struct {types} {members} {t} {i} {image} e r h = record { long = rw e h; inside = omega (arith, r .inside) }
 
--- no atomic has a text
+-- no image of an atomic has a stored text
 pub no-atomic : {A : Type 0} (types image : List ℕ) (a : Atomic) → textNumber types (ty.Atomic a) image ≡ 0 → A
 unfolding textNumber
 no-atomic types image a n = let z : _≡_ {A = ℕ} 15 0 = n in absurd (let y : ⊥ = omega arith in y)

@@ -12,7 +12,7 @@ use Rattle.values.specs.inside.reading.Walk.{upTo, wrap}
 use Rattle.values.specs.stream.Stream.{Token, mark, bodies}
 use Rattle.values.proofs.stream.HeadLaws.{bodies-append}
 
--- runs that agree element for element
+-- runs that agree element for element are the same
 pub up-ext : (g h : ℕ → List Token) (n : ℕ) → ((k : ℕ) → k < n → g k ≡ h k) → upTo g n ≡ upTo h n
 unfolding upTo
 up-ext g h zero e = refl
@@ -44,7 +44,7 @@ module _ (g : ℕ → List Token) where
   up-length r e zero = omega arith
   up-length r e (suc n) = length-append (upTo g n) (g n) ∙ omega (arith, up-length r e n, e n)
 
-  -- elements with at least so many entries each
+  -- n elements of at least r entries each have at least n times r entries
   pub up-least : (r : ℕ) → ((k : ℕ) → r ≤ length (g k)) → (n : ℕ) → n * r ≤ length (upTo g n)
   unfolding upTo
   up-least r e zero = omega arith

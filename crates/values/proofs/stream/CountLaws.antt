@@ -36,7 +36,7 @@ plain-counted p q =
       still = λ e. e;
     }
 
--- the same entries
+-- the count of some entries is that of any that are the same
 pub counted-same : {most from sum : ℕ} {f g : List ℕ → List Token} {b t : Bool} → Counted most from f b t sum
     → ((image : List ℕ) → f image ≡ g image) → Counted most from g b t sum
 counted-same w q =
@@ -97,7 +97,7 @@ module _ (types members : List ℕ) (s n : ℕ) where
   abbrev Element : List ℕ → ℕ → List Token
   Element = elementBy types members (structOut types members) s
 
-  -- one structure
+  -- with count 0 the structures are counted as the one structure is
   pub structs-one : {most from sum : ℕ} {b t : Bool} → n ≡ 0 → Counted most from (structOut types members s) b t sum
       → Counted most from Structs b t sum
   unfolding structsBy
@@ -112,7 +112,7 @@ module _ (types members : List ℕ) (s n : ℕ) where
     structs-length : (image : List ℕ) → length (Structs image) ≡ 2 + length (upTo (Element image) n)
     structs-length image = ap length (structs-are image) ∙ wrap-length 10 11 (upTo (Element image) n)
 
-    -- of more elements than `most`
+    -- an array of more than `most` elements has more entries than `most`
     pub structs-many : {most from : ℕ} {b : Bool} → most < n → Counted most from Structs b b (most + 1)
     structs-many h =
         record {
@@ -152,7 +152,7 @@ module _ (types members : List ℕ) (s n : ℕ) where
             up-length (Element image) one (λ k. omega (arith, w .exact h (element types s image k))) n,
           )
 
-      -- all as long as the first
+      -- elements that all have as many entries as the first are two brackets and so many times that
       pub structs-all : {from : ℕ} → one ≤ most → Counted most from Structs b t (from + 2 + n * one)
       structs-all h =
           record {
@@ -165,7 +165,7 @@ module _ (types members : List ℕ) (s n : ℕ) where
           }
 
 module _ {types members : List ℕ} {i most from : ℕ} (w : Walkable types members) (l : i < mostTypes) where
-  -- a string
+  -- a string is one entry, and a text is among them
   pub text-counted : {b : Bool} → isStringKind (typeAt types i .kind) ≡ true
       → Counted most from (structOut types members i) b true (from + 1)
   text-counted e =
@@ -179,7 +179,7 @@ module _ {types members : List ℕ} {i most from : ℕ} (w : Walkable types memb
       one : (image : List ℕ) → length (structOut types members i image) ≡ 1
       one image = ap length (struct-out types members w i image l) ∙ unfold structBy in rw e
 
-  -- any other structure
+  -- any other structure has as many entries as its members
   pub members-counted : {b t : Bool} {sum : ℕ} → isStringKind (typeAt types i .kind) ≡ false
       → Counted most from (membersBy types members (structOut types members) i) b t sum
       → Counted most from (structOut types members i) b t sum

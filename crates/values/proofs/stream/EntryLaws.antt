@@ -42,7 +42,7 @@ pub length-entry : (kind payload : ℕ) → length (entryBytes kind payload) ≡
 unfolding entryBytes
 length-entry kind payload = let e = length-bytes 8 payload in omega arith
 
--- the two words stored one after the other
+-- the kind and the payload stored one after the other are the entry
 pub entry-stored : (out : List ℕ) (at kind payload : ℕ) → kind < 256
     → sets (sets out at (bytesOf 4 kind)) (at + 4) (bytesOf 8 payload) ≡ sets out at (entryBytes kind payload)
 entry-stored out at kind payload h =
@@ -148,7 +148,7 @@ entry-only s at b e =
 
 -- ---- an entry by value
 
--- a kind that was matched
+-- what an entry is by a matched kind it is by the entry's own kind
 pub kind-told : {kind k : ℕ} {r : Loaded} (x : ℕ) → kind ≡ k → r ≡ loadedOf k x → r ≡ loadedOf kind x
 kind-told x e h = h ∙ sym (ap (λ (k : ℕ). loadedOf k x) e)
 
@@ -166,7 +166,7 @@ pub kind-above : (kind x : ℕ) → NoneBelow kind 12 → Malformed ≡ loadedOf
 unfolding loadedOf
 kind-above kind x h = sym (List·getD-eq-default (payloadsIn x) Malformed (past kind 12 h))
 
--- three zeros after the kind
+-- where three zeros stand after the kind, the entry is what kind and payload say
 pub zeros-read : (s : List ℕ) (at : ℕ) → getD s (at + 1) 0 ≡ 0 → getD s (at + 2) 0 ≡ 0 → getD s (at + 3) 0 ≡ 0
     → entryIn s at ≡ loadedOf (getD s at 0) (wordAt 8 s (at + 4))
 unfolding entryIn threeZeros

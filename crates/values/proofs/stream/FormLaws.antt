@@ -26,7 +26,7 @@ use Rattle.values.specs.stream.Stream.{mostBytes}
 at-same : (x y : ℕ) → At x ≡ At y → x ≡ y
 at-same x y e = cc
 
--- the answers of a step
+-- a step that goes on to a place is answered by that place
 pub moved-to : {place r : ℕ} {step : TextStep} → step ≡ At r → r < nowhere → r ≤ place + 2 ^ 32 → Moved place step r
 moved-to e l h = record { goes = λ q. e; near = λ q. h; broken = λ q. absurd (let z : ⊥ = omega arith in z) }
 
@@ -101,7 +101,7 @@ module _ (kind x place : ℕ) where
     unfolding mostOf
     bool-fits e h = plain-fits l (omega arith) (λ q. let z : ⊥ = omega arith in z) (rw e (omega arith))
 
-    -- a bool above 1: malformed
+    -- a bool above 1 is malformed
     pub bool-broken : kind ≡ 1 → 2 ≤ x → textStepOf kind x place ≡ Broken
     unfolding mostOf
     bool-broken e h = plain-broken l (omega arith) (λ q. let z : ⊥ = omega arith in z) (rw e (omega arith))
@@ -124,7 +124,7 @@ module _ (kind x place : ℕ) where
     pub mark-fits : 8 ≤ kind → kind < 12 → x ≡ 0 → textStepOf kind x place ≡ At place
     mark-fits a b e = plain-fits l b (λ q. let z : ⊥ = omega arith in z) (omega arith)
 
-    -- a bracket with a payload: malformed
+    -- a bracket with a payload is malformed
     pub mark-broken : 8 ≤ kind → kind < 12 → (x ≡ 0 → ⊥) → textStepOf kind x place ≡ Broken
     unfolding mostOf
     mark-broken a b n =
@@ -161,7 +161,7 @@ module _ (kind x place : ℕ) where
   pub text-elsewhere : kind ≡ 6 → (x % 2 ^ 32 ≡ place → ⊥) → textStepOf kind x place ≡ Broken
   text-elsewhere e h = text-step e ∙ rw (ne-eqb (x % 2 ^ 32) place h) refl
 
-  -- no kind
+  -- a kind from 12 on is malformed
   pub kind-none : 12 ≤ kind → textStepOf kind x place ≡ Broken
   unfolding textStepOf payloadRight
   kind-none l = rw (List·getD-eq-default (payloadsRight x) false {n = kind} l) refl
@@ -189,7 +189,7 @@ module _ (s : List ℕ) (at place : ℕ) (inside : at + 12 ≤ length s) where
           let e : getD s at 0 ≡ wordAt 4 s at = omega (arith, word-four s at) in
           rw (le-leb (at + 12) (length s) inside, eq-eqb _ 0 a, eq-eqb _ 0 b, eq-eqb _ 0 d, e) refl
 
--- a step by the words that the code loads
+-- a step by the three words that the code loads is the step of the entry
 pub words-moved : {place r head low high : ℕ} (s : List ℕ) (at : ℕ) → at + 12 ≤ length s → head ≡ wordAt 4 s at
     → low ≡ wordAt 4 s (at + 4) → high ≡ wordAt 4 s (at + 8)
     → Moved place (textStepOf head (low + 2 ^ 32 * high) place) r

@@ -21,7 +21,7 @@ bodies-append (t ∷ ts) us =
 pub texts-append : (ts us : List Token) → length (bodies (ts ++ us)) ≡ length (bodies ts) + length (bodies us)
 texts-append ts us = rw (bodies-append, length-append)
 
--- entries without a text, and others without one
+-- entries without a text, and others without one after them, have no text
 pub plain-append : (ts us : List Token) → bodies ts ≡ [] → bodies us ≡ [] → bodies (ts ++ us) ≡ []
 plain-append ts us a b = bodies-append ts us ∙ ap₂ _++_ a b
 
@@ -37,7 +37,7 @@ heads-append place (t ∷ ts) us =
     rw (heads-append next ts us, e)
     (sym (append-assoc (entryBytes (kindOf t) (payloadOf place t)) (heads next ts) (heads _ us)))
 
--- twelve bytes each
+-- the heads of some entries are twelve bytes each
 pub length-heads : (place : ℕ) (ts : List Token) → length (heads place ts) ≡ 12 * length ts
 unfolding heads
 length-heads place [] = refl
@@ -66,7 +66,7 @@ pub record Textless (ts : List Token) : Type 0 where
 pub textless-none : Textless []
 textless-none = record { none = unfold bodies in refl; anywhere = λ place. unfold heads in refl }
 
--- an entry that is no text
+-- a plain entry has no text
 pub textless-plain : {kind x : ℕ} → Textless (plain kind x ∷ [])
 textless-plain {kind} {x} =
     record {
@@ -74,7 +74,7 @@ textless-plain {kind} {x} =
       anywhere = λ place. heads-one place (plain kind x) ∙ sym (heads-one 0 (plain kind x));
     }
 
--- some, and others after them
+-- some entries without a text, and others after them, have none
 pub textless-append : {ts us : List Token} → Textless ts → Textless us → Textless (ts ++ us)
 textless-append {ts} {us} a b =
     record {

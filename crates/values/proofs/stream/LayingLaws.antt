@@ -120,7 +120,7 @@ pub room-one : {long base at text : ℕ} {t : Token} {ts : List Token} → Strea
     → (at + 12 ≤ long) × (at + 12 ≤ mostBytes)
 room-one r = (omega (arith, r .entries, r .texts), omega (arith, r .entries, r .most))
 
--- all of them have
+-- where some entries have room, the heads of all of them have
 pub room-all : {long base at text : ℕ} {ts : List Token} → StreamRoom long base at text ts → at + 12 * length ts ≤ long
 room-all r = omega (arith, r .entries, r .texts)
 
@@ -191,7 +191,7 @@ module _ {g : ℕ → List Token} {n c : ℕ} {out : List ℕ} {base at text i :
     turn : StreamRoom (length out) base at text (upTo g i ++ g i)
     turn = room-front (upTo g i ++ g i) rest (room-as parts (run .room))
 
-    -- the next part has room
+    -- the next part of the run has room
     pub run-room : StreamRoom (length new) base p t (g i)
     run-room = room-long run-long (room-after {ts = upTo g i} (g i) turn (run .wrote))
 

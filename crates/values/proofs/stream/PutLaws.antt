@@ -17,7 +17,7 @@ use Rattle.values.proofs.stream.HeadLaws.{heads-append, heads-one, leng
 pub put-length : {out new : List ℕ} {at r : ℕ} {ts : List Token} → EntriesPut out at ts new r → length new ≡ length out
 put-length {out} {at = at} {ts = ts} w = ap length (w .bytes) ∙ length-sets out at (heads 0 ts)
 
--- nothing
+-- before the first entry none is put
 pub put-none : (out : List ℕ) (at : ℕ) → EntriesPut out at [] out at
 put-none out at = record { next = omega arith; bytes = unfold heads in refl }
 
@@ -42,19 +42,19 @@ put-then {out} {mid} {new} {at} {p} {r} {ts} {us} h v w =
       bytes = w .bytes ∙ rw (v .bytes, e, sets-append out at (heads 0 ts) (heads 0 us), f);
     }
 
--- a run, and one entry more
+-- where a run is put and one entry behind it, the run with that entry is put
 pub put-next : {out mid new : List ℕ} {at p kind payload : ℕ} {ts : List Token} (t : Token) → bodies ts ≡ []
     → EntriesPut out at ts mid p → kindOf t ≡ kind → payloadOf 0 t ≡ payload
     → new ≡ sets mid p (entryBytes kind payload) → EntriesPut out at (ts ++ t ∷ []) new (p + 12)
 put-next t h v a b w = put-then h v (put-one t a b w)
 
--- one entry, and a run after it
+-- where one entry is put and a run behind it, both are put as one run
 pub put-first : {out mid new : List ℕ} {at kind payload r : ℕ} {us : List Token} (t : Token) → bodies (t ∷ []) ≡ []
     → kindOf t ≡ kind → payloadOf 0 t ≡ payload → mid ≡ sets out at (entryBytes kind payload)
     → EntriesPut mid (at + 12) us new r → EntriesPut out at (t ∷ us) new r
 put-first t h a b w v = put-then h (put-one t a b w) v
 
--- entries without a text, seen as entries and texts
+-- entries without a text that are put are written, with no bytes among the texts
 pub put-wrote : {out new : List ℕ} {at r : ℕ} {ts : List Token} (base text : ℕ) → Textless ts
     → EntriesPut out at ts new r
     → TokensLaid out base at text ts new (record { at = r; text = text })
@@ -65,12 +65,12 @@ put-wrote {out} {new} {at} {r} {ts} base text h w =
       bytes = unfold laidIn in w .bytes ∙ rw (h .anywhere text, h .none);
     }
 
--- the same entries
+-- where some entries are put, so are any that are the same
 pub put-as : {out new : List ℕ} {at r : ℕ} {ts us : List Token} → ts ≡ us → EntriesPut out at ts new r
     → EntriesPut out at us new r
 put-as {out} {new} {at} {r} e w = subst (λ (ts : List Token). EntriesPut out at ts new r) e w
 
--- brackets around entries
+-- where brackets are put around entries, the entries in brackets are put
 pub put-wrap : (start stop : ℕ) {out first new last : List ℕ} {at p : ℕ} {ts : List Token} → bodies ts ≡ []
     → first ≡ sets out at (entryBytes start 0) → EntriesPut first (at + 12) ts new p
     → last ≡ sets new p (entryBytes stop 0)

@@ -122,7 +122,7 @@ module _ {room n k t : ℕ} {g : ℕ → List Token} (start stop : ℕ) (w : Sum
       let e : k + (n - k) ≡ n = omega (arith, w .most) in
       texts-wrap start stop (texts-as (ap (upTo g) e) (past-up g k (n - k) l (w .texts)))
 
-  -- all are summed
+  -- after the last part the sum is that of all texts
   pub sum-done : n ≤ k → Texts room (wrap start stop (upTo g n)) t
   sum-done h =
       let e : k ≡ n = omega (arith, w .most) in

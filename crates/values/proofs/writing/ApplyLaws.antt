@@ -41,7 +41,7 @@ pub applied-keeps : {s : List ℕ} {k : ℕ} {image : List ℕ} {f : Bits → Ou
     → f (flat image) ≡ ok (leftAt s (k + 1)) (flat image) → Applied s k (k + 1) image image f
 applied-keeps l e = record { further = omega arith; inside = omega arith; long = refl; gives = e }
 
--- an entry that sets some bits
+-- where one entry is taken and the image is as it sets it, that write is applied
 pub applied-one : {s : List ℕ} {k : ℕ} {image new : List ℕ} {f : Bits → Outcome} {z : Bits} → k < countIn s
     → length new ≡ length image → f (flat image) ≡ ok (leftAt s (k + 1)) z → flat new ≡ z
     → Applied s k (k + 1) image new f

@@ -137,7 +137,7 @@ module _ (members : List ℕ) (trees : ℕ → Tree) (p : ℕ) (t : Token) (ts :
       ∙ none-named (suc j) (row + 1) n (λ d l q. rw (next d) (h (suc d) (omega arith) (omega arith)))
 
 module _ (types members : List ℕ) (i p : ℕ) (t : Token) (ts : List Token) (z : Bits) where
-  -- a visible member
+  -- an entry with the number of a visible member writes that member
   pub branch-is : (j : ℕ) → payloadOf 0 t ≡ j → j < typeAt types i .count
       → memberAt members (typeAt types i .first + j) .hidden ≡ false
       → writeBranch (branchesIn types members i) p t ts z
@@ -147,7 +147,7 @@ module _ (types members : List ℕ) (i p : ℕ) (t : Token) (ts : List Token) (z
       row-named members (treeIn types members) p t ts z 0 (typeAt types i .first) (typeAt types i .count) j
       (e ∙ sym (zero-add j)) l h
 
-  -- a hidden one
+  -- an entry with the number of a hidden member is refused with 18
   pub branch-hidden : (j : ℕ) → payloadOf 0 t ≡ j → j < typeAt types i .count
       → memberAt members (typeAt types i .first + j) .hidden ≡ true
       → writeBranch (branchesIn types members i) p t ts z ≡ bad 18 (t ∷ ts)
@@ -155,7 +155,7 @@ module _ (types members : List ℕ) (i p : ℕ) (t : Token) (ts : List Token) (z
       none-named members (treeIn types members) p t ts z 0 (typeAt types i .first) (typeAt types i .count)
       (λ d a q. let same : d ≡ j = omega arith in rw same h)
 
-  -- one too large
+  -- an entry with a number past the members is refused with 18
   pub branch-past : (j : ℕ) → payloadOf 0 t ≡ j → typeAt types i .count ≤ j
       → writeBranch (branchesIn types members i) p t ts z ≡ bad 18 (t ∷ ts)
   branch-past j e l =

@@ -45,7 +45,7 @@ module _ (start : ℕ) (inner : List Token → Bits → Outcome) {us : List Toke
   unfolding opened
   opened-inner t ts z e n k = rw (e, ne-eqb (kindOf t) 0 n, eq-eqb (kindOf t) start k) refl
 
-  -- neither null nor the opening: 18 at this entry
+  -- an entry that is neither null nor the opening is refused with 18
   pub opened-other : (t : Token) (ts : List Token) (z : Bits) → us ≡ t ∷ ts → (kindOf t ≡ 0 → ⊥)
       → (kindOf t ≡ start → ⊥) → opened start inner us z ≡ bad 18 us
   unfolding opened
@@ -102,7 +102,7 @@ module _ (one : Token → List Token → Bits → Outcome) {us : List Token} whe
       let n : kindOf t ≡ 9 → ⊥ = λ h. omega arith in
       rw (e, ne-eqb (kindOf t) 9 n, eq-eqb (kindOf t) 7 k) refl
 
-  -- neither the close nor a member number: 18 at this entry
+  -- an entry that is neither the close nor a member number is refused with 18
   pub members-other : (most : ℕ) (t : Token) (ts : List Token) (z : Bits) → us ≡ t ∷ ts → (kindOf t ≡ 9 → ⊥)
       → (kindOf t ≡ 7 → ⊥) → membersIn (suc most) one us z ≡ bad 18 us
   unfolding membersIn

@@ -142,7 +142,7 @@ pub one-is-leaf : (a : Atomic) (p : ℕ) (ts : List Token) (z : Bits) → bitStr
     → write (atomicsTree a 0) p ts z ≡ writeOne (orNull (atomicTakes a)) (8 * sizeOf a) p ts z
 one-is-leaf a p ts z e = ap (λ (t : Tree). write t p ts z) (one-tree a e) ∙ leaf-one a p ts z e
 
--- one bit string: a number
+-- a bit string whose first entry opens no array is written by one number or null
 pub bits-number : (a : Atomic) (p : ℕ) (ts : List Token) (z : Bits) → bitString a ≡ true
     → (firstKind ts ≡ 10 → ⊥)
     → write (atomicsTree a 0) p ts z ≡ writeOne (orNull (atomicTakes a)) (8 * sizeOf a) p ts z
@@ -150,7 +150,7 @@ bits-number a p ts z e h =
     ap (λ (t : Tree). write t p ts z) (bits-tree a 0 e)
     ∙ (unfold write writeBits in rw (first-not 10 ts h, bits-takes a e) refl)
 
--- or bools, the missing ones zero
+-- a bit string whose first entry opens an array is written by its bools, the missing ones zero
 pub bits-bools : (a : Atomic) (p : ℕ) (ts : List Token) (z : Bits) → bitString a ≡ true → firstKind ts ≡ 10
     → write (atomicsTree a 0) p ts z ≡ boolsIn (8 * sizeOf a) p (rest ts) (stamp p (8 * sizeOf a) noBits z)
 bits-bools a p ts z e h =

@@ -43,7 +43,7 @@ module _ {types members : List ℕ} (w : Walkable types members) {i base : ℕ} 
   kind-is : isStringKind (typeAt types i .kind) ≡ b
   kind-is = ap (λ (x : StructDef). isStringKind (x .kind)) (sym is) ∙ sym test
 
-  -- it is its members
+  -- writing a structure that is no string is writing its members
   pub rows-write : b ≡ false → (p : ℕ) (ts : List Token) (z : Bits)
       → write (treeIn types members i) p ts z
       ≡ write (struct (8 * sizesIn types i) (branchesIn types members i)) p ts z
@@ -94,7 +94,7 @@ module _ {types members : List ℕ} {i row base : ℕ} {image : List ℕ} {r : N
   low : r .structure < mostTypes
   low = held-low (w .nested) (w .held)
 
-  -- it lies inside the image
+  -- what a row holds lies inside the image
   pub held-inside : base + r .start + sizesIn types (r .structure) * times (r .count) ≤ length image
   held-inside = omega (arith, held-within (w .nested) (w .held), w .here .inside)
 

@@ -30,7 +30,7 @@ goes-on {s} {k} r {f} h a b g =
       refuses = λ l. absurd (let z : ⊥ = omega (arith, few-entries s h) in z);
     }
 
--- a refusal at entry q
+-- where every image is refused at entry q with a number, the check answers that number and q
 pub refuses-at : {s : List ℕ} {k r : ℕ} {f : Bits → Outcome} (number q : ℕ) → streamOk s ≡ true → q ≤ countIn s
     → 1 ≤ number → r ≡ 2 ^ 32 * number + q → ((z : Bits) → f z ≡ bad number (leftAt s q)) → CheckedFrom s k r f
 refuses-at {s} {k} {r} {f} number q h a b e g =
@@ -110,7 +110,7 @@ onward-then {s} {p} {r} {g} {one} next e w =
     onward-from (let l = w .further in omega arith) (w .inside)
     (λ z. (w .gives z .0, e z ∙ ap (λ o. andThen o next) (w .gives z .1)))
 
--- and one that was refused
+-- where the first of two steps is refused, the answer of both is its refusal
 pub refused-then : {s : List ℕ} {p r : ℕ} {g one : Bits → Outcome} (next : List Token → Bits → Outcome)
     → ((z : Bits) → g z ≡ andThen (one z) next) → 2 ^ 32 ≤ r → CheckedFrom s p r one → CheckedFrom s p r g
 refused-then next e l c =

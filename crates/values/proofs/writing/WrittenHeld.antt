@@ -21,7 +21,7 @@ use Rattle.values.specs.writing.Written.{bytesAfter, refusing, taking, v
 use Rattle.values.proofs.normal_image.PutBack.{flat-clip}
 use Rattle.values.proofs.writing.OnlyHeld.{only-held}
 
--- n bytes of some bits
+-- bit k of n bytes made of some bits is the k-th of them
 pub bytes-bit : (n : ℕ) (b : Bits) (k : ℕ) → k < 8 * n → flat (chars n b) k ≡ b k
 bytes-bit n b k l = flat-clip n b k ∙ ap (_&& b k) (lt-ltb k (8 * n) l)
 

@@ -46,7 +46,7 @@ abbrev rest-of : Outcome → List Token
 rest-of (ok ts z) = ts
 rest-of (bad number ts) = ts
 
--- an image is its bits
+-- an image made of its own bits again is itself
 pub bytes-bits : (image : List ℕ) → Bytes image → chars (length image) (flat image) ≡ image
 unfolding part
 bytes-bits image b =
@@ -79,14 +79,14 @@ module _ (types members : List ℕ) (t : Ty) (n : ℕ) (s image : List ℕ) (for
         leaves = sym (ap (λ (o : Outcome). bytesAfter o image) (all-written ∙ e));
       }
 
-  -- a refused entry
+  -- where the check refuses, the call answers that refusal and leaves the image
   pub refused-entered : {r : ℕ} (x : Refusal) → CheckedFrom s 0 r entries → 2 ^ 32 ≤ r → numberOf x ≡ r / 2 ^ 32
       → placeOf x ≡ r % 2 ^ 32 → Entered types members t n s image (Refused x) image
   refused-entered {r} x c l e f =
       let w = c .refuses l in
       at-bad x f (w .inside) (rw e (ap ended (w .gives (flat image))))
 
-  -- whose number is 18 to 21
+  -- a refusal of the check has a number from 18 to 21
   pub refused-number : {r : ℕ} → CheckedFrom s 0 r entries → 2 ^ 32 ≤ r → (18 ≤ r / 2 ^ 32) × (r / 2 ^ 32 ≤ 21)
   refused-number {r} c l = bad-number tree 0 (leftAt s 0) (flat image) (c .refuses l .gives (flat image))
 
@@ -107,7 +107,7 @@ module _ (types members : List ℕ) (t : Ty) (n : ℕ) (s image : List ℕ) (for
     pub all-accepted : accepted (entries (flat image)) ≡ true
     all-accepted = ap accepted (c .goes l .gives (flat image) .1)
 
-    -- and set
+    -- where all entries are taken and set, nothing is refused
     pub entered-whole : {k : ℕ} {new : List ℕ} → Applied s 0 k image new entries → Bytes new
         → Entered types members t n s image Whole new
     entered-whole {k} {new} a b =

@@ -138,7 +138,7 @@ module _ {h row place at i : ℕ} {m₀ t₀ m t : List ℕ} (s : Hosting h row 
           names = rw e at (s .names) ∙ names-then t at (host ∷ []) rest ∙ rw (p .names, f);
         }
 
--- two parts, one after the other
+-- two parts stored one after the other are both stored
 pub two-put : (a b : Part) (row place : ℕ) {m₀ t₀ m₁ t₁ m t : List ℕ} {r : ℕ}
     → r ≡ place + length (namesOf (a ∷ b ∷ []))
     → m₁ ≡ sets m₀ (8 * row) (rowsOf place (a ∷ [])) → t₁ ≡ sets t₀ place (namesOf (a ∷ []))

@@ -72,24 +72,24 @@ left-all fs h = record { fits = h; then = λ r last a. a }
 
 module _ {whole : List ℕ} {start : ℕ} {first f : List ℕ} {at : ℕ} {now : List ℕ} where
   module _ {g : List ℕ} {fs : List (List ℕ)} (l : FieldsLeft whole start first (f ∷ g ∷ fs) at now) where
-    -- the next field fits
+    -- the next field of what is left fits, with its space
     pub left-room : FieldFits (withStop f 32) at now
     unfolding line
     left-room = fits-first (withStop f 32) (line (g ∷ fs)) (l .fits)
 
-    -- the next field was put
+    -- where the next field was put, the fields after it are left
     pub left-on : {r : ℕ} {next : List ℕ} → FieldPut (withStop f 32) at now r next
         → FieldsLeft whole start first (g ∷ fs) r next
     unfolding line
     left-on a = record { fits = fits-then (l .fits) a; then = λ r last b. l .then r last (added-both a b) }
 
   module _ (l : FieldsLeft whole start first (f ∷ []) at now) where
-    -- the last field fits
+    -- the last field of what is left fits, with its newline
     pub last-room : FieldFits (withStop f 10) at now
     unfolding line
     last-room = l .fits
 
-    -- the last field was put
+    -- where the last field was put, the whole line is
     pub left-done : {r : ℕ} {last : List ℕ} → FieldPut (withStop f 10) at now r last → FieldPut whole start first r last
     unfolding line
     left-done {r} {last} a = l .then r last a
@@ -259,7 +259,7 @@ module _ {types members : List ℕ} {d e : StructDef} {first k : ℕ} (q : d ≡
   pub row-named : {m : Member} → m ≡ memberAt members (first + k) → TypeNamed types (m .ty)
   row-named n = rw (n, row-same) (h .tys k l)
 
-  -- all of its line is left
+  -- before the first field of a member's line all of it is left
   pub row-left : (names : List ℕ) {m : Member} {name : Span} {out : List ℕ} → m ≡ memberAt members (first + k)
       → name ≡ nameAt members (first + k) → 512 ≤ length out
       → FieldsLeft (line (memberFields types names k m name)) 0 out (memberFields types names k m name) 0 out

@@ -102,7 +102,7 @@ pub member-said : (t : List ℕ) (row : ℕ) → memberSays (memberAt t row) ≡
 unfolding memberSays memberSaid memberAt
 member-said t row = rw (ty-said, bit-said, flags-said)
 
--- and those of the structure
+-- the words of the structure that a row holds
 pub type-said : (t : List ℕ) (i : ℕ) → typeRow (typeAt t i) ≡ typeSaid t i
 unfolding typeRow typeSaid typeAt
 type-said t i = rw kind-said

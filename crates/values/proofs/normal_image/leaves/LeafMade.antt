@@ -214,7 +214,7 @@ pub bools-room : (a : Atomic) → formOf a .kind ≡ 1 → (n m base long : ℕ)
 unfolding sizeOf
 bools-room a e n m base long d l = omega (arith, ap (λ b. sizeOf b * times n) (kind-one a e))
 
--- one after another
+-- BOOLs made normal byte after byte are their tree made normal
 pub bools-made : (a : Atomic) → formOf a .kind ≡ 1 → (n m p : ℕ) (x : Bits) → m ≡ times n
     → eachMade m (made (leaf byte)) 8 p x ≡ made (atomicsTree a n) p x
 unfolding atomicsTree eachMade bitString

@@ -72,7 +72,7 @@ module _ {types members : List ℕ} {i count : ℕ} {image : List ℕ} {base siz
   abbrev place : ℕ
   place = 8 * (base + size * e)
 
-  -- past the last place
+  -- past the last place the whole array is made normal
   pub elements-done : count ≤ e → flat now ≡ made (array count tree) (8 * base) (flat image)
   unfolding eachMade
   elements-done l = go (v .left) (v .all) (v .bits)

@@ -56,7 +56,7 @@ module _ {types members : List ℕ} {i row base c : ℕ} {image : List ℕ} {m :
   pub plain-after : c ≤ start
   plain-after = omega (arith, first-is, w .row-of .after)
 
-  -- it begins in the image
+  -- a plain member begins in the image
   pub plain-start : base + start ≤ length image
   plain-start = omega (arith, first-is, w .row-of .row-of .within .inside, w .here .inside)
 

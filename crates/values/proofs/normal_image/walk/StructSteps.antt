@@ -79,7 +79,7 @@ module _ {types members : List ℕ} (s : Sweepable types members) {i base : ℕ}
       pub rows-here : RowsHere members first count base image
       rows-here = rw (first-is, count-is) (sweepable-rows s i (here .low) base image here)
 
-      -- a bit for each is enough
+      -- a structure has at most 2,000 rows, so that a bit for each is enough
       pub rows-few : count ≤ mostMembers
       rows-few = omega (arith, count-is, walkable .each i (here .low) .rows)
 

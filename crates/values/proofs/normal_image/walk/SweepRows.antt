@@ -48,7 +48,7 @@ module _ (trees : ℕ → Tree) (size c : ℕ) (m : Member) (ms : List Member) w
 
 -- ---- rows
 
--- a structure's bytes by its row
+-- the size in a structure's row is how many bytes it has
 pub size-of-type : (types : List ℕ) (i : ℕ) {size : ℕ} {d : StructDef} → d ≡ typeAt types i → size ≡ d .size
     → size ≡ sizesIn types i
 size-of-type types i is e = e ∙ ap (λ (x : StructDef). x .size) is
@@ -132,7 +132,7 @@ module _ {types members : List ℕ} {i : ℕ} {image : List ℕ} {base first cou
         (sym rows-are)
         ∙ v .same
 
-    -- one that is not plain
+    -- a row that is not plain is passed
     pub sweep-past : isPlain (memberAt members (first + k)) ≡ false
         → Sweeping types members i image base first count now c (k + 1)
     sweep-past e =
@@ -177,7 +177,7 @@ module _ {types members : List ℕ} {i : ℕ} {image : List ℕ} {base first cou
           within : MemberWithin types i (sizesIn types i) (memberAt members (first + k))
           within = rw (v .first-is) (type-is .each k (omega (arith, l, v .count-is)))
 
-      -- is made normal
+      -- a plain row is made normal, with what is before it cleared: one row more
       pub sweep-on : {new : List ℕ} {r : ℕ}
           → OnwardTo (treeIn types members) base c (memberAt members (first + k)) now new r → length new ≡ length now
           → Sweeping types members i image base first count new r (k + 1)
@@ -219,7 +219,7 @@ module _ {types members : List ℕ} {i : ℕ} {image : List ℕ} {base first cou
         (v .stairs) in
         omega arith
 
-    -- the rest is cleared
+    -- after the last row, with the rest cleared, the structure is swept
     pub sweep-done : {new : List ℕ} {size : ℕ} → size ≡ sizesIn types i
         → new ≡ sets now (base + c) (replicate (size - c) 0)
         → flat new

@@ -42,7 +42,7 @@ module _ (a : Atomic) (n : ℕ) (s : List ℕ) where
   unfolding numbersOut
   numbers-put d v e = put-wrap 10 11 elements-plain d v e
 
-  -- the three cases of a value of atomics
+  -- a bit string, or an array of them, gives all its bits between brackets
   pub atomics-bits : bitString a ≡ true → length s ≡ sizeOf a * times n → bitsOut s (8 * length s) ≡ atomicsOut a n s
   unfolding atomicsOut
   atomics-bits b e = rw (b, e)

@@ -29,7 +29,7 @@ bits-plain s n = up-bodies (bitToken s) (λ k. unfold bodies in refl) n
 bits-length : (s : List ℕ) (n : ℕ) → length (upTo (bitToken s) n) ≡ n
 bits-length s n = up-ones (bitToken s) n (λ k. refl)
 
--- one bit more, so many bytes on
+-- where the entry of the next bit is put behind the others, one bit more is put
 pub next-bit : (d : ℕ) {x : ℕ} {out new last : List ℕ} {at k r : ℕ} → LowBits x out at k new → k < 8 → d ≡ 12 * k
     → r ≡ digit (bitOf x k) → last ≡ sets new (at + d) (entryBytes 1 r) → LowBits x out at (suc k) last
 unfolding upTo
@@ -93,7 +93,7 @@ byte-more {s} {first} {out} {new} {at} {p} {i} w h v =
       put = put-as (next-byte s i) (put-then (bits-plain s (8 * i)) (w .put) v);
     }
 
--- all bits, between the brackets
+-- n bits between the brackets are n + 2 entries
 pub bits-long : (s : List ℕ) (n : ℕ) → length (bitsOut s n) ≡ n + 2
 unfolding bitsOut
 bits-long s n = wrap-length 10 11 (upTo (bitToken s) n) ∙ omega (arith, bits-length s n)

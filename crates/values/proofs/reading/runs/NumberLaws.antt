@@ -50,7 +50,7 @@ long-form s at b =
     ∙ ap (number 2) (no-fill (signedForm (2 ^ 63) 0) (wordAt 8 s at) refl
     ∙ sym (no-fill (plainForm 2) (wordAt 8 s at) refl))
 
--- each atomic but BOOL
+-- the entry of any atomic but BOOL is its word, extended by its form
 pub number-form : (a : Atomic) (s : List ℕ) (at : ℕ) → Bytes s → (a ≡ atomic.Bool → ⊥)
     → emit (leafOf a) (flat (part s at (sizeOf a)))
     ≡ number (formOf a .kind) (extended (formOf a) (wordAt (sizeOf a) s at))
@@ -71,7 +71,7 @@ number-form atomic.Word s at b h = word-form 3 2 s at b
 number-form atomic.DWord s at b h = word-form 3 4 s at b
 number-form atomic.LWord s at b h = word-form 3 8 s at b
 
--- BOOL's byte
+-- the entry of a BOOL's byte says whether the byte is above 0
 pub truth-form : (s : List ℕ) (at : ℕ) → Bytes s → emit byte (flat (part s at 1)) ≡ bool (isTrue (getD s at 0))
 truth-form s at b = rw (← part-val 1 s at b, word-one)
 

@@ -52,14 +52,14 @@ run-start {at = at} {first = first} h =
     record { inside = omega arith; room = h; plain = unfold bodies in refl; put = put-none first at }
 
 module _ {g : ℕ → Token} {n at p i : ℕ} {first out : List ℕ} (w : NumbersRun g n first at out p i) where
-  -- the next entry has room
+  -- the entry of the next number has room
   pub run-room : i < n → p + 12 ≤ length out
   run-room h =
       let a = w .put .next in
       let b = w .room in
       omega (arith, length-ones g i, put-length (w .put))
 
-  -- it is put
+  -- where the entry of the next number is put, one number more is put
   pub run-on : {new : List ℕ} {kind payload : ℕ} → i < n → bodyOf (g i) ≡ [] → kindOf (g i) ≡ kind
       → payloadOf 0 (g i) ≡ payload → new ≡ sets out p (entryBytes kind payload)
       → NumbersRun g n first at new (p + 12) (i + 1)
@@ -83,7 +83,7 @@ module _ {g : ℕ → Token} {n at p i : ℕ} {first out : List ℕ} (w : Number
 
 -- ---- numbers of w bytes
 
--- number k
+-- the entry of number k, by its form
 abbrev pub formTokens : Form → ℕ → List ℕ → ℕ → Token
 formTokens f w s k = number (f .kind) (extended f (wordAt w s (w * k)))
 

@@ -34,7 +34,7 @@ module _ (capacity : ℕ) (image : List ℕ) (inside : 4 + capacity ≤ length i
       → base + text + textLength capacity image ≤ long
   text-room r = omega (arith, r .texts, bodies-long)
 
-  -- its entry, and its bytes among the bodies
+  -- where a text's entry and its bytes among the bodies are stored, the string is written
   pub text-wrote : {out mid new : List ℕ} {base at text n : ℕ} → n ≡ textLength capacity image
       → mid ≡ sets out at (entryBytes 6 (text + 2 ^ 32 * n))
       → new ≡ sets mid (base + text) (take (4 + n - 4) (drop 4 image))

@@ -163,7 +163,7 @@ module _ {types members image out new : List ℕ} {i first n base at text j p t 
 
 -- ---- a structure, or an array of structures, in a row
 
--- its number has room
+-- where a nested row's entries have room, its number has
 pub nested-room : (types members : List ℕ) (rec : ℕ → List ℕ → List Token) (j : ℕ) (x : Member) (image : List ℕ)
     {long base at text : ℕ} → isNested x ≡ true → StreamRoom long base at text (memberBy types members rec j x image)
     → at + 12 ≤ long

@@ -108,7 +108,7 @@ module _ {types members : List ℕ} {i from most first n : ℕ} {b t : Bool} {su
   abbrev Row : List ℕ → ℕ → List Token
   Row = rowBy types members (structOut types members) first
 
-  -- one more row
+  -- with the entries of a nested row added, one row more is counted
   pub rows-nested : {more : ℕ} {u : Bool} → j < n → sum ≤ most
       → Counted most sum (memberBy types members (structOut types members) j (memberAt members (first + j))) t u more
       → RowsCounted types members i from most first n b u more (j + 1)
@@ -123,7 +123,7 @@ module _ {types members : List ℕ} {i from most first n : ℕ} {b t : Bool} {su
         counted = run-on Row (w .counted) fits v;
       }
 
-  -- one that is no structure
+  -- with the entries of a row that is no structure added, one row more is counted
   pub rows-leaf : {more : ℕ} → j < n → sum ≤ most → isNested (memberAt members (first + j)) ≡ false
       → TextFree (leafOut j (memberAt members (first + j))) more
       → RowsCounted types members i from most first n b t (sum + more) (j + 1)
@@ -138,17 +138,17 @@ module _ {types members : List ℕ} {i from most first n : ℕ} {b t : Bool} {su
   unfolding membersBy
   members-are e image = rw (e, w .first-is, w .count-is)
 
-  -- above `most` before the last row
+  -- where the sum is above `most` before the last row, so are the entries of all rows
   pub rows-over : most < sum → Counted most from (membersBy types members (structOut types members) i) b t sum
   rows-over h = counted-same (run-over Row (w .counted) (w .inside) h) (members-are refl)
 
-  -- after the last row
+  -- after the last row the sum is that of all members
   pub rows-all : n ≤ j → Counted most from (membersBy types members (structOut types members) i) b t sum
   rows-all h = counted-same (w .counted) (members-are (omega (arith, w .inside)))
 
 -- ---- a nested row
 
--- the member's number and the structures that it names
+-- a nested row has its number's entry and those of the structures that it holds
 pub nested-counted : {types members : List ℕ} {i row most from sum : ℕ} {b t : Bool} {r : Nested} (j : ℕ)
     → NestedRow types members i row → HeldIn (memberAt members row) r
     → Counted most (from + 1) (structsBy types members (structOut types members) (r .structure) (r .count)) b t sum

@@ -114,7 +114,7 @@ module _ {types members : List ℕ} {i count : ℕ} {s : List ℕ} {k : ℕ} {im
       v .setting .onward (p + 1) now
       (elements-closed (v .asked .form) (write tree) (span tree) element-there (v .left) place h)
 
-  -- past the last place
+  -- past the last place the whole array is set
   pub elements-done : count ≤ e → Applied s k (p + 1) image now (write (array count tree) (8 * base) (leftAt s k))
   elements-done l =
       let none : v .left ≡ 0 = omega (arith, v .all) in

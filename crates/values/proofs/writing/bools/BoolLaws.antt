@@ -87,7 +87,7 @@ pub record BoolsSet (s : List ℕ) (k p : ℕ) (image : List ℕ) (n : ℕ) (new
 pub laid-none : {s : List ℕ} {k p : ℕ} {image : List ℕ} {n : ℕ} → n ≡ 0 → BoolsSet s k p image n image
 laid-none {s} {k} {p} {image} {n} e = record { long = refl; bits = rw e (sym (stamp-none p (truths s k) (flat image))) }
 
--- all of them
+-- where the first n bools are set, the n bits from p on are theirs
 pub laid-all : {s : List ℕ} {k p : ℕ} {image : List ℕ} {m : ℕ} {new : List ℕ} {n : ℕ} → BoolsSet s k p image m new
     → m ≡ n
     → flat new ≡ stamp p n (truths s k) (flat image)
@@ -106,7 +106,7 @@ laid-more {s} {k} {p} {image} {m} {new} q n b newer sum a e f long h g =
           ∙ rw (e, f) (stamp-two p m n (truths s k) (flat image));
     }
 
--- a byte of eight
+-- where a byte of eight bools is stored, eight bools more are set
 pub laid-byte : {s : List ℕ} {k : ℕ} {image new : List ℕ} (base b : ℕ) {x : ℕ}
     → BoolsSet s k (8 * base) image (8 * b) new → base + b < length new → x ≡ val 8 (truths s (k + 8 * b))
     → BoolsSet s k (8 * base) image (8 * (b + 1)) (set new (base + b) x)
@@ -115,7 +115,7 @@ laid-byte {s} {k} {image} {new} base b {x} a l e =
     (length-set new (base + b) x) (flat-set new (base + b) x l)
     (λ i h. ap (λ y. bitOf y i) e ∙ bit-val 8 (truths s (k + 8 * b)) i h ∙ truths-from s k (8 * b) i)
 
--- one bit
+-- where the bit of a bool is stored, one bool more is set
 pub laid-bit : {s : List ℕ} {k : ℕ} {image new : List ℕ} {newer : List ℕ} (at j : ℕ) {v : Bool}
     → BoolsSet s k (8 * at) image j new → length newer ≡ length new
     → flat newer ≡ stamp (8 * at + j) 1 (λ i. v) (flat new) → v ≡ eqb (getD s (8 + 12 * (k + j)) 0) 1

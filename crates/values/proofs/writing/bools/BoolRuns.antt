@@ -43,7 +43,7 @@ module _ {s : List ℕ} {k : ℕ} (t : EntryThere s k) (one : kindOf (t .token) 
       omega (arith, bool-byte, t .truth one, t .payload (λ six. omega arith)) in
       ap (λ x. eqb x 1) (low ∙ sym same)
 
--- the bools from a later one on
+-- the bools from entry k + m on are those from entry k on, m further
 pub truths-from : (s : List ℕ) (k m i : ℕ) → truths s (k + m) i ≡ truths s k (m + i)
 unfolding truths
 truths-from s k m i = ap (λ j. eqb (getD s j 0) 1) (omega arith)

@@ -212,7 +212,7 @@ module _ {types members : List ℕ} {i count : ℕ} {s : List ℕ} {n k p e : �
         (elements-closes (w .told .form) (write tree) (span tree) (w .rest) (w .place q) (sym is ∙ h))
 
     module _ (more-left : kind ≡ 11 → ⊥) {r : ℕ} where
-      -- past the last place
+      -- the way out with 20: an entry past the last place
       pub elements-past : e ≡ count → r ≡ 2 ^ 32 * 20 + p → ArrayAnswer r
       elements-past full h q =
           let none : w .rest ≡ 0 = omega (arith, w .all) in
@@ -240,7 +240,7 @@ module _ {types members : List ℕ} {i count : ℕ} {s : List ℕ} {n k p e : �
                 (refused-then (elements rest (write tree) (span tree) (w .place q + span tree))
                 (λ z. step rest (w .place q) z) h (c (w .place q)))
 
-        -- and one that is taken
+        -- where an element is taken, one element more is checked
         pub elements-on : r < 2 ^ 32 → ElementsChecked types members i count s n k r (e + 1)
         elements-on h = go (w .rest) (w .all) (w .left)
           where

@@ -176,7 +176,7 @@ module _ {types members : List ℕ} {i : ℕ} {s : List ℕ} {n k first count p 
           let named : kindOf (at-entry .token) ≡ 7 = sym (kind-there at-entry) ∙ sym is ∙ seven in
           at-entry .payload (λ x. let z : ⊥ = omega arith in z) ∙ sym payload
 
-      -- no visible row
+      -- the way out with 18: the number of no visible row
       pub members-unseen : {row r : ℕ} → row ≡ visibleRow members first count j → row ≡ mostMembers
           → r ≡ 2 ^ 32 * 18 + p
           → StructAnswer r
@@ -198,7 +198,7 @@ module _ {types members : List ℕ} {i : ℕ} {s : List ℕ} {n k first count p 
               (omega (arith, w .count-is)) (rw (w .first-is) at b)
           lost z (shows a b f) = absurd (let y : ⊥ = omega (arith, e, none, f, rows-inside) in y)
 
-      -- a visible row
+      -- a number with a visible row names that row
       pub row-named : {row : ℕ} → row ≡ visibleRow members first count j → (row ≡ mostMembers → ⊥)
           → RowNamed types members i s p row
       row-named {row} e some = go (visible members first count j)
@@ -235,13 +235,13 @@ module _ {types members : List ℕ} {i : ℕ} {s : List ℕ} {n k first count p 
     value-checked : (q : ℕ) → CheckedFrom s p r (valued q)
     value-checked q = checked-earlier (omega arith) (c (q + firstBit (memberAt members row)))
 
-    -- a member that is refused
+    -- where a member is refused, so is the structure
     pub members-refused : 2 ^ 32 ≤ r → StructAnswer r
     members-refused h q =
         w .left q .onward r
         (refused-then (membersIn (w .most) (one q)) (λ z. step (w .most) q z) h (value-checked q))
 
-    -- and one that is taken
+    -- where a member is taken, the next entry is a later one
     pub members-further : r < 2 ^ 32 → p < r
     members-further h = omega (arith, c 0 .goes h .further)
 

@@ -107,7 +107,7 @@ module _ {s : List ℕ} {n k kind : ℕ} (told : WellFormed s n) (is : kind ≡ 
       (opened-refuses (told .form) 10 (runIn a count p) (omega (arith, told .count)) (λ h. e (is ∙ h))
       (λ h. f (is ∙ h)) g)
 
--- an opening is an entry
+-- an opening is an entry of the stream, not its end
 pub opening : {s : List ℕ} {n kind : ℕ} (k : ℕ) → WellFormed s n → kind ≡ firstKind (leftAt s k) → kind ≡ 10 → k + 1 ≤ n
 opening {s} k told is e =
     let t : EntryThere s k = by-kind s k (told .form) (λ h. let z : ⊥ = omega (arith, h, is, e) in z) in
@@ -141,7 +141,7 @@ flag-one p ts z =
     ap (λ (takes : Token → Effect). writeOne (orNull takes) 1 p ts z) (sym (fun-ext flag-takes))
 
 module _ {s : List ℕ} {k r : ℕ} (m : Member) where
-  -- a BOOL's bit
+  -- where a member has a bit, the check of one BOOL is the check of the member
   pub member-bit : {b : ℕ} → m .bit ≡ At b → OneChecked s k r atomic.Bool → MemberChecked s k r m
   member-bit e c trees p = rw e (checked-as (λ z. flag-one p (leftAt s k) z) (c 1 p))
 

@@ -90,7 +90,7 @@ walked-start {s} {n} {k} takes count told l =
       left = λ w p. rw (all, none, mul-zero w, add-zero p) (onward-start inside);
     }
 
--- after the last
+-- after the last entry that an array can have, the answer at its end is that of the whole array
 pub walked-done : {s : List ℕ} {takes : Token → Effect} {n count k last q r : ℕ} → WellFormed s n
     → Walked s takes count k q
     → last ≡ min n (k + count) → last ≤ q → AtEnd s n q r → Answers s takes count k r

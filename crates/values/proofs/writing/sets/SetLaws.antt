@@ -77,7 +77,7 @@ clear-start out at n =
     let e : n - 0 ≡ n = omega arith in
     record { inside = omega arith; long = refl; left = rw (add-zero, e) refl }
 
--- one byte more is zero
+-- with one more zero stored, one byte more is zero
 pub clear-on : {first out : List ℕ} {at n i : ℕ} → Clearing first at n out i → i < n
     → Clearing first at n (set out (at + i) 0) (i + 1)
 clear-on {first} {out} {at} {n} {i} w h =
@@ -137,7 +137,7 @@ module _ {s : List ℕ} {k : ℕ} (t : EntryThere s k) (takes : Token → Effect
   not-refused z n h e =
       not-accepted (one-does z (not-null takes (t .token) (not-null-token n) ∙ e)) h
 
--- one atomic
+-- where an accepted number is stored in the bytes of an atomic, that write is applied
 pub atomic-set : {s : List ℕ} {k : ℕ} (t : EntryThere s k) (a : Atomic) (base : ℕ) {image new : List ℕ}
     → (firstKind (leftAt s k) ≡ 0 → ⊥) → base + sizeOf a ≤ length image
     → accepted (writeOne (orNull (atomicTakes a)) (8 * sizeOf a) (8 * base) (leftAt s k) (flat image)) ≡ true

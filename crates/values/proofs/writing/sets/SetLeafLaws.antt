@@ -83,7 +83,7 @@ module _ {members : List ℕ} {row base : ℕ} {image : List ℕ} {m : Member} {
         let at : 8 * base + 8 * m .offset ≡ 8 * (base + from) = omega (arith, w .start) in
         rw (← w .is, none, e, w .count) (ap (λ (p : ℕ). write (atomicsTree a (m .count)) p ts z) at)
 
-  -- and it is no structure
+  -- a visible row that is not nested and has no bit is no structure
   pub nested-never : {i : ℕ} → m .bit ≡ None → m .ty ≡ ty.Struct i → ⊥
   unfolding isNested
   nested-never none e =

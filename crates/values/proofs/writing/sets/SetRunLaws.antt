@@ -79,7 +79,7 @@ numbers-start {n} {s} {k} {image} {base} {size} =
 module _ {n : ℕ} {s : List ℕ} {k : ℕ} {image : List ℕ} {base size : ℕ} {now : List ℕ} {p : ℕ}
     (v : Numbers n s k image base size now p) where
   module _ {a : Atomic} (w : NumbersAsked a n s k image base size) where
-    -- the next entry is there
+    -- where an array of numbers is accepted, its next entry is there
     pub numbers-there : EntryThere s p
     numbers-there =
         elements-there (w .form) (n - (p - k)) (oneOf a) (8 * sizeOf a) (8 * (base + sizeOf a * (p - k))) (flat now)
@@ -165,7 +165,7 @@ module _ {n : ℕ} {s : List ℕ} {k : ℕ} {image : List ℕ} {base size : ℕ}
 -- ---- one bit string
 
 module _ {s : List ℕ} {k : ℕ} (form : streamOk s ≡ true) (a : Atomic) (base : ℕ) (bits : bitString a ≡ true) where
-  -- its entry is there
+  -- where a bit string is accepted, its entry is there
   pub bits-there : (z : Bits) → accepted (write (atomicsTree a 0) (8 * base) (leftAt s k) z) ≡ true → EntryThere s k
   bits-there z h = go (decLt k (countIn s))
     where
