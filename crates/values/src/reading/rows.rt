@@ -88,13 +88,15 @@ pub fn is_nested(members: &MemberTable, row: usize) -> bool
     }
 }
 
-// The structure that a row holds, or how many of it; and where in the row's own structure it begins.
+// A structure that a row holds: its number, how many there are of it, 0 for one that is no array, and where in the
+// row's own structure it begins.
 pub struct Nested {
     pub structure: usize,
     pub count: usize,
     pub start: usize,
 }
 
+// No row that holds a structure is an atomic's.
 pub fn nested_in(members: &MemberTable, row: usize) -> Nested
     requires { ⌜ (row < mostMembers) × (isNested (memberAt (now members) row) ≡ true) ⌝ }
     ensures { λ r. ⌜ HeldIn (memberAt (now (members .entry)) row) r ⌝ }
