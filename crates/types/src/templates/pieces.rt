@@ -134,7 +134,8 @@ pub fn emit_shown(names: &[u8], d: StructDef, sink: Sink, out: &mut [u8]) -> Sin
     }
 }
 
-// Each member's name and 0.
+// Each member's name and 0. The loop begins as that of `emit_infos`: there are no function values to hand one loop what
+// it does at a row.
 pub fn emit_names(
     members: &MemberTable,
     names: &[u8],
