@@ -1,5 +1,7 @@
 // The program `answers`: the public calls behind questions and answers in frames on standard input and output. The
 // library `replies` says what each question is answered with. The tables live for the run.
+#![tactic(auto)]
+
 ghost use Rattle.types.specs.tables.Kept.{Kept};
 
 use frames::{Next, START, answer_room, next_frame, room, send_frame};

@@ -19,7 +19,8 @@ accepts bytes answer = same_bytes (take 5 answer) zeros && same_bytes (drop 5 an
 -- form 1: any refusal, 1 to 254; after that of a write the image stands as it was
 unfoldable pub refuses : ℕ → List ℕ → List ℕ → Bool
 refuses kind image answer =
-    leb 1 (get_or answer 0 0) && leb (get_or answer 0 0) 254 && cond (eqb kind 6) (same_bytes (drop 5 answer) image) true
+    leb 1 (get_or answer 0 0) && leb (get_or answer 0 0) 254
+    && cond (eqb kind 6) (same_bytes (drop 5 answer) image) true
 
 -- form 2: exactly these bytes, a refusal's number and place and after that of a write the image
 abbrev pub in_form : ℕ → ℕ → List ℕ → List ℕ → Bool

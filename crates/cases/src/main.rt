@@ -1,6 +1,8 @@
 // The program `cases`: replays recorded answers. Standard input has cases, each two frames, a question and what is
 // expected of its answer; the library `replies` answers, as in program `answers`. A line is printed for each case whose
 // answer is another, numbered from 0, and at the end how many there were.
+#![tactic(auto)]
+
 ghost use Rattle.types.specs.tables.Kept.{Kept};
 
 mod expected;

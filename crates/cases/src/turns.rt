@@ -9,7 +9,7 @@ use replies::answer;
 use types::{MemberTable, NameTable, TypeTable};
 
 // A case whose answer is as expected or another, one that is cut short, or the end of the input.
-#[derive(Drop)]
+#[derive(Clone, Copy)]
 pub enum Turn {
     Same,
     Other,

@@ -5,7 +5,7 @@ ghost use Rattle.frames.specs.inside.Reading.{FrameIn, NextIn};
 use words::load32;
 
 // How many bytes a frame has, that the input ended before it, or that it is cut short or longer than its room.
-#[derive(Drop)]
+#[derive(Clone, Copy)]
 pub enum Frame {
     Bytes(usize),
     End,
@@ -41,7 +41,7 @@ pub fn read_frame(room: &mut [u8]) -> Frame
 }
 
 // How many bytes the next frame has, where it does not matter why there is none.
-#[derive(Drop)]
+#[derive(Clone, Copy)]
 pub enum Next {
     Bytes(usize),
     Nothing,

@@ -1,5 +1,7 @@
 // The program `handles`: the structure handle of template bytes (document 01, "Template and handle"). A frame of bytes
 // on standard input is answered by a frame of two: their handle.
+#![tactic(auto)]
+
 use frames::{Next, START, next_frame, room, send_frame};
 use types::structure_handle;
 use words::store16;

@@ -1,5 +1,7 @@
 // The program `layout` (document 01, end of "Reference cases"): reads a declaration book from standard input and
 // lists its types on standard output, or the refusal's number and place. A book above 65,536 bytes is refused with 1.
+#![tactic(auto)]
+
 ghost use Rattle.std.specs.Prelude.{◌≡◌, length};
 
 mod lines;

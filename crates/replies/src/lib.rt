@@ -1,6 +1,8 @@
 // The answer to a question, in bytes: the public calls of `types` and `values` behind one call. The first byte of a
 // question is its kind; an answer begins with a refusal's number and place, and what was asked for follows where the
 // number is 0. Kinds 1 to 10.
+#![tactic(auto)]
+
 mod describe;
 mod kinds;
 mod normals;

@@ -1,9 +1,9 @@
 -- The laws of crate `types` that the crates above it cite: what tables that our own calls left are known to be, and a
 -- few small ones.
 pub use Rattle.types.proofs.adding.AddLaws.{every_append}
-pub use Rattle.types.proofs.layout.LayoutLaws.{times-one, times-same}
+pub use Rattle.types.proofs.layout.LayoutLaws.{times_one, times_same}
 pub use Rattle.types.proofs.layout.StringLaws.{StringRow}
-pub use Rattle.types.proofs.refusals.SaidLaws.{why-same}
-pub use Rattle.types.proofs.shape.ShapeLaws.{there-fits}
+pub use Rattle.types.proofs.refusals.SaidLaws.{why_same}
+pub use Rattle.types.proofs.shape.ShapeLaws.{there_fits}
 pub use Rattle.types.proofs.tables.GoodLaws.{row_lies}
-pub use Rattle.types.proofs.tables.KeptLaws.{RowIs, TypeRow, build-kept, empty, holds, kept_row, none_kept}
+pub use Rattle.types.proofs.tables.KeptLaws.{RowIs, TypeRow, build_kept, empty, holds, kept_row, none_kept}

@@ -1,5 +1,7 @@
 // Types and layouts (document 01's first crate): a declaration book is built into lent tables, and the tables
 // answer for their types: rows, templates, headers, waste, tag shapes, listings.
+#![tactic(auto)]
+
 mod adding;
 mod atomics;
 mod book;

@@ -19,9 +19,9 @@ pub copy_start : (out : List ℕ) (at : ℕ) (s : List ℕ) → Copying out at s
 copy_start out at s = record { inside = omega arith; long = refl; left = rw add-zero }
 
 -- the next byte is stored at its place, and those after it are left
-pub copy-on : {first out s : List ℕ} {at i : ℕ} → Copying first at s out i → i < length s
+pub copy_on : {first out s : List ℕ} {at i : ℕ} → Copying first at s out i → i < length s
     → Copying first at s (set out (at + i) (get_or s i 0)) (i + 1)
-copy-on {first} {out} {s} {at} {i} w h =
+copy_on {first} {out} {s} {at} {i} w h =
     let e : at + (i + 1) ≡ suc (at + i) = omega arith in
     record {
       inside = omega arith;

@@ -12,34 +12,34 @@ use lib.Dec.{eqb}
 use lib.ListN.{length, get_or, set}
 use lib.Pow.{pow-add}
 use lib.Seq.{sets}
-use Rattle.words.proofs.BitLaws.{BitLies, among, beside, bit-first, flat-with, lies}
+use Rattle.words.proofs.BitLaws.{BitLies, among, beside, bit_first, flat_with, lies}
 use Rattle.words.proofs.Lists.{get_d_sets, get_d_beside}
-use Rattle.words.proofs.WordLaws.{length-bytes}
+use Rattle.words.proofs.WordLaws.{length_bytes}
 use Rattle.words.specs.Bits.{Bits, bit_of, flat, from, inside, stamp, with_bit}
 use Rattle.words.specs.Words.{bytes_of}
 
 -- bits that agree where they are put
-pub stamp-ext : (p n : ℕ) (b c z : Bits) → ((k : ℕ) → k < n → b k ≡ c k) → stamp p n b z ≡ stamp p n c z
+pub stamp_ext : (p n : ℕ) (b c z : Bits) → ((k : ℕ) → k < n → b k ≡ c k) → stamp p n b z ≡ stamp p n c z
 unfolding stamp
-stamp-ext p n b c z h = fun_ext (λ k. go k (lies p n k))
+stamp_ext p n b c z h = fun_ext (λ k. go k (lies p n k))
   where
     go : (k : ℕ) → BitLies p n k → cond (inside p n k) (b (k - p)) (z k) ≡ cond (inside p n k) (c (k - p)) (z k)
     go k (among l m e) = rw e (h (k - p) (omega arith))
     go k (beside f e) = rw e refl
 
 -- no bits put over others leave these as they are
-pub stamp-none : (p : ℕ) (b z : Bits) → stamp p 0 b z ≡ z
+pub stamp_none : (p : ℕ) (b z : Bits) → stamp p 0 b z ≡ z
 unfolding stamp
-stamp-none p b z = fun_ext (λ k. go k (lies p 0 k))
+stamp_none p b z = fun_ext (λ k. go k (lies p 0 k))
   where
     go : (k : ℕ) → BitLies p 0 k → cond (inside p 0 k) (b (k - p)) (z k) ≡ z k
     go k (among l m e) = absurd (let y : ⊥ = omega arith in y)
     go k (beside f e) = rw e refl
 
 -- two runs put one after the other are put as one
-pub stamp-two : (p m n : ℕ) (b z : Bits) → stamp (p + m) n (from m b) (stamp p m b z) ≡ stamp p (m + n) b z
+pub stamp_two : (p m n : ℕ) (b z : Bits) → stamp (p + m) n (from m b) (stamp p m b z) ≡ stamp p (m + n) b z
 unfolding stamp
-stamp-two p m n b z = fun_ext (λ k. go k (lies (p + m) n k) (lies p m k) (lies p (m + n) k) (dec_lt k (p + m)))
+stamp_two p m n b z = fun_ext (λ k. go k (lies (p + m) n k) (lies p m k) (lies p (m + n) k) (dec_lt k (p + m)))
   where
     go : (k : ℕ) → BitLies (p + m) n k → BitLies p m k → BitLies p (m + n) k → Dec (k < p + m)
         → cond (inside (p + m) n k) (b (m + (k - (p + m)))) (cond (inside p m k) (b (k - p)) (z k))
@@ -53,10 +53,10 @@ stamp-two p m n b z = fun_ext (λ k. go k (lies (p + m) n k) (lies p m k) (lies 
     go k (beside f1 e1) (beside f2 e2) (beside f3 e3) d = rw (e1, e2, e3) refl
 
 -- bytes stored in an image are their bits put over the image's from there on
-pub flat-sets : (image : List ℕ) (at : ℕ) (bs : List ℕ) → at + length bs ≤ length image
+pub flat_sets : (image : List ℕ) (at : ℕ) (bs : List ℕ) → at + length bs ≤ length image
     → flat (sets image at bs) ≡ stamp (8 * at) (8 * length bs) (flat bs) (flat image)
 unfolding flat stamp
-flat-sets image at bs l =
+flat_sets image at bs l =
     fun_ext (λ k. go k (lies (8 * at) (8 * length bs) k) (dec_lt (k / 8) at) (dec_lt (k / 8) (at + length bs)))
   where
     go : (k : ℕ) → BitLies (8 * at) (8 * length bs) k → Dec (k / 8 < at) → Dec (k / 8 < at + length bs)
@@ -82,7 +82,7 @@ low_bit zero r q k l = absurd (let y : ⊥ = omega arith in y)
 low_bit (suc n) r q zero l =
     let f : 2 ^ suc n * q ≡ 2 * (2 ^ n * q) = rw pow-succ' (mul_assoc 2 (2 ^ n) q) in
     let e : (r + 2 ^ suc n * q) % 2 ≡ r % 2 = omega arith in
-    bit-first (r + 2 ^ suc n * q) ∙ ap (λ (v : ℕ). eqb v 1) e ∙ sym (bit-first r)
+    bit_first (r + 2 ^ suc n * q) ∙ ap (λ (v : ℕ). eqb v 1) e ∙ sym (bit_first r)
 low_bit (suc n) r q (suc k) l =
     let f : 2 ^ suc n * q ≡ 2 * (2 ^ n * q) = rw pow-succ' (mul_assoc 2 (2 ^ n) q) in
     let e : (r + 2 ^ suc n * q) / 2 ^ 1 ≡ r / 2 ^ 1 + 2 ^ n * q = omega arith in
@@ -91,9 +91,9 @@ low_bit (suc n) r q (suc k) l =
     ∙ low_bit n (r / 2 ^ 1) q k (omega arith) ∙ sym (high_bit 1 r k) ∙ ap (bit_of r) (sym g)
 
 -- the bits of a list's first byte, and of those after it
-flat-first : (b : ℕ) (bs : List ℕ) (k : ℕ) → k < 8 → flat (b ∷ bs) k ≡ bit_of b k
+flat_first : (b : ℕ) (bs : List ℕ) (k : ℕ) → k < 8 → flat (b ∷ bs) k ≡ bit_of b k
 unfolding flat
-flat-first b bs k l =
+flat_first b bs k l =
     let e : k / 8 ≡ 0 = omega arith in
     let f : k % 8 ≡ k = omega arith in
     rw (e, f) refl
@@ -106,16 +106,16 @@ flat_after b bs k =
     rw (e, f) refl
 
 -- the bits of a number's w low bytes are the number's
-pub flat-bytes : (w x k : ℕ) → k < 8 * w → flat (bytes_of w x) k ≡ bit_of x k
+pub flat_bytes : (w x k : ℕ) → k < 8 * w → flat (bytes_of w x) k ≡ bit_of x k
 unfolding bytes_of
-flat-bytes zero x k l = absurd (let y : ⊥ = omega arith in y)
-flat-bytes (suc w) x k l = go (dec_lt k 8) (λ j h. flat-bytes w (x / 256) j h)
+flat_bytes zero x k l = absurd (let y : ⊥ = omega arith in y)
+flat_bytes (suc w) x k l = go (dec_lt k 8) (λ j h. flat_bytes w (x / 256) j h)
   where
     go : Dec (k < 8) → ((j : ℕ) → j < 8 * w → flat (bytes_of w (x / 256)) j ≡ bit_of (x / 256) j)
         → flat (x % 256 ∷ bytes_of w (x / 256)) k ≡ bit_of x k
     go (yes h) rest =
         let e : x % 256 + 2 ^ 8 * (x / 256) ≡ x = omega arith in
-        flat-first (x % 256) (bytes_of w (x / 256)) k h ∙ sym (low_bit 8 (x % 256) (x / 256) k h)
+        flat_first (x % 256) (bytes_of w (x / 256)) k h ∙ sym (low_bit 8 (x % 256) (x / 256) k h)
         ∙ ap (λ (v : ℕ). bit_of v k) e
     go (no h) rest =
         let e : k ≡ 8 + (k - 8) = omega (arith, h) in
@@ -126,9 +126,9 @@ flat-bytes (suc w) x k l = go (dec_lt k 8) (λ j h. flat-bytes w (x / 256) j h)
 pub flat_word : (image : List ℕ) (at w x : ℕ) → at + w ≤ length image
     → flat (sets image at (bytes_of w x)) ≡ stamp (8 * at) (8 * w) (bit_of x) (flat image)
 flat_word image at w x l =
-    flat-sets image at (bytes_of w x) (omega (arith, length-bytes w x))
-    ∙ ap (λ (n : ℕ). stamp (8 * at) (8 * n) (flat (bytes_of w x)) (flat image)) (length-bytes w x)
-    ∙ stamp-ext (8 * at) (8 * w) (flat (bytes_of w x)) (bit_of x) (flat image) (λ k h. flat-bytes w x k h)
+    flat_sets image at (bytes_of w x) (omega (arith, length_bytes w x))
+    ∙ ap (λ (n : ℕ). stamp (8 * at) (8 * n) (flat (bytes_of w x)) (flat image)) (length_bytes w x)
+    ∙ stamp_ext (8 * at) (8 * w) (flat (bytes_of w x)) (bit_of x) (flat image) (λ k h. flat_bytes w x k h)
 
 -- a bit that is not inside is not from p on and before p + n
 outside : (p n k : ℕ) → inside p n k ≡ false → p ≤ k → k < p + n → ⊥
@@ -139,8 +139,8 @@ outside p n k h = go (lies p n k)
     go (beside f e) = f
 
 -- a bit that is not from p on and before p + n is none of the n bits from p on
-pub not-inside : (p n k : ℕ) → (p ≤ k → k < p + n → ⊥) → inside p n k ≡ false
-not-inside p n k h = go (lies p n k)
+pub not_inside : (p n k : ℕ) → (p ≤ k → k < p + n → ⊥) → inside p n k ≡ false
+not_inside p n k h = go (lies p n k)
   where
     go : BitLies p n k → inside p n k ≡ false
     go (among a b e) = absurd (h a b)
@@ -148,37 +148,37 @@ not-inside p n k h = go (lies p n k)
 
 -- what is not inside both parts of a run is not inside the first
 pub first_part : (p m n k : ℕ) → inside p (m + n) k ≡ false → inside p m k ≡ false
-first_part p m n k h = not-inside p m k (λ a b. outside p (m + n) k h a (omega arith))
+first_part p m n k h = not_inside p m k (λ a b. outside p (m + n) k h a (omega arith))
 
 -- what is not inside both parts of a run is not inside the second
-pub second-part : (p m n k : ℕ) → inside p (m + n) k ≡ false → inside (p + m) n k ≡ false
-second-part p m n k h = not-inside (p + m) n k (λ a b. outside p (m + n) k h (omega arith) (omega arith))
+pub second_part : (p m n k : ℕ) → inside p (m + n) k ≡ false → inside (p + m) n k ≡ false
+second_part p m n k h = not_inside (p + m) n k (λ a b. outside p (m + n) k h (omega arith) (omega arith))
 
 -- what is inside neither part of a run is not inside both
-pub both-parts : (p m n k : ℕ) → inside p m k ≡ false → inside (p + m) n k ≡ false → inside p (m + n) k ≡ false
-both-parts p m n k h g = not-inside p (m + n) k (λ a b. go a b (dec_lt k (p + m)))
+pub both_parts : (p m n k : ℕ) → inside p m k ≡ false → inside (p + m) n k ≡ false → inside p (m + n) k ≡ false
+both_parts p m n k h g = not_inside p (m + n) k (λ a b. go a b (dec_lt k (p + m)))
   where
     go : p ≤ k → k < p + (m + n) → Dec (k < p + m) → ⊥
     go a b (yes l) = outside p m k h a l
     go a b (no l) = outside (p + m) n k g (omega (arith, l)) (omega arith)
 
 -- a bit that is not inside stays as it was
-pub stamp-beside : (p n : ℕ) (b z : Bits) (k : ℕ) → inside p n k ≡ false → stamp p n b z k ≡ z k
+pub stamp_beside : (p n : ℕ) (b z : Bits) (k : ℕ) → inside p n k ≡ false → stamp p n b z k ≡ z k
 unfolding stamp
-stamp-beside p n b z k e = rw e refl
+stamp_beside p n b z k e = rw e refl
 
 -- a bit from p on and before p + n is one of the n bits from p on
-pub yes-inside : (p n k : ℕ) → p ≤ k → k < p + n → inside p n k ≡ true
-yes-inside p n k u v = go (lies p n k)
+pub yes_inside : (p n k : ℕ) → p ≤ k → k < p + n → inside p n k ≡ true
+yes_inside p n k u v = go (lies p n k)
   where
     go : BitLies p n k → inside p n k ≡ true
     go (among x y e) = e
     go (beside q e) = absurd (q u v)
 
 -- bits put over others that were put in the same place
-pub stamp-again : (p n : ℕ) (b c z : Bits) → stamp p n b (stamp p n c z) ≡ stamp p n b z
+pub stamp_again : (p n : ℕ) (b c z : Bits) → stamp p n b (stamp p n c z) ≡ stamp p n b z
 unfolding stamp
-stamp-again p n b c z = fun_ext (λ k. go k (inside p n k))
+stamp_again p n b c z = fun_ext (λ k. go k (inside p n k))
   where
     go : (k : ℕ) (t : Bool) → cond t (b (k - p)) (cond t (c (k - p)) (z k)) ≡ cond t (b (k - p)) (z k)
     go k true = refl
@@ -187,41 +187,41 @@ stamp-again p n b c z = fun_ext (λ k. go k (inside p n k))
 -- ---- one bit put over others
 
 -- a byte with one bit set, stored: that bit is put over the others
-pub flat-bit : (image : List ℕ) (at b : ℕ) {x : ℕ} (v : Bool) → x ≡ with_bit (get_or image at 0) b v → at < length image
+pub flat_bit : (image : List ℕ) (at b : ℕ) {x : ℕ} (v : Bool) → x ≡ with_bit (get_or image at 0) b v → at < length image
     → b < 8
     → flat (set image at x) ≡ stamp (8 * at + b) 1 (λ i. v) (flat image)
-flat-bit image at b {x} v e l h = ap (λ y. flat (set image at y)) e ∙ flat-with image at b v l h
+flat_bit image at b {x} v e l h = ap (λ y. flat (set image at y)) e ∙ flat_with image at b v l h
 
 -- one bit of some others, put where it goes
 pub one_bit : (q r j : ℕ) (v : Bool) (b z : Bits) → q ≡ r → v ≡ b j → stamp q 1 (λ i. v) z ≡ stamp r 1 (from j b) z
 one_bit q r j v b z e h =
     ap (λ (p : ℕ). stamp p 1 (λ i. v) z) e
-    ∙ stamp-ext r 1 (λ i. v) (from j b) z (λ i l. let f : j ≡ j + i = omega arith in h ∙ ap b f)
+    ∙ stamp_ext r 1 (λ i. v) (from j b) z (λ i l. let f : j ≡ j + i = omega arith in h ∙ ap b f)
 
 -- a bit that is put where a test says so changes none before it
-pub cond-beside : (c : Bool) (k i : ℕ) (b z : Bits) → i < k → cond c (stamp k 1 b z) z i ≡ z i
+pub cond_beside : (c : Bool) (k i : ℕ) (b z : Bits) → i < k → cond c (stamp k 1 b z) z i ≡ z i
 unfolding stamp
-cond-beside true k i b z l = go (lies k 1 i)
+cond_beside true k i b z l = go (lies k 1 i)
   where
     go : BitLies k 1 i → cond (inside k 1 i) (b (i - k)) (z i) ≡ z i
     go (among m n e) = absurd (let y : ⊥ = omega arith in y)
     go (beside f e) = rw e refl
-cond-beside false k i b z l = refl
+cond_beside false k i b z l = refl
 
 -- and is there where the test is passed
-pub cond-own : (c : Bool) (k i q : ℕ) (b z : Bits) → i ≡ k → c ≡ true → cond c (stamp k 1 (from q b) z) z i ≡ b q
+pub cond_own : (c : Bool) (k i q : ℕ) (b z : Bits) → i ≡ k → c ≡ true → cond c (stamp k 1 (from q b) z) z i ≡ b q
 unfolding stamp
-cond-own c k i q b z e h = rw h (go (lies k 1 i))
+cond_own c k i q b z e h = rw h (go (lies k 1 i))
   where
     go : BitLies k 1 i → cond (inside k 1 i) (b (q + (i - k))) (z i) ≡ b q
     go (among m n f) = let g : q + (i - k) ≡ q = omega arith in rw f (ap b g)
     go (beside f g) = absurd (f (omega arith) (omega arith))
 
 -- a bit of x that was put elsewhere, put back: beside what else is x's, that bit is
-pub one-back : (b x : Bits) (q j : ℕ) (y : Bits) (k : ℕ) (h : Bool) → b j ≡ x q
+pub one_back : (b x : Bits) (q j : ℕ) (y : Bits) (k : ℕ) (h : Bool) → b j ≡ x q
     → cond h (x k) (stamp q 1 (from j b) y k) ≡ cond (inside q 1 k || h) (x k) (y k)
 unfolding stamp
-one-back b x q j y k h e = go (lies q 1 k) h
+one_back b x q j y k h e = go (lies q 1 k) h
   where
     go : BitLies q 1 k → (h : Bool)
         → cond h (x k) (cond (inside q 1 k) (b (j + (k - q))) (y k)) ≡ cond (inside q 1 k || h) (x k) (y k)

@@ -16,9 +16,9 @@ and_right true b e = e
 and_right false b e = cc
 
 -- where the second of two tests is failed, not both are passed
-pub and-off : (a b : Bool) → b ≡ false → (a && b) ≡ false
-and-off true b e = e
-and-off false b e = refl
+pub and_off : (a b : Bool) → b ≡ false → (a && b) ≡ false
+and_off true b e = e
+and_off false b e = refl
 
 -- where the first of two tests is passed, one of them is
 pub or_left : (a b : Bool) → a ≡ true → (a || b) ≡ true
@@ -53,18 +53,18 @@ cond_same true u = refl
 cond_same false u = refl
 
 -- where neither of two tests is true, the first is false
-pub or-first : (a b : Bool) → (a || b) ≡ false → a ≡ false
-or-first true b e = e
-or-first false b e = refl
+pub or_first : (a b : Bool) → (a || b) ≡ false → a ≡ false
+or_first true b e = e
+or_first false b e = refl
 
 -- where neither of two tests is true, the second is false
-pub or-second : (a b : Bool) → (a || b) ≡ false → b ≡ false
-or-second true b e = absurd (true≢false e)
-or-second false b e = e
+pub or_second : (a b : Bool) → (a || b) ≡ false → b ≡ false
+or_second true b e = absurd (true≢false e)
+or_second false b e = e
 
 -- of two false tests neither is true
-pub or-none : (a b : Bool) → a ≡ false → b ≡ false → (a || b) ≡ false
-or-none a b e f = rw (e, f) refl
+pub or_none : (a b : Bool) → a ≡ false → b ≡ false → (a || b) ≡ false
+or_none a b e f = rw (e, f) refl
 
 -- a test that cannot be true is false
 pub not-true : (b : Bool) → (b ≡ true → ⊥) → b ≡ false

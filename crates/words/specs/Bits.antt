@@ -1,5 +1,6 @@
 -- A list of bytes seen as bits: bit k of a number and of a list, the number of some bits, and bits put over others.
-use Rattle.std.specs.Prelude.{ℕ, zero, suc, ◌+◌, ◌-◌, ◌*◌, ◌/◌, ◌%◌, ◌^◌, Bool, true, false, cond, not, ◌&&◌, List, eqb, ltb, get_or}
+use Rattle.std.specs.Prelude.{ℕ, zero, suc, ◌+◌, ◌-◌, ◌*◌, ◌/◌, ◌%◌, ◌^◌, Bool, true, false, cond, not, ◌&&◌, List, eqb}
+use Rattle.std.specs.Prelude.{ltb, get_or}
 use Rattle.std.specs.Int.Bits.{bit_and, bit_or}
 
 abbrev pub Bits : Type 0

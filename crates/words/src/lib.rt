@@ -1,5 +1,7 @@
 // Little-endian words and single bits of byte slices: the few functions, and all the laws, that the
 // crates `types` and `values` share. Each function asks only that its place lies inside the slice.
+#![tactic(auto)]
+
 mod bits;
 mod bounds;
 mod load;

@@ -1,5 +1,5 @@
-// Little-endian words read from a place of a slice: a function for each width, since there are no generics. A word is
-// its two halves, so that one law, over the width, serves every width.
+// Little-endian words read from a place of a slice, with a function for each width. A word is its two halves, so that
+// one law, over the width, serves every width.
 ghost use Rattle.std.specs.Prelude.{◌≡◌, ◌+◌, ◌≤◌, length};
 ghost use Rattle.words.specs.Words.{word_at};
 

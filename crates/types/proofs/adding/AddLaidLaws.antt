@@ -20,19 +20,19 @@ use Rattle.types.specs.declared.adding.new_types.NewType.{NewType}
 use Rattle.types.specs.declared.layout.measure.Measured.TheVariants.{Came, AccessWrong, TooFar}
 use Rattle.types.specs.declared.layout.placing.Cursor.{Cursor}
 use Rattle.types.specs.declared.layout.placing.Decl.{Decl}
-use Rattle.types.proofs.adding.AddLaws.{type-fits, string-fits}
-use Rattle.types.proofs.adding.AddStoreLaws.{declared-found, decls-able, decl-inside, decls-named, Roomy}
+use Rattle.types.proofs.adding.AddLaws.{type_fits, string_fits}
+use Rattle.types.proofs.adding.AddStoreLaws.{declared_found, decls_able, decl_inside, decls_named, Roomy}
 use Rattle.types.proofs.adding.AddStoreLaws.{PartsCounted}
-use Rattle.types.proofs.layout.BoundLaws.{type-count, type-names, type-most}
-use Rattle.types.proofs.layout.LaidOutLaws.{laid-passes}
+use Rattle.types.proofs.layout.BoundLaws.{type_count, type_names, type_most}
+use Rattle.types.proofs.layout.LaidOutLaws.{laid_passes}
 
 -- ---- strings
 
 -- a string has two parts, with seven bytes of names beside its own name
-pub string-counted : (name : List ℕ) (capacity n : ℕ) → PartsCounted name (string_parts capacity) n 2 (length name + 7)
+pub string_counted : (name : List ℕ) (capacity n : ℕ) → PartsCounted name (string_parts capacity) n 2 (length name + 7)
 unfolding string_parts names_of
-string-counted name capacity n =
-    record { count = refl; long = length-append name _; fit = string-fits n capacity }
+string_counted name capacity n =
+    record { count = refl; long = length-append name _; fit = string_fits n capacity }
 
 -- ---- UDTs and AOIs
 
@@ -42,22 +42,22 @@ module _ (v : View) (book name : List ℕ) (new : NewType) (ds : List Decl) wher
   verdict = add_laid v book new.number new.aoi name new.id ds
 
   -- where a member's access is wrong, the verdict is refusal 11 with the type's number
-  pub laid-access : AccessWrong ≡ measured_of new.aoi name ds → verdict ≡ no (11, new.number)
+  pub laid_access : AccessWrong ≡ measured_of new.aoi name ds → verdict ≡ no (11, new.number)
   unfolding add_laid
-  laid-access q = rw (laid-passes new.aoi (named_in book) name ds, ← q)
+  laid_access q = rw (laid_passes new.aoi (named_in book) name ds, ← q)
 
   -- where a member ends too far, the verdict is refusal 12 with the type's number
-  pub laid-far : TooFar ≡ measured_of new.aoi name ds → verdict ≡ no (12, new.number)
+  pub laid_far : TooFar ≡ measured_of new.aoi name ds → verdict ≡ no (12, new.number)
   unfolding add_laid
-  laid-far q = rw (laid-passes new.aoi (named_in book) name ds, ← q)
+  laid_far q = rw (laid_passes new.aoi (named_in book) name ds, ← q)
 
   -- where all members are measured, the verdict is the new type of the rounded size, or 13
-  pub laid-fitted : {c : Cursor} {long : ℕ} → Came c long ≡ measured_of new.aoi name ds
+  pub laid_fitted : {c : Cursor} {long : ℕ} → Came c long ≡ measured_of new.aoi name ds
       → verdict
       ≡ fitted v new.number
       (new_def v name new.id (rounded_size c) (laid_kind new.aoi) (parts_of new.aoi (named_in book) name ds))
   unfolding add_laid
-  laid-fitted q = rw (laid-passes new.aoi (named_in book) name ds, ← q)
+  laid_fitted q = rw (laid_passes new.aoi (named_in book) name ds, ← q)
 
 module _ {types names book tys : List ℕ} (new : NewType) (ready : Usable types names new.used)
     (d : Declared book tys new.used.types new.at new.count) (name : List ℕ) {c : Cursor} {long : ℕ}
@@ -68,41 +68,41 @@ module _ {types names book tys : List ℕ} (new : NewType) (ready : Usable types
   abbrev parts : List Part
   parts = parts_of new.aoi (named_in book) name ds
 
-  names-long : length (names_of parts) ≡ long
-  names-long = type-names new.aoi (named_in book) name ds c long (sym q) (decls-named d types)
+  names_long : length (names_of parts) ≡ long
+  names_long = type_names new.aoi (named_in book) name ds c long (sym q) (decls_named d types)
 
   -- a measured type has as many parts and bytes of names as were measured, and rows can hold its parts
-  pub laid-counted : Bytes book → PartsCounted name parts new.used.types c.members (length name + long)
-  laid-counted b =
+  pub laid_counted : Bytes book → PartsCounted name parts new.used.types c.members (length name + long)
+  laid_counted b =
       record {
-        count = type-count new.aoi (named_in book) name ds c long (sym q);
-        long = length-append name (names_of parts) ∙ rw names-long;
-        fit = type-fits new.aoi new.used.types (named_in book) name ds (decls-able d types b);
+        count = type_count new.aoi (named_in book) name ds c long (sym q);
+        long = length-append name (names_of parts) ∙ rw names_long;
+        fit = type_fits new.aoi new.used.types (named_in book) name ds (decls_able d types b);
       }
 
   module _ (room : Roomy new.used c.members (length name + long)) where
     -- a measured layout for which there is room ends at or below 2^27
-    pub laid-near : c.offset ≤ 2 ^ 27
+    pub laid_near : c.offset ≤ 2 ^ 27
     unfolding align_up
-    laid-near = omega (arith, type-most new.aoi name ds c long (sym q) (omega (arith, room.members)))
+    laid_near = omega (arith, type_most new.aoi name ds c long (sym q) (omega (arith, room.members)))
 
     -- the declared members of a measured type for which there is room can be stored
-    pub laid-storable : StorableType types book tys name new
-    laid-storable =
+    pub laid_storable : StorableType types book tys name new
+    laid_storable =
         record {
-          found = declared-found d ready.rows.few;
+          found = declared_found d ready.rows.few;
           few = d.few;
-          inside = decl-inside d types;
-          rows = omega (arith, type-count new.aoi (named_in book) name ds c long (sym q), room.members);
-          names = omega (arith, names-long, room.bytes);
+          inside = decl_inside d types;
+          rows = omega (arith, type_count new.aoi (named_in book) name ds c long (sym q), room.members);
+          names = omega (arith, names_long, room.bytes);
         }
 
 -- what can be stored, by its kind
 module _ {types book tys type : List ℕ} {new : NewType} (s : StorableType types book tys type new) where
   -- an AOI that can be stored can be so with its hosts, after what is used and its own name
-  pub storable-aoi : new.aoi ≡ true → {h : ℕ} → h ≡ aoi_hosts (decls_from types book tys new.at 0 new.count)
+  pub storable_aoi : new.aoi ≡ true → {h : ℕ} → h ≡ aoi_hosts (decls_from types book tys new.at 0 new.count)
       → StorableAoi types book tys type new.at new.count h new.used.members (new.used.bytes + length type)
-  storable-aoi a e =
+  storable_aoi a e =
       record {
         found = s.found;
         few = s.few;
@@ -113,11 +113,11 @@ module _ {types book tys type : List ℕ} {new : NewType} (s : StorableType type
       }
 
   -- a UDT that can be stored can be so from the start of a layout, after what is used and its own name
-  pub storable-udt : new.aoi ≡ false
+  pub storable_udt : new.aoi ≡ false
       → Storable types book tys type new.at new.count udt_start new.used.members
       (new.used.bytes + length type)
   unfolding udt_parts
-  storable-udt a =
+  storable_udt a =
       record {
         found = s.found;
         passed = 0;
@@ -129,6 +129,6 @@ module _ {types book tys type : List ℕ} {new : NewType} (s : StorableType type
       }
 
 -- where the BOOLs are counted, the hosts are as many as they ask for
-pub hosts-counted : {n r h : ℕ} {ds : List Decl} → BoolsCounted n ds r → h ≡ (2 + r + 31) / 32 → h ≡ aoi_hosts ds
+pub hosts_counted : {n r h : ℕ} {ds : List Decl} → BoolsCounted n ds r → h ≡ (2 + r + 31) / 32 → h ≡ aoi_hosts ds
 unfolding aoi_hosts
-hosts-counted b e = e ∙ rw b.is
+hosts_counted b e = e ∙ rw b.is

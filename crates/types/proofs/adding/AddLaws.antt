@@ -28,9 +28,9 @@ use Rattle.types.specs.declared.adding.used.Used.{Used}
 use Rattle.types.specs.declared.layout.placing.Cursor.{Cursor}
 use Rattle.types.specs.declared.layout.placing.Decl.{Decl}
 use Rattle.types.specs.declared.tables.member.StructKind.{StructKind}
-use Rattle.types.proofs.layout.PlaceLaws.{place-cases}
-use Rattle.types.proofs.tables.AgreeLaws.{template-same, length-list, get_d-list}
-use Rattle.types.proofs.tables.DefLaws.{PartFits, def-back}
+use Rattle.types.proofs.layout.PlaceLaws.{place_cases}
+use Rattle.types.proofs.tables.AgreeLaws.{template_same, length_list, get_d_list}
+use Rattle.types.proofs.tables.DefLaws.{PartFits, def_back}
 
 -- ---- the parts of every layout can be stored and read back
 
@@ -46,63 +46,63 @@ every_append P [] ys p q = q
 every_append P (x ∷ xs) ys (p, ps) q = (p, every_append P xs ys ps q)
 
 -- what holds of each element of a list holds of the k-th
-pub every-nth : {A : Type 0} (P : A → Type 0) (z : A) (xs : List A) (k : ℕ) → Every P xs → k < length xs
+pub every_nth : {A : Type 0} (P : A → Type 0) (z : A) (xs : List A) (k : ℕ) → Every P xs → k < length xs
     → P (get_or xs k z)
 unfolding Every
-every-nth P z [] k a l = absurd (let y : ⊥ = omega arith in y)
-every-nth P z (x ∷ xs) zero (a, rest) l = a
-every-nth P z (x ∷ xs) (suc k) (a, rest) l = every-nth P z xs k rest (omega arith)
+every_nth P z [] k a l = absurd (let y : ⊥ = omega arith in y)
+every_nth P z (x ∷ xs) zero (a, rest) l = a
+every_nth P z (x ∷ xs) (suc k) (a, rest) l = every_nth P z xs k rest (omega arith)
 
-hosts-fit : (n i h : ℕ) → Every (PartFits n) (host_parts i h)
+hosts_fit : (n i h : ℕ) → Every (PartFits n) (host_parts i h)
 unfolding host_parts Every
-hosts-fit n i zero = tt
-hosts-fit n i (suc h) = (record { bit = tt; access = omega arith; earlier = tt }, hosts-fit n (i + 1) h)
+hosts_fit n i zero = tt
+hosts_fit n i (suc h) = (record { bit = tt; access = omega arith; earlier = tt }, hosts_fit n (i + 1) h)
 
 module _ (n : ℕ) (name : Decl → List ℕ) (host : ℕ → List ℕ) where
-  parts-fit : (c : Cursor) (ds : List Decl) → Every (DeclAble n) ds → Every (PartFits n) (parts_from name host c ds)
+  parts_fit : (ds : List Decl) (c : Cursor) → Every (DeclAble n) ds → Every (PartFits n) (parts_from name host c ds)
   unfolding parts_from Every opened next_bit
-  parts-fit c [] a = tt
-  parts-fit c (d ∷ ds) (a, rest) =
-      place-cases
+  parts_fit [] c a = tt
+  parts_fit (d ∷ ds) c (a, rest) =
+      place_cases
       (λ p. Every (PartFits n) (then_parts p (host c.members) (name d) (λ c'. parts_from name host c' ds))) c d
       (record {
         wrong = λ q. tt;
         opens = λ b f. (
           record { bit = tt; access = omega arith; earlier = tt },
-          (record { bit = omega arith; access = a.access; earlier = tt }, parts-fit _ ds rest),
+          (record { bit = omega arith; access = a.access; earlier = tt }, parts_fit ds _ rest),
         );
-        next = λ b byte bit h l. (record { bit = l; access = a.access; earlier = tt }, parts-fit _ ds rest);
-        shared = λ b i h. (record { bit = omega arith; access = a.access; earlier = tt }, parts-fit _ ds rest);
-        other = λ b l. (record { bit = tt; access = a.access; earlier = a.earlier }, parts-fit _ ds rest);
+        next = λ b byte bit h l. (record { bit = l; access = a.access; earlier = tt }, parts_fit ds _ rest);
+        shared = λ b i h. (record { bit = omega arith; access = a.access; earlier = tt }, parts_fit ds _ rest);
+        other = λ b l. (record { bit = tt; access = a.access; earlier = a.earlier }, parts_fit ds _ rest);
         far = λ b l. tt;
       })
 
 module _ (n : ℕ) (name : Decl → List ℕ) (type : List ℕ) (ds : List Decl) (a : Every (DeclAble n) ds) where
-  udt-fits : Every (PartFits n) (udt_parts name type ds)
+  udt_fits : Every (PartFits n) (udt_parts name type ds)
   unfolding udt_parts
-  udt-fits = parts-fit n name (host_name type) udt_start ds a
+  udt_fits = parts_fit n name (host_name type) ds udt_start a
 
-  aoi-fits : Every (PartFits n) (aoi_parts name type ds)
+  aoi_fits : Every (PartFits n) (aoi_parts name type ds)
   unfolding aoi_parts Every
-  aoi-fits =
-      every_append (PartFits n) (host_parts 0 (aoi_hosts ds)) _ (hosts-fit n 0 (aoi_hosts ds)) (
+  aoi_fits =
+      every_append (PartFits n) (host_parts 0 (aoi_hosts ds)) _ (hosts_fit n 0 (aoi_hosts ds)) (
         record { bit = omega arith; access = omega arith; earlier = tt },
         (
           record { bit = omega arith; access = omega arith; earlier = tt },
-          parts-fit n name (host_name type) (aoi_start (aoi_hosts ds)) ds a,
+          parts_fit n name (host_name type) ds (aoi_start (aoi_hosts ds)) a,
         ),
       )
 
 -- rows can hold the parts of a UDT or AOI whose members have an access of one byte and earlier types
-pub type-fits : (aoi : Bool) (n : ℕ) (name : Decl → List ℕ) (type : List ℕ) (ds : List Decl) → Every (DeclAble n) ds
+pub type_fits : (aoi : Bool) (n : ℕ) (name : Decl → List ℕ) (type : List ℕ) (ds : List Decl) → Every (DeclAble n) ds
     → Every (PartFits n) (parts_of aoi name type ds)
-type-fits true n name type ds a = aoi-fits n name type ds a
-type-fits false n name type ds a = udt-fits n name type ds a
+type_fits true n name type ds a = aoi_fits n name type ds a
+type_fits false n name type ds a = udt_fits n name type ds a
 
 -- rows can hold the two parts of any string
-pub string-fits : (n c : ℕ) → Every (PartFits n) (string_parts c)
+pub string_fits : (n c : ℕ) → Every (PartFits n) (string_parts c)
 unfolding string_parts Every
-string-fits n c = (
+string_fits n c = (
   record { bit = tt; access = omega arith; earlier = tt },
   (record { bit = tt; access = omega arith; earlier = tt }, tt),
 )
@@ -132,42 +132,42 @@ module _ (types members names : List ℕ) (u : Used) (name : List ℕ) (id size 
       (m : length members ≡ member_words) (k : length names ≡ most_names) (a : u.members + length parts ≤ most_members)
       (b : u.bytes + length (name ++ names_of parts) ≤ most_names) where
     -- the ids that a template names are those of the view
-    ids-same : (j : ℕ) → j < u.types → ids_in types j ≡ id_at view j
+    ids_same : (j : ℕ) → j < u.types → ids_in types j ≡ id_at view j
     unfolding view_in type_at
-    ids-same j l =
+    ids_same j l =
         let e : id_word types j % 65536 ≡ id_word types j = omega (arith, ready.ids j l) in
-        e ∙ sym (get_d-list (id_word types) u.types j 0 l)
+        e ∙ sym (get_d_list (id_word types) u.types j 0 l)
 
     -- the handle that the stored parts give is the definition's
-    pub handle-same : handle_of (template_in types rows bytes (head_of u.bytes u.members bare)) ≡ new.handle
+    pub handle_same : handle_of (template_in types rows bytes (head_of u.bytes u.members bare)) ≡ new.handle
     unfolding new_def
-    handle-same =
+    handle_same =
         ap handle_of
-        (ap (template_of (ids_in types)) (def-back members names u.members u.bytes u.types bare
+        (ap (template_of (ids_in types)) (def_back members names u.members u.bytes u.types bare
         (omega (arith, m)) (omega (arith, k)) fit)
-        ∙ template-same (ids_in types) (id_at view) u.types ids-same bare fit)
+        ∙ template_same (ids_in types) (id_at view) u.types ids_same bare fit)
 
     -- the row with the handle that the stored parts give is the definition's row
     pub row_same : with_handle (head_of u.bytes u.members bare)
         (handle_of (template_in types rows bytes (head_of u.bytes u.members bare)))
         ≡ head_of u.bytes u.members new
     unfolding new_def
-    row_same = ap (with_handle (head_of u.bytes u.members bare)) handle-same
+    row_same = ap (with_handle (head_of u.bytes u.members bare)) handle_same
 
   -- ---- 13, or the new type
 
-  view-used : used_in view ≡ u
+  view_used : used_in view ≡ u
   unfolding view_in
-  view-used = ap (λ (k : ℕ). record { types = k; members = u.members; bytes = u.bytes })
-      (length-list (row_name types names) 0 u.types)
+  view_used = ap (λ (k : ℕ). record { types = k; members = u.members; bytes = u.bytes })
+      (length_list (row_name types names) 0 u.types)
 
   module _ (i : ℕ) (r : Bool) (e : r ≡ room_in_tables u (length parts) (length (name ++ names_of parts))) where
     -- without room the verdict on the new type is refusal 13
-    pub fitted-no : r ≡ false → fitted view i new ≡ no (13, i)
+    pub fitted_no : r ≡ false → fitted view i new ≡ no (13, i)
     unfolding fitted new_def
-    fitted-no q = rw (view-used, sym e ∙ q)
+    fitted_no q = rw (view_used, sym e ∙ q)
 
     -- with room the verdict is the new type
-    pub fitted-yes : r ≡ true → fitted view i new ≡ yes new
+    pub fitted_yes : r ≡ true → fitted view i new ≡ yes new
     unfolding fitted new_def
-    fitted-yes q = rw (view-used, sym e ∙ q)
+    fitted_yes q = rw (view_used, sym e ∙ q)

@@ -10,7 +10,7 @@ use lib.Dec.{leb, ltb}
 use lib.ListN.{length, get_or}
 use lib.Seq.{sets}
 use Rattle.words.specs.Words.{Bytes}
-use Rattle.words.proofs.Lists.{sets-append}
+use Rattle.words.proofs.Lists.{sets_append}
 use Rattle.words.proofs.TestLaws.{and_left, and_right}
 use Rattle.words.proofs.WordLaws.{word_below}
 use Rattle.types.specs.adding.Add.{Verdict, no, yes, room_in_tables, new_def, fitted}
@@ -35,50 +35,50 @@ use Rattle.types.specs.declared.refusals.refusal.Refusal.{Refusal}
 use Rattle.types.specs.declared.refusals.refusal.Refusal.TheVariants.{TablesFull}
 use Rattle.types.specs.declared.tables.member.StructDef.{StructDef}
 use Rattle.types.specs.declared.tables.member.StructKind.{StructKind}
-use Rattle.types.proofs.adding.AddLaws.{DeclAble, row_same, fitted-no, fitted-yes}
-use Rattle.types.proofs.adding.RoomLaws.{room-bytes}
-use Rattle.types.proofs.layout.FoundLaws.{decl-resolved, all_named}
-use Rattle.types.proofs.tables.DefLaws.{PartFits, earlier-fits, head-readable}
+use Rattle.types.proofs.adding.AddLaws.{DeclAble, row_same, fitted_no, fitted_yes}
+use Rattle.types.proofs.adding.RoomLaws.{room_bytes}
+use Rattle.types.proofs.layout.FoundLaws.{decl_resolved, all_named}
+use Rattle.types.proofs.tables.DefLaws.{PartFits, earlier_fits, head_readable}
 
 -- ---- the declared members
 
 module _ {book tys : List ℕ} {known at n : ℕ} (d : Declared book tys known at n) where
   -- of at most 200 known types: the declared members lie in the book, and their types were found
-  pub declared-found : known ≤ most_types → Found book tys at n
-  declared-found l =
+  pub declared_found : known ≤ most_types → Found book tys at n
+  declared_found l =
       record {
         inside = d.inside.inside;
         known = d.room;
-        types = λ k h. earlier-fits known l (ty_of_word (get_or tys k 0)) (d.earlier k h);
+        types = λ k h. earlier_fits known l (ty_of_word (get_or tys k 0)) (d.earlier k h);
       }
 
   module _ (types : List ℕ) where
-    decl-able : Bytes book → (k : ℕ) → k < n → DeclAble known (decl_at types book tys at k)
+    decl_able : Bytes book → (k : ℕ) → k < n → DeclAble known (decl_at types book tys at k)
     unfolding decl_at resolved
-    decl-able b k l =
+    decl_able b k l =
         record {
           access = word_below 1 book (at + 16 * k + 7) b;
-          earlier = (decl-resolved types book tys at known k (d.earlier k l)).earlier;
+          earlier = (decl_resolved types book tys at known k (d.earlier k l)).earlier;
         }
 
-    all-able : Bytes book → (k m : ℕ) → k + m ≤ n → Every (DeclAble known) (decls_from types book tys at k m)
+    all_able : Bytes book → (k m : ℕ) → k + m ≤ n → Every (DeclAble known) (decls_from types book tys at k m)
     unfolding decls_from Every
-    all-able b k zero l = tt
-    all-able b k (suc m) l = (decl-able b k (omega arith), all-able b (k + 1) m (omega arith))
+    all_able b k zero l = tt
+    all_able b k (suc m) l = (decl_able b k (omega arith), all_able b (k + 1) m (omega arith))
 
     -- each declared member's access is a byte, and its type is an earlier one
-    pub decls-able : Bytes book → Every (DeclAble known) (decls_from types book tys at 0 n)
-    decls-able b = all-able b 0 n (omega arith)
+    pub decls_able : Bytes book → Every (DeclAble known) (decls_from types book tys at 0 n)
+    decls_able b = all_able b 0 n (omega arith)
 
     -- their names lie in the book
-    pub decl-inside : (k : ℕ) → k < n
+    pub decl_inside : (k : ℕ) → k < n
         → (decl_at types book tys at k).name.at + (decl_at types book tys at k).name.long ≤ length book
     unfolding decl_at resolved
-    decl-inside k l = d.inside.names k l
+    decl_inside k l = d.inside.names k l
 
     -- the name of each declared member is as long as its entry says
-    pub decls-named : Every (λ e. length (named_in book e) ≡ e.name.long) (decls_from types book tys at 0 n)
-    decls-named = all_named types book tys at known n decl-inside
+    pub decls_named : Every (λ e. length (named_in book e) ≡ e.name.long) (decls_from types book tys at 0 n)
+    decls_named = all_named types book tys at known n decl_inside
 
 -- ---- room
 
@@ -129,46 +129,46 @@ module _ (types members names : List ℕ) (u : Used) {name : List ℕ} {parts : 
   room = rw (p.count, p.long) e
 
   -- without room 13 is answered, and the three tables stay as they were
-  pub stored-full : (i : ℕ) → r ≡ false
+  pub stored_full : (i : ℕ) → r ≡ false
       → Took (fitted (view_in types names u) i new) u types members names types members names (Refused (TablesFull i))
-  stored-full i q =
-      rw (fitted-no types members names u name id size kind parts i r room q)
+  stored_full i q =
+      rw (fitted_no types members names u name id size kind parts i r room q)
       (record { is = refl; types = refl; members = refl; names = refl })
 
   module _ (q : r ≡ true) where
     -- with room for what was counted, the verdict is the new type
-    pub stored-yes : (i : ℕ) → fitted (view_in types names u) i new ≡ yes new
-    stored-yes i = fitted-yes types members names u name id size kind parts i r room q
+    pub stored_yes : (i : ℕ) → fitted (view_in types names u) i new ≡ yes new
+    stored_yes i = fitted_yes types members names u name id size kind parts i r room q
 
-    pub stored-room : Roomy u count long
-    stored-room = roomy u count long (sym q ∙ e)
+    pub stored_room : Roomy u count long
+    stored_room = roomy u count long (sym q ∙ e)
 
     module _ (ready : Usable types names u) (m : length members ≡ member_words) where
       rows_fit : u.members + length parts ≤ most_members
-      rows_fit = omega (arith, p.count, stored-room.members)
+      rows_fit = omega (arith, p.count, stored_room.members)
 
-      names-fit : u.bytes + length (name ++ names_of parts) ≤ most_names
-      names-fit = omega (arith, p.long, stored-room.bytes)
+      names_fit : u.bytes + length (name ++ names_of parts) ≤ most_names
+      names_fit = omega (arith, p.long, stored_room.bytes)
 
       -- once its parts are stored, the row of the type can be read
-      pub stored-readable : Readable (sets members (8 * u.members) (rows_of (u.bytes + length name) parts)) head
-      stored-readable =
+      pub stored_readable : Readable (sets members (8 * u.members) (rows_of (u.bytes + length name) parts)) head
+      stored_readable =
           rw same_head
-          (head-readable members u.members u.bytes u.types bare m rows_fit names-fit ready.rows.few
+          (head_readable members u.members u.bytes u.types bare m rows_fit names_fit ready.rows.few
           p.fit)
 
       -- the verdict was carried out
-      pub stored-took : (i : ℕ) → length names ≡ most_names → {t' m' n' : List ℕ}
+      pub stored_took : (i : ℕ) → length names ≡ most_names → {t' m' n' : List ℕ}
           → m' ≡ sets members (8 * u.members) (rows_of (u.bytes + length name) parts)
           → n' ≡ sets (sets names u.bytes name) (u.bytes + length name) (names_of parts)
           → t' ≡ sets types (8 * u.types) (type_row (with_handle head (handle_of (template_in types m' n' head))))
           → Took (fitted (view_in types names u) i new) u types members names t' m' n' (Added (used_with u count long))
       unfolding new_def
-      stored-took i k em en et =
-          let en' = en ∙ sym (sets-append names u.bytes name (names_of parts)) in
+      stored_took i k em en et =
+          let en' = en ∙ sym (sets_append names u.bytes name (names_of parts)) in
           let et' = rw (← p.count, em, en') at et in
-          let same = row_same types members names u name id size kind parts ready p.fit m k rows_fit names-fit in
-          rw (fitted-yes types members names u name id size kind parts i r room q, ← p.count, ← p.long)
+          let same = row_same types members names u name id size kind parts ready p.fit m k rows_fit names_fit in
+          rw (fitted_yes types members names u name id size kind parts i r room q, ← p.count, ← p.long)
           (record {
             is = refl;
             types = et' ∙ ap (λ (h : StructDef). sets types (8 * u.types) (type_row h)) same;
@@ -180,40 +180,40 @@ module _ (types members names : List ℕ) (u : Used) {name : List ℕ} {parts : 
 module _ (types members names : List ℕ) (u : Used) {name : List ℕ} {parts : List Part} {k l : ℕ}
     (p : PartsCounted name parts u.types k l) (id size : ℕ) (kind : StructKind)
     (ready : Ready types members names u k l) where
-  ready-room : true ≡ room_in_tables u k l
-  ready-room =
-      sym (le-leb (u.bytes + l) most_names ready.bytes) ∙ room-bytes u k l ready.few ready.rows
+  ready_room : true ≡ room_in_tables u k l
+  ready_room =
+      sym (le-leb (u.bytes + l) most_names ready.bytes) ∙ room_bytes u k l ready.few ready.rows
 
   -- once its parts are stored, the row of a new type can be read, before it has its handle
-  pub new-readable : Readable (sets members (8 * u.members) (rows_of (u.bytes + length name) parts))
+  pub new_readable : Readable (sets members (8 * u.members) (rows_of (u.bytes + length name) parts))
       (bare_head u (length name) id size kind k)
-  new-readable =
-      stored-readable types members names u p id size kind ready-room refl ready.usable ready.members
+  new_readable =
+      stored_readable types members names u p id size kind ready_room refl ready.usable ready.members
 
   -- once its parts, names and row are stored, the verdict that adds the type was carried out
-  pub new-took : {t' m' n' : List ℕ} {r : Used}
+  pub new_took : {t' m' n' : List ℕ} {r : Used}
       → m' ≡ sets members (8 * u.members) (rows_of (u.bytes + length name) parts)
       → n' ≡ sets (sets names u.bytes name) (u.bytes + length name) (names_of parts)
       → t' ≡ sets types (8 * u.types) (type_row (with_handle (bare_head u (length name) id size kind k)
       (handle_of (template_in types m' n' (bare_head u (length name) id size kind k)))))
       → r ≡ used_with u k l
       → Took (yes (new_def (view_in types names u) name id size kind parts)) u types members names t' m' n' (Added r)
-  new-took em en et er =
-      let took = stored-took types members names u p id size kind ready-room refl ready.usable ready.members 0
+  new_took em en et er =
+      let took = stored_took types members names u p id size kind ready_room refl ready.usable ready.members 0
       ready.names em en et in
-      rw er (rw (stored-yes types members names u p id size kind ready-room refl 0) at took)
+      rw er (rw (stored_yes types members names u p id size kind ready_room refl 0) at took)
 
 -- a refusal was answered, and nothing stored
-pub took-no : {s : Verdict} {u : Used} {r : Refusal} {types members names : List ℕ} → s ≡ no (why_of r)
+pub took_no : {s : Verdict} {u : Used} {r : Refusal} {types members names : List ℕ} → s ≡ no (why_of r)
     → Took s u types members names types members names (Refused r)
-took-no {r} {types} {members} {names} e = rw e (record { is = refl; types = refl; members = refl; names = refl })
+took_no {r} {types} {members} {names} e = rw e (record { is = refl; types = refl; members = refl; names = refl })
 
 -- a verdict was carried out that is the one asked for
-pub took-so : {s s' : Verdict} {u : Used} {t₀ m₀ n₀ t m n : List ℕ} {r : Progress}
+pub took_so : {s s' : Verdict} {u : Used} {t₀ m₀ n₀ t m n : List ℕ} {r : Progress}
     → s ≡ s' → Took s' u t₀ m₀ n₀ t m n r → Took s u t₀ m₀ n₀ t m n r
-took-so e t = rw e t
+took_so e t = rw e t
 
 -- so much is used afterwards
-pub took-used : {s : Verdict} {u : Used} {t₀ m₀ n₀ t m n : List ℕ} {r r' : Used}
+pub took_used : {s : Verdict} {u : Used} {t₀ m₀ n₀ t m n : List ℕ} {r r' : Used}
     → r ≡ r' → Took s u t₀ m₀ n₀ t m n (Added r') → Took s u t₀ m₀ n₀ t m n (Added r)
-took-used e t = rw e t
+took_used e t = rw e t

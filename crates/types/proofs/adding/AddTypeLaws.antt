@@ -32,63 +32,63 @@ use Rattle.types.specs.declared.tables.member.Ty.{Ty}
 module _ (v : View) (book : List ℕ) (i at n : ℕ) (aoi : Bool) (name : List ℕ) (id : ℕ) (ds : List Decl) {c : Checked}
     (e : c ≡ checked book aoi [] (entries_from book at 0 n)) where
   -- where all members are good, they are laid out
-  pub members-laid : c ≡ Good → add_members v book i at n aoi name id ds ≡ add_laid v book i aoi name id ds
+  pub members_laid : c ≡ Good → add_members v book i at n aoi name id ds ≡ add_laid v book i aoi name id ds
   unfolding add_members
-  members-laid q = rw (← e, q)
+  members_laid q = rw (← e, q)
 
   -- where the first bad member has a name outside the rule: refusal 2
-  pub members-name : c ≡ NameWrong → add_members v book i at n aoi name id ds ≡ no (2, i)
+  pub members_name : c ≡ NameWrong → add_members v book i at n aoi name id ds ≡ no (2, i)
   unfolding add_members
-  members-name q = rw (← e, q)
+  members_name q = rw (← e, q)
 
   -- where the first bad member has the name of one before: refusal 8
-  pub members-twice : c ≡ Twice → add_members v book i at n aoi name id ds ≡ no (8, i)
+  pub members_twice : c ≡ Twice → add_members v book i at n aoi name id ds ≡ no (8, i)
   unfolding add_members
-  members-twice q = rw (← e, q)
+  members_twice q = rw (← e, q)
 
   -- where the first bad member is a local outside an AOI: refusal 9
-  pub members-local : c ≡ LocalOutside → add_members v book i at n aoi name id ds ≡ no (9, i)
+  pub members_local : c ≡ LocalOutside → add_members v book i at n aoi name id ds ≡ no (9, i)
   unfolding add_members
-  members-local q = rw (← e, q)
+  members_local q = rw (← e, q)
 
 -- ---- 7
 
 module _ (e : TypeEntry) where
   -- a string of length 0 is wrong
-  pub string-short : e.string < 1 → false ≡ string_ok e
+  pub string_short : e.string < 1 → false ≡ string_ok e
   unfolding string_ok
-  string-short l = simp (lt-leb _ _ l)
+  string_short l = simp (lt-leb _ _ l)
 
   module _ (a : 1 ≤ e.string) where
     -- a string longer than 2^26 - 4 is wrong
-    pub string-long : 67108860 < e.string → false ≡ string_ok e
+    pub string_long : 67108860 < e.string → false ≡ string_ok e
     unfolding string_ok
-    string-long l = simp (le-leb _ _ a, lt-leb _ _ l)
+    string_long l = simp (le-leb _ _ a, lt-leb _ _ l)
 
     module _ (b : e.string ≤ 67108860) where
       -- a string of a good length that has members is wrong
-      pub string-members : (e.count ≡ 0 → ⊥) → false ≡ string_ok e
+      pub string_members : (e.count ≡ 0 → ⊥) → false ≡ string_ok e
       unfolding string_ok
-      string-members n = simp (le-leb _ _ a, le-leb _ _ b, ne_eqb _ _ n)
+      string_members n = simp (le-leb _ _ a, le-leb _ _ b, ne_eqb _ _ n)
 
       -- a string of a good length without members is right unless it is an AOI
-      pub string-rest : e.count ≡ 0 → (r : Bool) → r ≡ is_aoi e → not r ≡ string_ok e
+      pub string_rest : e.count ≡ 0 → (r : Bool) → r ≡ is_aoi e → not r ≡ string_ok e
       unfolding string_ok
-      string-rest q r s = rw s (simp (le-leb _ _ a, le-leb _ _ b, eq-eqb _ _ q))
+      string_rest q r s = rw s (simp (le-leb _ _ a, le-leb _ _ b, eq-eqb _ _ q))
 
 -- what is laid out as a string has at most 2^26 - 4 bytes
-pub string-most : (e : TypeEntry) → string_ok e ≡ true → e.string ≤ most_size - 4
+pub string_most : (e : TypeEntry) → string_ok e ≡ true → e.string ≤ most_size - 4
 unfolding string_ok
-string-most e q =
+string_most e q =
     let a = leb 1 e.string in
     let b = leb e.string (most_size - 4) in
     let c = eqb e.count 0 in
     leb-true _ _ (and_right a b (and_left (a && b) c (and_left (a && b && c) (not (is_aoi e)) q)))
 
 -- what is laid out as a string has at least one byte
-pub string-least : (e : TypeEntry) → string_ok e ≡ true → 1 ≤ e.string
+pub string_least : (e : TypeEntry) → string_ok e ≡ true → 1 ≤ e.string
 unfolding string_ok
-string-least e q =
+string_least e q =
     let a = leb 1 e.string in
     let b = leb e.string (most_size - 4) in
     let c = eqb e.count 0 in
@@ -98,55 +98,55 @@ module _ (v : View) (book : List ℕ) (i at : ℕ) (e : TypeEntry) (name : List 
     (es : s ≡ is_string e) where
   module _ (q : s ≡ true) (k : Bool) (ek : k ≡ string_ok e) where
     -- an entry of a right string gives the new string type, if there is room
-    pub named-string : k ≡ true
+    pub named_string : k ≡ true
         → add_named v book i at e name id ds
         ≡ fitted v i (new_def v name id (string_size e.string) Str (string_parts e.string))
     unfolding add_named add_string
-    named-string p = rw (sym es ∙ q, sym ek ∙ p)
+    named_string p = rw (sym es ∙ q, sym ek ∙ p)
 
     -- an entry of a wrong string gets refusal 7
-    pub named-wrong : k ≡ false → add_named v book i at e name id ds ≡ no (7, i)
+    pub named_wrong : k ≡ false → add_named v book i at e name id ds ≡ no (7, i)
     unfolding add_named add_string
-    named-wrong p = rw (sym es ∙ q, sym ek ∙ p)
+    named_wrong p = rw (sym es ∙ q, sym ek ∙ p)
 
   -- an entry that is no string goes on with the checks of its members
-  pub named-members : s ≡ false
+  pub named_members : s ≡ false
       → add_named v book i at e name id ds ≡ add_members v book i at e.count (is_aoi e) name id ds
   unfolding add_named
-  named-members p = rw (sym es ∙ p)
+  named_members p = rw (sym es ∙ p)
 
 -- ---- 4, 5, 6
 
 module _ (v : View) (book : List ℕ) (i at : ℕ) (e : TypeEntry) (name : List ℕ) (ds : List Decl) {p : Picked}
     (ep : p ≡ id_for v.ids (has_id e) e.id) where
   -- with an id that is free, the type is added under that id
-  pub fresh-free : {id : ℕ} → p ≡ Free id → add_fresh v book i at e name ds ≡ add_named v book i at e name id ds
+  pub fresh_free : {id : ℕ} → p ≡ Free id → add_fresh v book i at e name ds ≡ add_named v book i at e name id ds
   unfolding add_fresh
-  fresh-free {id} q = rw (← ep, q)
+  fresh_free {id} q = rw (← ep, q)
 
   -- a given id outside 0x100..0xEFF gets refusal 4
-  pub fresh-outside : p ≡ OutsideRange → add_fresh v book i at e name ds ≡ no (4, i)
+  pub fresh_outside : p ≡ OutsideRange → add_fresh v book i at e name ds ≡ no (4, i)
   unfolding add_fresh
-  fresh-outside q = rw (← ep, q)
+  fresh_outside q = rw (← ep, q)
 
   -- a given id that is in use: refusal 5
-  pub fresh-used : p ≡ InUse → add_fresh v book i at e name ds ≡ no (5, i)
+  pub fresh_used : p ≡ InUse → add_fresh v book i at e name ds ≡ no (5, i)
   unfolding add_fresh
-  fresh-used q = rw (← ep, q)
+  fresh_used q = rw (← ep, q)
 
   -- no id is given and none is free: refusal 6
-  pub fresh-none : p ≡ NoneFree → add_fresh v book i at e name ds ≡ no (6, i)
+  pub fresh_none : p ≡ NoneFree → add_fresh v book i at e name ds ≡ no (6, i)
   unfolding add_fresh
-  fresh-none q = rw (← ep, q)
+  fresh_none q = rw (← ep, q)
 
 -- ---- 2, 3
 
 module _ (v : View) (book : List ℕ) (i at : ℕ) (e : TypeEntry) (name : List ℕ) (ds : List Decl) (g : Bool)
     (eg : g ≡ good_name name) where
   -- a type name outside the rule gets refusal 2
-  pub entry-bad : g ≡ false → add_entry v book i at e name ds ≡ no (2, i)
+  pub entry_bad : g ≡ false → add_entry v book i at e name ds ≡ no (2, i)
   unfolding add_entry
-  entry-bad q = rw (sym eg ∙ q)
+  entry_bad q = rw (sym eg ∙ q)
 
   module _ (q : g ≡ true) (f : FoundTy) (ef : f ≡ type_among v.names name) where
     -- a type name that is known already: refusal 3
@@ -155,6 +155,6 @@ module _ (v : View) (book : List ℕ) (i at : ℕ) (e : TypeEntry) (name : List 
     entry_known ty p = rw (sym eg ∙ q, sym ef ∙ p)
 
     -- a type name that meets the rule and is not known goes on with the id
-    pub entry-fresh : f ≡ Nothing → add_entry v book i at e name ds ≡ add_fresh v book i at e name ds
+    pub entry_fresh : f ≡ Nothing → add_entry v book i at e name ds ≡ add_fresh v book i at e name ds
     unfolding add_entry
-    entry-fresh p = rw (sym eg ∙ q, sym ef ∙ p)
+    entry_fresh p = rw (sym eg ∙ q, sym ef ∙ p)

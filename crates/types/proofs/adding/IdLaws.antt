@@ -25,8 +25,8 @@ held_more t n r i h l e k a b = go (dec_lt k r)
     go (no o) = let q : r ≡ k = omega (arith, o) in (i, l, e ∙ q)
 
 -- the answer of `free_id` is the only one
-pub lowest-one : (t : List ℕ) (n r r' : ℕ) → Lowest t n r → Lowest t n r' → r ≡ r'
-lowest-one t n r r' a b = go (dec_lt r r') (dec_lt r' r)
+pub lowest_one : (t : List ℕ) (n r r' : ℕ) → Lowest t n r → Lowest t n r' → r ≡ r'
+lowest_one t n r r' a b = go (dec_lt r r') (dec_lt r' r)
   where
     go : Dec (r < r') → Dec (r' < r) → r ≡ r'
     go (yes o) q = absurd (a.free (omega (arith, b.high)) (b.taken r a.low o))
@@ -37,33 +37,34 @@ lowest-one t n r r' a b = go (dec_lt r r') (dec_lt r' r)
 
 module _ (ids : ℕ → ℕ) (id n i : ℕ) where
   -- an id that row i holds is in use among the rows from i on
-  pub use-here : i < n → ids i ≡ id → in_use id (list_from ids i (n - i)) ≡ true
+  pub use_here : i < n → ids i ≡ id → in_use id (list_from ids i (n - i)) ≡ true
   unfolding in_use list_from
-  use-here l e =
+  use_here l e =
       let f : n - i ≡ suc (n - (i + 1)) = omega arith in
       rw f (simp (eq-eqb _ _ e))
 
   -- an id that row i does not hold is in use from i on just where it is among the rows after i
-  pub use-later : i < n → (ids i ≡ id → ⊥)
+  pub use_later : i < n → (ids i ≡ id → ⊥)
       → in_use id (list_from ids i (n - i)) ≡ in_use id (list_from ids (i + 1) (n - (i + 1)))
   unfolding in_use list_from
-  use-later l e =
+  use_later l e =
       let f : n - i ≡ suc (n - (i + 1)) = omega arith in
       rw f (simp (ne_eqb _ _ e))
 
   -- where no row is left, no id is in use
-  pub use-never : n ≤ i → in_use id (list_from ids i (n - i)) ≡ false
+  pub use_never : n ≤ i → in_use id (list_from ids i (n - i)) ≡ false
   unfolding in_use list_from
-  use-never l =
+  use_never l =
       let f : n - i ≡ 0 = omega arith in
       rw f
 
 -- ---- held by a row, and in use among the rows' ids
 
-held-use : (t : List ℕ) (k j n i : ℕ) → j ≤ i → i < j + n → id_word t i ≡ k → in_use k (list_from (id_word t) j n) ≡ true
+held_use : (t : List ℕ) (k j n i : ℕ) → j ≤ i → i < j + n → id_word t i ≡ k
+    → in_use k (list_from (id_word t) j n) ≡ true
 unfolding in_use list_from
-held-use t k j zero i l h e = absurd (let z : ⊥ = omega arith in z)
-held-use t k j (suc n) i l h e = go (held-use t k (j + 1) n i) (dec_lt j i)
+held_use t k j zero i l h e = absurd (let z : ⊥ = omega arith in z)
+held_use t k j (suc n) i l h e = go (held_use t k (j + 1) n i) (dec_lt j i)
   where
     go : (j + 1 ≤ i → i < j + 1 + n → id_word t i ≡ k → in_use k (list_from (id_word t) (j + 1) n) ≡ true) → Dec (j < i)
         → (eqb (id_word t j) k || in_use k (list_from (id_word t) (j + 1) n)) ≡ true
@@ -71,13 +72,14 @@ held-use t k j (suc n) i l h e = go (held-use t k (j + 1) n i) (dec_lt j i)
         or_right (eqb (id_word t j) k) (in_use k (list_from (id_word t) (j + 1) n)) (ih (omega arith) (omega arith) e)
     go ih (no o) = let q : j ≡ i = omega (arith, o) in rw q (simp (eq-eqb _ _ e))
 
-use-held : (t : List ℕ) (k j n : ℕ) → in_use k (list_from (id_word t) j n) ≡ true
+use_held : (t : List ℕ) (k j n : ℕ) → in_use k (list_from (id_word t) j n) ≡ true
     → (i : ℕ) × (i < j + n) × (id_word t i ≡ k)
 unfolding in_use list_from
-use-held t k j zero e = clash e refl
-use-held t k j (suc n) e = go (use-held t k (j + 1) n) (eqb (id_word t j) k) refl e
+use_held t k j zero e = clash e refl
+use_held t k j (suc n) e = go (use_held t k (j + 1) n) (eqb (id_word t j) k) refl e
   where
-    go : (in_use k (list_from (id_word t) (j + 1) n) ≡ true → (i : ℕ) × (i < j + 1 + n) × (id_word t i ≡ k)) → (b : Bool)
+    go : (in_use k (list_from (id_word t) (j + 1) n) ≡ true → (i : ℕ) × (i < j + 1 + n) × (id_word t i ≡ k))
+        → (b : Bool)
         → eqb (id_word t j) k ≡ b
         → (b || in_use k (list_from (id_word t) (j + 1) n)) ≡ true → (i : ℕ) × (i < j + suc n) × (id_word t i ≡ k)
     go ih true p q = (j, omega arith, eqb-true _ _ p)
@@ -85,12 +87,12 @@ use-held t k j (suc n) e = go (use-held t k (j + 1) n) (eqb (id_word t j) k) ref
 
 -- ---- the lowest free id
 
-free-at : (ids : List ℕ) (k m r : ℕ) → k ≤ r → r < k + m → ((j : ℕ) → k ≤ j → j < r → in_use j ids ≡ true)
+free_at : (ids : List ℕ) (k m r : ℕ) → k ≤ r → r < k + m → ((j : ℕ) → k ≤ j → j < r → in_use j ids ≡ true)
     → in_use r ids ≡ false → Free r ≡ lowest_from ids k m
 unfolding lowest_from
-free-at ids k zero r l h t f = absurd (let z : ⊥ = omega arith in z)
-free-at ids k (suc m) r l h t f =
-    go (λ b. free-at ids (k + 1) m r (omega (arith, b)) (omega arith) (λ j a c. t j (omega arith) c) f) (dec_lt k r)
+free_at ids k zero r l h t f = absurd (let z : ⊥ = omega arith in z)
+free_at ids k (suc m) r l h t f =
+    go (λ b. free_at ids (k + 1) m r (omega (arith, b)) (omega arith) (λ j a c. t j (omega arith) c) f) (dec_lt k r)
   where
     go : (k < r → Free r ≡ lowest_from ids (k + 1) m) → Dec (k < r)
         → Free r ≡ cond (in_use k ids) (lowest_from ids (k + 1) m) (Free k)
@@ -106,16 +108,16 @@ none_free ids k (suc m) t =
 
 -- what the search over the rows finds
 module _ (t : List ℕ) (n r : ℕ) (w : Lowest t n r) where
-  taken-below : (j : ℕ) → 0x100 ≤ j → j < r → in_use j (list_from (id_word t) 0 n) ≡ true
-  taken-below j a b =
+  taken_below : (j : ℕ) → 0x100 ≤ j → j < r → in_use j (list_from (id_word t) 0 n) ≡ true
+  taken_below j a b =
       let h = w.taken j a b in
-      held-use t j 0 n h.0 (omega arith) (omega (arith, h.1)) h.2
+      held_use t j 0 n h.0 (omega arith) (omega (arith, h.1)) h.2
 
-  free-there : r < 0xF00 → in_use r (list_from (id_word t) 0 n) ≡ false
-  free-there l = go (in_use r (list_from (id_word t) 0 n)) refl
+  free_there : r < 0xF00 → in_use r (list_from (id_word t) 0 n) ≡ false
+  free_there l = go (in_use r (list_from (id_word t) 0 n)) refl
     where
       go : (b : Bool) → in_use r (list_from (id_word t) 0 n) ≡ b → b ≡ false
-      go true e = let h = use-held t r 0 n e in absurd (w.free l (h.0, omega (arith, h.1), h.2))
+      go true e = let h = use_held t r 0 n e in absurd (w.free l (h.0, omega (arith, h.1), h.2))
       go false e = refl
 
 -- ---- the ways to pick an id
@@ -127,34 +129,34 @@ module _ (ids : List ℕ) (id : ℕ) where
   pick_low l = simp (lt-leb _ _ l)
 
   -- a given id above 0xEFF is outside the range
-  pub pick-high : 0x100 ≤ id → 0xEFF < id → OutsideRange ≡ id_for ids true id
+  pub pick_high : 0x100 ≤ id → 0xEFF < id → OutsideRange ≡ id_for ids true id
   unfolding id_for
-  pick-high l h = simp (le-leb _ _ l, lt-leb _ _ h)
+  pick_high l h = simp (le-leb _ _ l, lt-leb _ _ h)
 
   module _ (l : 0x100 ≤ id) (h : id ≤ 0xEFF) (b : Bool) (e : b ≡ in_use id ids) where
     -- a given id inside the range that a type holds is in use
-    pub pick-used : b ≡ true → InUse ≡ id_for ids true id
+    pub pick_used : b ≡ true → InUse ≡ id_for ids true id
     unfolding id_for
-    pick-used q = simp (le-leb _ _ l, le-leb _ _ h, sym e ∙ q)
+    pick_used q = simp (le-leb _ _ l, le-leb _ _ h, sym e ∙ q)
 
     -- a given id inside the range that no type holds is picked
-    pub pick-given : b ≡ false → Free id ≡ id_for ids true id
+    pub pick_given : b ≡ false → Free id ≡ id_for ids true id
     unfolding id_for
-    pick-given q = simp (le-leb _ _ l, le-leb _ _ h, sym e ∙ q)
+    pick_given q = simp (le-leb _ _ l, le-leb _ _ h, sym e ∙ q)
 
 module _ (t : List ℕ) (n id : ℕ) {r : ℕ} (w : Lowest t n r) where
   -- where no id is given, the lowest id that no row holds is picked
-  pub pick-lowest : r < 0xF00 → Free r ≡ id_for (list_from (id_word t) 0 n) false id
+  pub pick_lowest : r < 0xF00 → Free r ≡ id_for (list_from (id_word t) 0 n) false id
   unfolding id_for lowest_free
-  pick-lowest l =
-      free-at (list_from (id_word t) 0 n) 0x100 0xE00 r w.low (omega arith) (taken-below t n r w)
-      (free-there t n r w l)
+  pick_lowest l =
+      free_at (list_from (id_word t) 0 n) 0x100 0xE00 r w.low (omega arith) (taken_below t n r w)
+      (free_there t n r w l)
 
   -- where no id is given and the rows hold every id of the range, none is free
-  pub pick-none : 0xF00 ≤ r → NoneFree ≡ id_for (list_from (id_word t) 0 n) false id
+  pub pick_none : 0xF00 ≤ r → NoneFree ≡ id_for (list_from (id_word t) 0 n) false id
   unfolding id_for lowest_free
-  pick-none l =
-      none_free (list_from (id_word t) 0 n) 0x100 0xE00 (λ j a b. taken-below t n r w j a (omega arith))
+  pick_none l =
+      none_free (list_from (id_word t) 0 n) 0x100 0xE00 (λ j a b. taken_below t n r w j a (omega arith))
 
 -- ---- what is picked
 
@@ -178,10 +180,10 @@ from_more k m OutsideRange a = tt
 from_more k m InUse a = tt
 from_more k m NoneFree a = tt
 
-from-range : (ids : List ℕ) (k m : ℕ) → AmongIds k m (lowest_from ids k m)
+from_range : (ids : List ℕ) (k m : ℕ) → AmongIds k m (lowest_from ids k m)
 unfolding lowest_from
-from-range ids k zero = tt
-from-range ids k (suc m) = go (in_use k ids) (from_more k m (lowest_from ids (k + 1) m) (from-range ids (k + 1) m))
+from_range ids k zero = tt
+from_range ids k (suc m) = go (in_use k ids) (from_more k m (lowest_from ids (k + 1) m) (from_range ids (k + 1) m))
   where
     go : (b : Bool) → AmongIds k (suc m) (lowest_from ids (k + 1) m)
         → AmongIds k (suc m) (cond b (lowest_from ids (k + 1) m) (Free k))
@@ -189,9 +191,9 @@ from-range ids k (suc m) = go (in_use k ids) (from_more k m (lowest_from ids (k 
     go false rest = (omega arith, omega arith)
 
 -- an id that is picked lies in 0x100..0xEFF
-pub picked-range : (ids : List ℕ) (given : Bool) (id : ℕ) → InRange (id_for ids given id)
+pub picked_range : (ids : List ℕ) (given : Bool) (id : ℕ) → InRange (id_for ids given id)
 unfolding id_for lowest_free
-picked-range ids true id = go (leb 0x100 id && leb id 0xEFF) refl (in_use id ids)
+picked_range ids true id = go (leb 0x100 id && leb id 0xEFF) refl (in_use id ids)
   where
     go : (b : Bool) → (leb 0x100 id && leb id 0xEFF) ≡ b → (u : Bool)
         → InRange (cond b (cond u InUse (Free id)) OutsideRange)
@@ -200,7 +202,7 @@ picked-range ids true id = go (leb 0x100 id && leb id 0xEFF) refl (in_use id ids
         let both = (and-eq-true_iff (leb 0x100 id) (leb id 0xEFF)).0 e in
         (leb-true _ _ both.0, leb-true _ _ both.1)
     go false e u = tt
-picked-range ids false id = go (lowest_from ids 0x100 0xE00) (from-range ids 0x100 0xE00)
+picked_range ids false id = go (lowest_from ids 0x100 0xE00) (from_range ids 0x100 0xE00)
   where
     go : (p : Picked) → AmongIds 0x100 0xE00 p → InRange p
     go (Free k) (a, b) = (a, omega arith)
@@ -215,10 +217,10 @@ IdUnheld ids OutsideRange = Unit {0}
 IdUnheld ids InUse = Unit {0}
 IdUnheld ids NoneFree = Unit {0}
 
-from-unheld : (ids : List ℕ) (k m : ℕ) → IdUnheld ids (lowest_from ids k m)
+from_unheld : (ids : List ℕ) (k m : ℕ) → IdUnheld ids (lowest_from ids k m)
 unfolding lowest_from
-from-unheld ids k zero = tt
-from-unheld ids k (suc m) = go (in_use k ids) refl (from-unheld ids (k + 1) m)
+from_unheld ids k zero = tt
+from_unheld ids k (suc m) = go (in_use k ids) refl (from_unheld ids (k + 1) m)
   where
     go : (b : Bool) → in_use k ids ≡ b → IdUnheld ids (lowest_from ids (k + 1) m)
         → IdUnheld ids (cond b (lowest_from ids (k + 1) m) (Free k))
@@ -226,12 +228,12 @@ from-unheld ids k (suc m) = go (in_use k ids) refl (from-unheld ids (k + 1) m)
     go false e rest = e
 
 -- an id that is picked is held by no type
-pub picked-unheld : (ids : List ℕ) (given : Bool) (id : ℕ) → IdUnheld ids (id_for ids given id)
+pub picked_unheld : (ids : List ℕ) (given : Bool) (id : ℕ) → IdUnheld ids (id_for ids given id)
 unfolding id_for lowest_free
-picked-unheld ids true id = go (leb 0x100 id && leb id 0xEFF) (in_use id ids) refl
+picked_unheld ids true id = go (leb 0x100 id && leb id 0xEFF) (in_use id ids) refl
   where
     go : (b u : Bool) → in_use id ids ≡ u → IdUnheld ids (cond b (cond u InUse (Free id)) OutsideRange)
     go true true e = tt
     go true false e = e
     go false u e = tt
-picked-unheld ids false id = from-unheld ids 0x100 0xE00
+picked_unheld ids false id = from_unheld ids 0x100 0xE00

@@ -10,18 +10,18 @@ use Rattle.types.specs.declared.adding.used.Used.{Used}
 
 module _ (u : Used) (members bytes : ℕ) where
   -- where 200 types are used there is no room
-  pub room-types : most_types ≤ u.types → false ≡ room_in_tables u members bytes
+  pub room_types : most_types ≤ u.types → false ≡ room_in_tables u members bytes
   unfolding room_in_tables
-  room-types l = simp (le-ltb _ _ l)
+  room_types l = simp (le-ltb _ _ l)
 
   module _ (l : u.types < most_types) where
     -- where a type has a row but its members do not, there is no room
-    pub room-members : most_members < u.members + members → false ≡ room_in_tables u members bytes
+    pub room_members : most_members < u.members + members → false ≡ room_in_tables u members bytes
     unfolding room_in_tables
-    room-members h = simp (lt-ltb _ _ l, lt-leb _ _ h)
+    room_members h = simp (lt-ltb _ _ l, lt-leb _ _ h)
 
     -- where a type and its members have rows, there is room just where its names fit
-    pub room-bytes : u.members + members ≤ most_members
+    pub room_bytes : u.members + members ≤ most_members
         → leb (u.bytes + bytes) most_names ≡ room_in_tables u members bytes
     unfolding room_in_tables
-    room-bytes h = simp (lt-ltb _ _ l, le-leb _ _ h)
+    room_bytes h = simp (lt-ltb _ _ l, le-leb _ _ h)

@@ -11,7 +11,8 @@ use Rattle.words.specs.Words.{Bytes}
 use Rattle.words.proofs.TestLaws.{either}
 use Rattle.words.proofs.WordLaws.{word_below}
 use Rattle.types.specs.adding.Add.{Verdict, no, yes, room_in_tables, used_in, new_def, fitted, on_laid, add_laid}
-use Rattle.types.specs.adding.Add.{on_checked, add_members, string_ok, add_string, add_named, on_id, add_fresh, add_entry}
+use Rattle.types.specs.adding.Add.{on_checked, add_members, string_ok, add_string, add_named, on_id, add_fresh}
+use Rattle.types.specs.adding.Add.{add_entry}
 use Rattle.types.specs.adding.Checks.{checked, entries_from}
 use Rattle.types.specs.adding.Ids.{in_use, id_for}
 use Rattle.types.specs.atomics.Lookup.{type_among}
@@ -43,23 +44,23 @@ use Rattle.types.specs.declared.layout.placing.Decl.{Decl}
 use Rattle.types.specs.declared.tables.member.StructKind.{StructKind}
 use Rattle.types.specs.declared.tables.member.StructKind.TheVariants.{Predefined, Str}
 use Rattle.types.specs.declared.tables.member.Ty.{Ty}
-use Rattle.types.proofs.adding.AddLaws.{DeclAble, type-fits, string-fits}
+use Rattle.types.proofs.adding.AddLaws.{DeclAble, type_fits, string_fits}
 use Rattle.types.proofs.adding.AddStoreLaws.{Roomy, roomy}
-use Rattle.types.proofs.adding.AddTypeLaws.{string-least, string-most as string-room}
-use Rattle.types.proofs.adding.IdLaws.{InRange, picked-range, IdUnheld, picked-unheld}
-use Rattle.types.proofs.book.DeclLaws.{align-fair}
-use Rattle.types.proofs.layout.BoundLaws.{type-count, type-most, string-most}
-use Rattle.types.proofs.layout.FoundLaws.{stored-earlier}
-use Rattle.types.proofs.layout.LaidLaws.{type-laid, string-laid}
-use Rattle.types.proofs.layout.LaidOutLaws.{both, laid-passes}
-use Rattle.types.proofs.layout.PartLaws.{PartFormed, NamedDecls, NamedEntries, type-formed, string-formed}
-use Rattle.types.proofs.layout.PartLaws.{checked-named}
-use Rattle.types.proofs.layout.StringLaws.{StringParts, string-is, other-kind, no-string}
-use Rattle.types.proofs.rounds.ResolveLaws.{found-earlier}
+use Rattle.types.proofs.adding.AddTypeLaws.{string_least, string_most as string-room}
+use Rattle.types.proofs.adding.IdLaws.{InRange, picked_range, IdUnheld, picked_unheld}
+use Rattle.types.proofs.book.DeclLaws.{align_fair}
+use Rattle.types.proofs.layout.BoundLaws.{type_count, type_most, string_most}
+use Rattle.types.proofs.layout.FoundLaws.{stored_earlier}
+use Rattle.types.proofs.layout.LaidLaws.{type_laid, string_laid}
+use Rattle.types.proofs.layout.LaidOutLaws.{both, laid_passes}
+use Rattle.types.proofs.layout.PartLaws.{PartFormed, NamedDecls, NamedEntries, type_formed, string_formed}
+use Rattle.types.proofs.layout.PartLaws.{checked_named}
+use Rattle.types.proofs.layout.StringLaws.{StringParts, string_is, other_kind, no_string}
+use Rattle.types.proofs.rounds.ResolveLaws.{found_earlier}
 use Rattle.types.proofs.tables.DefLaws.{PartFits}
-use Rattle.types.proofs.tables.ProperLaws.{Proper, user-inside, not-predefined, declared-kind}
+use Rattle.types.proofs.tables.ProperLaws.{Proper, user_inside, not_predefined, declared_kind}
 use Rattle.types.proofs.tables.ShownLaws.{TablesShow, FitsRegistry}
-use Rattle.types.proofs.templates.HandleLaws.{handle-small}
+use Rattle.types.proofs.templates.HandleLaws.{handle_small}
 
 -- ---- the ways out of adding
 
@@ -92,7 +93,7 @@ module _ (v : View) (book : List ℕ) (i at : ℕ) (e : TypeEntry) (name : List 
 
   module _ (good : good_name name ≡ true) (new : is_found (type_among v.names name) ≡ false) (id : ℕ)
       (range : InRange (Free id)) (free : IdUnheld v.ids (Free id)) where
-    fitted-ends : (size : ℕ) (kind : StructKind) (parts : List Part)
+    fitted_ends : (size : ℕ) (kind : StructKind) (parts : List Part)
         → ((n : ℕ) → Every (DeclAble n) ds → Every (PartFits n) parts)
         → ((n : ℕ) → Every (Resolved (size_at v) n) ds → Lies (size_at v) n size parts)
         → (length parts ≤ most_members → size ≤ most_size + 224)
@@ -101,13 +102,13 @@ module _ (v : View) (book : List ℕ) (i at : ℕ) (e : TypeEntry) (name : List 
         → (kind ≡ Predefined → ⊥)
         → VerdictEnds (fitted v i (new_def v name id size kind parts))
     unfolding fitted new_def
-    fitted-ends size kind parts f g h k s p =
+    fitted_ends size kind parts f g h k s p =
         either VerdictEnds
         (room_in_tables (used_in v) (length parts) (length (own_names (new_def v name id size kind parts))))
         (λ q. record {
           name = refl;
           id = range;
-          handle = handle-small _;
+          handle = handle_small _;
           room = roomy (used_in v) _ _ (sym q);
           parts = f;
           laid = g;
@@ -122,16 +123,16 @@ module _ (v : View) (book : List ℕ) (i at : ℕ) (e : TypeEntry) (name : List 
         (λ q z. omega arith)
 
     -- 11, 12
-    laid-ends : (aoi : Bool) → NamedDecls book ds → VerdictEnds (add_laid v book i aoi name id ds)
+    laid_ends : (aoi : Bool) → NamedDecls book ds → VerdictEnds (add_laid v book i aoi name id ds)
     unfolding add_laid
-    laid-ends aoi a =
-        rw (laid-passes aoi (named_in book) name ds)
+    laid_ends aoi a =
+        rw (laid_passes aoi (named_in book) name ds)
         (go (measured_of aoi name ds)
-        (λ c n q. fitted-ends (size_of c) (laid_kind aoi) _ (λ k b. type-fits aoi k (named_in book) name ds b)
-        (λ k r. type-laid (size_at v) k aoi (named_in book) name ds c n r q)
-        (λ l. type-most aoi name ds c n q (omega (arith, type-count aoi (named_in book) name ds c n q)))
-        (type-formed aoi book name good ds a) (other-kind (laid_kind aoi) (no-string aoi))
-        (not-predefined (laid_kind aoi) (declared-kind aoi))))
+        (λ c n q. fitted_ends (size_of c) (laid_kind aoi) _ (λ k b. type_fits aoi k (named_in book) name ds b)
+        (λ k r. type_laid (size_at v) k aoi (named_in book) name ds c n r q)
+        (λ l. type_most aoi name ds c n q (omega (arith, type_count aoi (named_in book) name ds c n q)))
+        (type_formed aoi book name good ds a) (other_kind (laid_kind aoi) (no_string aoi))
+        (not_predefined (laid_kind aoi) (declared_kind aoi))))
       where
         go : (m : Measured)
             → ((c : Cursor) (n : ℕ) → m ≡ Came c n
@@ -144,93 +145,93 @@ module _ (v : View) (book : List ℕ) (i at : ℕ) (e : TypeEntry) (name : List 
         go too_far f = λ z. omega arith
 
     -- per member 2, 8, 9
-    checked-ends : (c : Checked) (k : Verdict) → (c ≡ Good → VerdictEnds k) → VerdictEnds (on_checked c i k)
-    checked-ends Good k f = f refl
-    checked-ends NameWrong k f = λ z. omega arith
-    checked-ends Twice k f = λ z. omega arith
-    checked-ends LocalOutside k f = λ z. omega arith
+    checked_ends : (c : Checked) (k : Verdict) → (c ≡ Good → VerdictEnds k) → VerdictEnds (on_checked c i k)
+    checked_ends Good k f = f refl
+    checked_ends NameWrong k f = λ z. omega arith
+    checked_ends Twice k f = λ z. omega arith
+    checked_ends LocalOutside k f = λ z. omega arith
 
-    members-ends : (aoi : Bool) → VerdictEnds (add_members v book i at e.count aoi name id ds)
+    members_ends : (aoi : Bool) → VerdictEnds (add_members v book i at e.count aoi name id ds)
     unfolding add_members
-    members-ends aoi =
-        checked-ends (checked book aoi [] (entries_from book at 0 e.count)) _
-        (λ c. let a = named (checked-named book aoi [] (entries_from book at 0 e.count) c) in
-        laid-ends aoi a)
+    members_ends aoi =
+        checked_ends (checked book aoi [] (entries_from book at 0 e.count)) _
+        (λ c. let a = named (checked_named book aoi [] (entries_from book at 0 e.count) c) in
+        laid_ends aoi a)
 
     -- 7
-    string-ends : VerdictEnds (add_string v i e name id)
+    string_ends : VerdictEnds (add_string v i e name id)
     unfolding add_string
-    string-ends =
+    string_ends =
         either VerdictEnds (string_ok e)
-        (λ q. fitted-ends _ Str _ (λ n a. string-fits n e.string) (λ n r. string-laid (size_at v) n e.string
-        (string-least e q))
-        (λ l. omega (arith, string-most e.string (string-room e q))) (string-formed e.string)
-        (λ k. string-is e.string) (not-predefined Str refl))
+        (λ q. fitted_ends _ Str _ (λ n a. string_fits n e.string) (λ n r. string_laid (size_at v) n e.string
+        (string_least e q))
+        (λ l. omega (arith, string_most e.string (string-room e q))) (string_formed e.string)
+        (λ k. string_is e.string) (not_predefined Str refl))
         (λ q z. omega arith)
 
-    named-ends : VerdictEnds (add_named v book i at e name id ds)
+    named_ends : VerdictEnds (add_named v book i at e name id ds)
     unfolding add_named
-    named-ends = either VerdictEnds (is_string e) (λ q. string-ends) (λ q. members-ends (is_aoi e))
+    named_ends = either VerdictEnds (is_string e) (λ q. string_ends) (λ q. members_ends (is_aoi e))
 
   -- 4, 5, 6
-  picked-ends : (p : Picked) (k : ℕ → Verdict) → InRange p → IdUnheld v.ids p
+  picked_ends : (p : Picked) (k : ℕ → Verdict) → InRange p → IdUnheld v.ids p
       → ((id : ℕ) → InRange (Free id) → IdUnheld v.ids (Free id) → VerdictEnds (k id)) → VerdictEnds (on_id p i k)
-  picked-ends (Free id) k range free f = f id range free
-  picked-ends OutsideRange k range free f = λ z. omega arith
-  picked-ends InUse k range free f = λ z. omega arith
-  picked-ends NoneFree k range free f = λ z. omega arith
+  picked_ends (Free id) k range free f = f id range free
+  picked_ends OutsideRange k range free f = λ z. omega arith
+  picked_ends InUse k range free f = λ z. omega arith
+  picked_ends NoneFree k range free f = λ z. omega arith
 
-  fresh-ends : good_name name ≡ true → is_found (type_among v.names name) ≡ false
+  fresh_ends : good_name name ≡ true → is_found (type_among v.names name) ≡ false
       → VerdictEnds (add_fresh v book i at e name ds)
   unfolding add_fresh
-  fresh-ends good new =
-      picked-ends (id_for v.ids (has_id e) e.id) _ (picked-range v.ids (has_id e) e.id)
-      (picked-unheld v.ids (has_id e) e.id) (named-ends good new)
+  fresh_ends good new =
+      picked_ends (id_for v.ids (has_id e) e.id) _ (picked_range v.ids (has_id e) e.id)
+      (picked_unheld v.ids (has_id e) e.id) (named_ends good new)
 
   -- a type of the book is refused, not with 10, or made as said; here 2 and 3
-  pub entry-ends : VerdictEnds (add_entry v book i at e name ds)
+  pub entry_ends : VerdictEnds (add_entry v book i at e name ds)
   unfolding add_entry
-  entry-ends =
+  entry_ends =
       either VerdictEnds (good_name name)
       (λ q. either VerdictEnds (is_found (type_among v.names name)) (λ r z. omega arith)
-      (λ r. fresh-ends q r))
+      (λ r. fresh_ends q r))
       (λ q z. omega arith)
 
 -- ---- the declared members of a book's type
 
-entries-small : (book : List ℕ) (at j n : ℕ) → Bytes book → Every (λ e. e.access < 256) (entries_from book at j n)
+entries_small : (book : List ℕ) (at j n : ℕ) → Bytes book → Every (λ e. e.access < 256) (entries_from book at j n)
 unfolding list_from Every
-entries-small book at j zero b = tt
-entries-small book at j (suc n) b =
-    (word_below 1 book (at + 16 * j + 7) b, entries-small book at (j + 1) n b)
+entries_small book at j zero b = tt
+entries_small book at j (suc n) b =
+    (word_below 1 book (at + 16 * j + 7) b, entries_small book at (j + 1) n b)
 
 -- each is of a type that was found among the names
-decl-able : (v : View) (e : MemberEntry) (s : List ℕ) (ty : Ty) → e.access < 256 → type_among v.names s ≡ Is ty
+decl_able : (v : View) (e : MemberEntry) (s : List ℕ) (ty : Ty) → e.access < 256 → type_among v.names s ≡ Is ty
     → DeclAble (length v.names) (declared (size_at v) ty e)
 unfolding resolved
-decl-able v e s ty a q =
-    record { access = a; earlier = stored-earlier _ ty e.dim (found-earlier v.names s ty q) }
+decl_able v e s ty a q =
+    record { access = a; earlier = stored_earlier _ ty e.dim (found_earlier v.names s ty q) }
 
-decls-able : (v : View) (book : List ℕ) (es : List MemberEntry) → Every (λ e. e.access < 256) es
+decls_able : (v : View) (book : List ℕ) (es : List MemberEntry) → Every (λ e. e.access < 256) es
     → Every (DeclAble (length v.names)) (decls_of v book es)
 unfolding decls_of Every
-decls-able v book [] a = tt
-decls-able v book (e ∷ es) (a, rest) =
-    go (type_among v.names (name_in book e.ty)) refl (decls-able v book es rest)
+decls_able v book [] a = tt
+decls_able v book (e ∷ es) (a, rest) =
+    go (type_among v.names (name_in book e.ty)) refl (decls_able v book es rest)
   where
     go : (f : FoundTy) → type_among v.names (name_in book e.ty) ≡ f
         → Every (DeclAble (length v.names)) (decls_of v book es)
         → Every (DeclAble (length v.names)) (then_decl f (λ ty. declared (size_at v) ty e) (decls_of v book es))
-    go (Is ty) q ih = (decl-able v e (name_in book e.ty) ty a q, ih)
+    go (Is ty) q ih = (decl_able v e (name_in book e.ty) ty a q, ih)
     go Nothing q ih = tt
 
 -- and has the name of its entry
-decls-named : (v : View) (book : List ℕ) (es : List MemberEntry) → NamedEntries book es
+decls_named : (v : View) (book : List ℕ) (es : List MemberEntry) → NamedEntries book es
     → NamedDecls book (decls_of v book es)
 unfolding decls_of Every resolved
-decls-named v book [] a = tt
-decls-named v book (e ∷ es) (a, rest) =
-    go (type_among v.names (name_in book e.ty)) (decls-named v book es rest)
+decls_named v book [] a = tt
+decls_named v book (e ∷ es) (a, rest) =
+    go (type_among v.names (name_in book e.ty)) (decls_named v book es rest)
   where
     go : (f : FoundTy) → NamedDecls book (decls_of v book es)
         → NamedDecls book (then_decl f (λ ty. declared (size_at v) ty e) (decls_of v book es))
@@ -243,35 +244,35 @@ module _ (book : List ℕ) (ds : List Def) (i : ℕ) where
   abbrev entries : List MemberEntry
   entries = entries_from book (entries_at book i) 0 (count_of book i)
 
-  verdict-ends : VerdictMade (view_of ds) (name_in book (type_entry book i).name) (decls_of (view_of ds) book entries)
+  verdict_ends : VerdictMade (view_of ds) (name_in book (type_entry book i).name) (decls_of (view_of ds) book entries)
       (verdict_on book (view_of ds) i)
   unfolding verdict_on
-  verdict-ends =
-      entry-ends (view_of ds) book i (entries_at book i) (type_entry book i) _ _ (decls-named (view_of ds) book entries)
+  verdict_ends =
+      entry_ends (view_of ds) book i (entries_at book i) (type_entry book i) _ _ (decls_named (view_of ds) book entries)
 
-  verdict-made : (d : Def) → verdict_on book (view_of ds) i ≡ yes d
+  verdict_made : (d : Def) → verdict_on book (view_of ds) i ≡ yes d
       → TypeMade (view_of ds) (name_in book (type_entry book i).name) (decls_of (view_of ds) book entries) d
-  verdict-made d e = rw e at verdict-ends
+  verdict_made d e = rw e at verdict_ends
 
   -- the name is that of the entry
-  pub verdict-name : (d : Def) → verdict_on book (view_of ds) i ≡ yes d → d.name ≡ name_in book (type_entry book i).name
-  verdict-name d e = (verdict-made d e).name
+  pub verdict_name : (d : Def) → verdict_on book (view_of ds) i ≡ yes d → d.name ≡ name_in book (type_entry book i).name
+  verdict_name d e = (verdict_made d e).name
 
   -- no type is refused with 10 once its turn has come
-  pub verdict-never : (p : ℕ) → verdict_on book (view_of ds) i ≡ no (stuck_at p) → ⊥
-  verdict-never p e =
-      let z : (stuck_at p).0 ≡ 10 → ⊥ = rw e at verdict-ends in
+  pub verdict_never : (p : ℕ) → verdict_on book (view_of ds) i ≡ no (stuck_at p) → ⊥
+  verdict_never p e =
+      let z : (stuck_at p).0 ≡ 10 → ⊥ = rw e at verdict_ends in
       z refl
 
 -- a type that is added fits into the registry
-pub verdict-fits : (book : List ℕ) (ds : List Def) (i : ℕ) (d : Def) → Bytes book → TablesShow ds
+pub verdict_fits : (book : List ℕ) (ds : List Def) (i : ℕ) (d : Def) → Bytes book → TablesShow ds
     → verdict_on book (view_of ds) i ≡ yes d → FitsRegistry ds d
 unfolding view_of
-verdict-fits book ds i d b s e =
-    let m = verdict-made book ds i d e in
+verdict_fits book ds i d b s e =
+    let m = verdict_made book ds i d e in
     let n = length-map ds (λ (x : Def). x.name) in
-    let able = decls-able (view_of ds) book (entries book ds i)
-    (entries-small book (entries_at book i) 0 (count_of book i) b) in
+    let able = decls_able (view_of ds) book (entries book ds i)
+    (entries_small book (entries_at book i) 0 (count_of book i) b) in
     record {
       few = omega (arith, m.room.types);
       rows = m.room.members;
@@ -284,65 +285,65 @@ verdict-fits book ds i d b s e =
 
 -- ---- and is laid out well
 
-decl-resolved : (v : View) (e : MemberEntry) (s : List ℕ) (ty : Ty) → type_among v.names s ≡ Is ty
+decl_resolved : (v : View) (e : MemberEntry) (s : List ℕ) (ty : Ty) → type_among v.names s ≡ Is ty
     → Resolved (size_at v) (length v.names) (declared (size_at v) ty e)
 unfolding resolved
-decl-resolved v e s ty q =
+decl_resolved v e s ty q =
     record {
       size = refl;
-      earlier = stored-earlier _ ty e.dim (found-earlier v.names s ty q);
-      align = (align-fair (stored_ty ty e.dim)).0;
+      earlier = stored_earlier _ ty e.dim (found_earlier v.names s ty q);
+      align = (align_fair (stored_ty ty e.dim)).0;
     }
 
-decls-resolved : (v : View) (book : List ℕ) (es : List MemberEntry)
+decls_resolved : (v : View) (book : List ℕ) (es : List MemberEntry)
     → Every (Resolved (size_at v) (length v.names)) (decls_of v book es)
 unfolding decls_of Every
-decls-resolved v book [] = tt
-decls-resolved v book (e ∷ es) =
-    go (type_among v.names (name_in book e.ty)) refl (decls-resolved v book es)
+decls_resolved v book [] = tt
+decls_resolved v book (e ∷ es) =
+    go (type_among v.names (name_in book e.ty)) refl (decls_resolved v book es)
   where
     go : (f : FoundTy) → type_among v.names (name_in book e.ty) ≡ f
         → Every (Resolved (size_at v) (length v.names)) (decls_of v book es)
         → Every (Resolved (size_at v) (length v.names))
         (then_decl f (λ ty. declared (size_at v) ty e) (decls_of v book es))
-    go (Is ty) q ih = (decl-resolved v e (name_in book e.ty) ty q, ih)
+    go (Is ty) q ih = (decl_resolved v e (name_in book e.ty) ty q, ih)
     go Nothing q ih = tt
 
 module _ (book : List ℕ) (ds : List Def) (i : ℕ) (d : Def) (e : verdict_on book (view_of ds) i ≡ yes d) where
   -- the parts of a type that is added have earlier types and lie inside its size, the visible ones apart
-  pub verdict-laid : Lies (size_at (view_of ds)) (length ds) d.size d.parts
+  pub verdict_laid : Lies (size_at (view_of ds)) (length ds) d.size d.parts
   unfolding view_of
-  verdict-laid =
+  verdict_laid =
       let n = length-map ds (λ (x : Def). x.name) in
-      rw n at ((verdict-made book ds i d e).laid _ (decls-resolved (view_of ds) book (entries book ds i)))
+      rw n at ((verdict_made book ds i d e).laid _ (decls_resolved (view_of ds) book (entries book ds i)))
 
   -- a type that is added has at most 2^26 + 224 bytes
-  pub verdict-most : d.size ≤ most_size + 224
-  verdict-most = (verdict-made book ds i d e).most
+  pub verdict_most : d.size ≤ most_size + 224
+  verdict_most = (verdict_made book ds i d e).most
 
   -- a type that is added after the predefined types is proper
-  pub verdict-proper : 4 ≤ length ds → Proper (length ds) d
-  verdict-proper l =
-      let m = verdict-made book ds i d e in
+  pub verdict_proper : 4 ≤ length ds → Proper (length ds) d
+  verdict_proper l =
+      let m = verdict_made book ds i d e in
       record {
         name = rw m.name m.good;
         parts = m.formed;
         first = λ h. absurd (let z : ⊥ = omega arith in z);
         early = λ h. absurd (let z : ⊥ = omega arith in z);
-        late = λ h. user-inside d.id m.id.0 m.id.1;
+        late = λ h. user_inside d.id m.id.0 m.id.1;
         kind = λ u. m.kind;
       }
 
   -- and a string where its kind says so
-  pub verdict-string : d.kind ≡ Str → StringParts d.size d.parts
-  verdict-string = (verdict-made book ds i d e).string
+  pub verdict_string : d.kind ≡ Str → StringParts d.size d.parts
+  verdict_string = (verdict_made book ds i d e).string
 
   -- its id and its name are those of no earlier type
-  pub verdict-unheld : in_use d.id (view_of ds).ids ≡ false
-  verdict-unheld = (verdict-made book ds i d e).unheld
+  pub verdict_unheld : in_use d.id (view_of ds).ids ≡ false
+  verdict_unheld = (verdict_made book ds i d e).unheld
 
   -- the name of a type that is added is no atomic's and that of no earlier type
-  pub verdict-unknown : is_found (type_among (view_of ds).names d.name) ≡ false
-  verdict-unknown =
-      let m = verdict-made book ds i d e in
+  pub verdict_unknown : is_found (type_among (view_of ds).names d.name) ≡ false
+  verdict_unknown =
+      let m = verdict_made book ds i d e in
       rw m.name m.unknown

@@ -1,5 +1,5 @@
 -- Laws of the declaration book: entries one after the other, and the ways out of its checks.
-use Prim.Native.Nat.{ℕ, zero, suc, ◌+◌, ◌-◌, ◌*◌, ◌/◌, ◌%◌, ◌<◌, ◌≤◌}
+use Prim.Native.Nat.{ℕ, suc, ◌+◌, ◌-◌, ◌*◌, ◌/◌, ◌%◌, ◌<◌, ◌≤◌}
 use native.Mathlib.Nat.{add-zero, zero-add, sub-zero}
 use native.Mathlib.Omega.{arith}
 use mathlib.Core.Path.{◌≡◌, sym, ◌∙◌}
@@ -26,58 +26,58 @@ module _ {A : Type 0} (f : ℕ → A) (n i : ℕ) where
       rw e
 
   -- past the last value none is left
-  pub from-none : n ≤ i → list_from f i (n - i) ≡ []
+  pub from_none : n ≤ i → list_from f i (n - i) ≡ []
   unfolding list_from
-  from-none l =
+  from_none l =
       let e : n - i ≡ 0 = omega arith in
       rw e
 
   module _ (p : A → Bool) (b : Bool) (l : i < n) (e : b ≡ p (f i)) where
     -- where the i-th passes a test, all that are left pass it where all after it do
-    pub every-on : b ≡ true → every p (list_from f i (n - i)) ≡ every p (list_from f (i + 1) (n - (i + 1)))
+    pub every_on : b ≡ true → every p (list_from f i (n - i)) ≡ every p (list_from f (i + 1) (n - (i + 1)))
     unfolding every
-    every-on q =
+    every_on q =
         let g : p (f i) ≡ true = sym e ∙ q in
         rw (from_cons l) (rw g)
 
     -- where the i-th fails a test, not all that are left pass it
-    pub every-off : b ≡ false → every p (list_from f i (n - i)) ≡ false
+    pub every_off : b ≡ false → every p (list_from f i (n - i)) ≡ false
     unfolding every
-    every-off q =
+    every_off q =
         let g : p (f i) ≡ false = sym e ∙ q in
         rw (from_cons l) (rw g)
 
   -- where none is left, all that are left pass a test
-  pub every-done : (p : A → Bool) → n ≤ i → every p (list_from f i (n - i)) ≡ true
+  pub every_done : (p : A → Bool) → n ≤ i → every p (list_from f i (n - i)) ≡ true
   unfolding every
-  every-done p l = rw (from-none l)
+  every_done p l = rw (from_none l)
 
 -- ---- places
 
 module _ (start end : ℕ) (s : Span) {at long : ℕ} (p : at ≡ s.at) (q : long ≡ s.long) where
   -- a place that begins before the bodies is not in them
-  pub before-bodies : at < start → false ≡ in_bodies start end s
+  pub before_bodies : at < start → false ≡ in_bodies start end s
   unfolding in_bodies
-  before-bodies l = rw (← p) (simp (lt-leb start at l))
+  before_bodies l = rw (← p) (simp (lt-leb start at l))
 
   -- a place that begins at their start or after is in them where it ends at or before their end
-  pub from-bodies : start ≤ at → leb (at + long) end ≡ in_bodies start end s
+  pub from_bodies : start ≤ at → leb (at + long) end ≡ in_bodies start end s
   unfolding in_bodies
-  from-bodies l = rw (← p, ← q) (simp (le-leb start at l))
+  from_bodies l = rw (← p, ← q) (simp (le-leb start at l))
 
 -- ---- an entry
 
 module _ (start end : ℕ) (e : TypeEntry) where
   -- a type entry with flags above 7 is not good
-  pub flags-over : 7 < e.flags → false ≡ type_ok start end e
+  pub flags_over : 7 < e.flags → false ≡ type_ok start end e
   unfolding type_ok
-  flags-over l = simp (lt-leb e.flags 7 l)
+  flags_over l = simp (lt-leb e.flags 7 l)
 
   module _ (f : e.flags ≤ 7) where
     -- a type entry whose last field is not 0 is not good
-    pub not-zero : (e.zero ≡ 0 → ⊥) → false ≡ type_ok start end e
+    pub not_zero : (e.zero ≡ 0 → ⊥) → false ≡ type_ok start end e
     unfolding type_ok
-    not-zero n = simp (le-leb e.flags 7 f, ne_eqb e.zero 0 n)
+    not_zero n = simp (le-leb e.flags 7 f, ne_eqb e.zero 0 n)
 
     module _ (z : e.zero ≡ 0) (a : Bool) (p : a ≡ (leb 4 e.flags || eqb e.id 0)) where
       -- a type entry without the id flag but with an id is not good
@@ -89,17 +89,17 @@ module _ (start end : ℕ) (e : TypeEntry) where
 
       module _ (q : a ≡ true) (b : Bool) (r : b ≡ (eqb (e.flags / 2 % 2) 1 || eqb e.string 0)) where
         -- a type entry without the string flag but with a string length is not good
-        pub string-left : b ≡ false → false ≡ type_ok start end e
+        pub string_left : b ≡ false → false ≡ type_ok start end e
         unfolding type_ok
-        string-left s =
+        string_left s =
             let g : (leb 4 e.flags || eqb e.id 0) ≡ true = sym p ∙ q in
             let h : (eqb (e.flags / 2 % 2) 1 || eqb e.string 0) ≡ false = sym r ∙ s in
             simp (le-leb e.flags 7 f, eq-eqb e.zero 0 z, g, h)
 
         -- a type entry that passes these tests is good where its name lies in the bodies
-        pub type-named : b ≡ true → in_bodies start end e.name ≡ type_ok start end e
+        pub type_named : b ≡ true → in_bodies start end e.name ≡ type_ok start end e
         unfolding type_ok
-        type-named s =
+        type_named s =
             let g : (leb 4 e.flags || eqb e.id 0) ≡ true = sym p ∙ q in
             let h : (eqb (e.flags / 2 % 2) 1 || eqb e.string 0) ≡ true = sym r ∙ s in
             simp (le-leb e.flags 7 f, eq-eqb e.zero 0 z, g, h)
@@ -112,16 +112,16 @@ module _ (start end : ℕ) (e : MemberEntry) where
 
   module _ (l : e.local ≤ 1) (a : Bool) (p : a ≡ in_bodies start end e.name) where
     -- a member entry whose name does not lie in the bodies is not good
-    pub name-outside : a ≡ false → false ≡ member_ok start end e
+    pub name_outside : a ≡ false → false ≡ member_ok start end e
     unfolding member_ok
-    name-outside q =
+    name_outside q =
         let g : in_bodies start end e.name ≡ false = sym p ∙ q in
         simp (le-leb e.local 1 l, g)
 
     -- a member entry that passes these tests is good where its type name lies in the bodies
-    pub name-inside : a ≡ true → in_bodies start end e.ty ≡ member_ok start end e
+    pub name_inside : a ≡ true → in_bodies start end e.ty ≡ member_ok start end e
     unfolding member_ok
-    name-inside q =
+    name_inside q =
         let g : in_bodies start end e.name ≡ true = sym p ∙ q in
         simp (le-leb e.local 1 l, g)
 
@@ -134,8 +134,8 @@ pub record Summing (book : List ℕ) (n sum i : ℕ) : Type 0 where
   pub same : sum_counts (list_from (type_entry book) 0 n) ≡ sum + sum_counts (list_from (type_entry book) i (n - i))
 
 -- before the first entry the sum is 0
-pub sum-start : (book : List ℕ) (n : ℕ) → Summing book n 0 0
-sum-start book n = record { done = omega arith; small = omega arith; same = rw (sub-zero, zero-add) }
+pub sum_start : (book : List ℕ) (n : ℕ) → Summing book n 0 0
+sum_start book n = record { done = omega arith; small = omega arith; same = rw (sub-zero, zero-add) }
 
 module _ {book : List ℕ} {n sum i : ℕ} (s : Summing book n sum i) where
   -- after the last entry the sum is that of all counts
@@ -143,14 +143,14 @@ module _ {book : List ℕ} {n sum i : ℕ} (s : Summing book n sum i) where
   unfolding sum_counts
   sum_done l =
       record {
-        is = sym (rw (from-none (type_entry book) n i l) at s.same ∙ add-zero sum);
+        is = sym (rw (from_none (type_entry book) n i l) at s.same ∙ add-zero sum);
         small = omega (arith, s.small, s.done);
       }
 
   -- with the i-th entry's count added, the sum has come one entry further
-  pub sum-on : i < n → {k : ℕ} → k ≡ (type_entry book i).count → k < 65536 → Summing book n (sum + k) (i + 1)
+  pub sum_on : i < n → {k : ℕ} → k ≡ (type_entry book i).count → k < 65536 → Summing book n (sum + k) (i + 1)
   unfolding sum_counts
-  sum-on l e h =
+  sum_on l e h =
       record {
         done = omega arith;
         small = omega (arith, s.small);
@@ -161,37 +161,37 @@ module _ {book : List ℕ} {n sum i : ℕ} (s : Summing book n sum i) where
 
 module _ (s : List ℕ) where
   -- a book of fewer than 4 bytes is not well formed
-  pub book-short : length s < 4 → false ≡ book_ok s
+  pub book_short : length s < 4 → false ≡ book_ok s
   unfolding book_ok
-  book-short l = simp (lt-leb 4 (length s) l)
+  book_short l = simp (lt-leb 4 (length s) l)
 
   module _ (l : 4 ≤ length s) where
     -- a book that ends before its bodies begin is not well formed
-    pub no-bodies : length s < bodies_at s → false ≡ book_ok s
+    pub no_bodies : length s < bodies_at s → false ≡ book_ok s
     unfolding book_ok
-    no-bodies k = simp (le-leb 4 (length s) l, lt-leb (bodies_at s) (length s) k)
+    no_bodies k = simp (le-leb 4 (length s) l, lt-leb (bodies_at s) (length s) k)
 
     module _ (k : bodies_at s ≤ length s) (a : Bool) (p : a ≡ every (type_ok (bodies_at s) (length s)) (type_entries s))
       where
         -- a book with a type entry that is not good is not well formed
-        pub types-wrong : a ≡ false → false ≡ book_ok s
+        pub types_wrong : a ≡ false → false ≡ book_ok s
         unfolding book_ok
-        types-wrong q =
+        types_wrong q =
             let g : every (type_ok (bodies_at s) (length s)) (type_entries s) ≡ false = sym p ∙ q in
             simp (le-leb 4 (length s) l, le-leb (bodies_at s) (length s) k, g)
 
         module _ (q : a ≡ true) where
           -- a book whose counts do not sum to the number of its members is not well formed
-          pub counts-wrong : (sum_counts (type_entries s) ≡ members_in s → ⊥) → false ≡ book_ok s
+          pub counts_wrong : (sum_counts (type_entries s) ≡ members_in s → ⊥) → false ≡ book_ok s
           unfolding book_ok
-          counts-wrong n =
+          counts_wrong n =
               let g : every (type_ok (bodies_at s) (length s)) (type_entries s) ≡ true = sym p ∙ q in
               simp (le-leb 4 (length s) l, le-leb (bodies_at s) (length s) k, g, ne_eqb _ _ n)
 
           -- a book that passes these tests is well formed where all its member entries are good
-          pub members-decide : sum_counts (type_entries s) ≡ members_in s
+          pub members_decide : sum_counts (type_entries s) ≡ members_in s
               → every (member_ok (bodies_at s) (length s)) (member_entries s) ≡ book_ok s
           unfolding book_ok
-          members-decide e =
+          members_decide e =
               let g : every (type_ok (bodies_at s) (length s)) (type_entries s) ≡ true = sym p ∙ q in
               simp (le-leb 4 (length s) l, le-leb (bodies_at s) (length s) k, g, eq-eqb _ _ e)

@@ -32,10 +32,10 @@ module _ (sizes : ℕ → ℕ) (ty : Ty) (dim : ℕ) (name : Span) (local : Bool
   one_bool b e = simp (b, eq-eqb dim 0 e)
 
   -- a BOOL with dim above 0 is stored as DWORDs, one for every 32 that were begun
-  pub bool-array : is_bool ty ≡ true → (dim ≡ 0 → ⊥)
+  pub bool_array_lem : is_bool ty ≡ true → (dim ≡ 0 → ⊥)
       → plain sizes (Atomic DWord) ((dim - 1) / 32 + 1) name local access ≡ resolved sizes ty dim name local access
   unfolding resolved stored_ty stored_count bool_array
-  bool-array b n =
+  bool_array_lem b n =
       let e : (dim + 31) / 32 ≡ (dim - 1) / 32 + 1 = omega (arith, n) in
       simp (b, ne_eqb dim 0 n, e)
 
@@ -45,18 +45,18 @@ module _ (sizes : ℕ → ℕ) (ty : Ty) (dim : ℕ) (name : Span) (local : Bool
   no_bool b = simp b
 
 -- the first of the declared members that are left, and those after it
-pub decls-cons : (types book tys : List ℕ) (at n j : ℕ) → j < n
+pub decls_cons : (types book tys : List ℕ) (at n j : ℕ) → j < n
     → decls_from types book tys at j (n - j)
     ≡ decl_at types book tys at j ∷ decls_from types book tys at (j + 1) (n - (j + 1))
 unfolding decls_from
-decls-cons types book tys at n j l =
+decls_cons types book tys at n j l =
     let e : n - j ≡ suc (n - (j + 1)) = omega arith in
     rw e
 
 -- past the last declared member none is left
-pub decls-none : (types book tys : List ℕ) (at n j : ℕ) → n ≤ j → decls_from types book tys at j (n - j) ≡ []
+pub decls_none : (types book tys : List ℕ) (at n j : ℕ) → n ≤ j → decls_from types book tys at j (n - j) ≡ []
 unfolding decls_from
-decls-none types book tys at n j l =
+decls_none types book tys at n j l =
     let e : n - j ≡ 0 = omega arith in
     rw e
 
@@ -71,47 +71,47 @@ found_first m l f =
 
 -- ---- what every declared member of a book has
 
-size-least : (a : Kind) → 1 ≤ size_of a
+size_least : (a : Kind) → 1 ≤ size_of a
 unfolding size_of
-size-least BOOL = lit≤ tt
-size-least SInt = lit≤ tt
-size-least Int = lit≤ tt
-size-least DInt = lit≤ tt
-size-least LInt = lit≤ tt
-size-least USInt = lit≤ tt
-size-least UInt = lit≤ tt
-size-least UDInt = lit≤ tt
-size-least ULInt = lit≤ tt
-size-least Real = lit≤ tt
-size-least LReal = lit≤ tt
-size-least Byte = lit≤ tt
-size-least Word = lit≤ tt
-size-least DWord = lit≤ tt
-size-least LWord = lit≤ tt
+size_least BOOL = lit≤ tt
+size_least SInt = lit≤ tt
+size_least Int = lit≤ tt
+size_least DInt = lit≤ tt
+size_least LInt = lit≤ tt
+size_least USInt = lit≤ tt
+size_least UInt = lit≤ tt
+size_least UDInt = lit≤ tt
+size_least ULInt = lit≤ tt
+size_least Real = lit≤ tt
+size_least LReal = lit≤ tt
+size_least Byte = lit≤ tt
+size_least Word = lit≤ tt
+size_least DWord = lit≤ tt
+size_least LWord = lit≤ tt
 
 -- a type's alignment is from 1 to 4
-pub align-fair : (t : Ty) → (0 < align_in t) × (align_in t ≤ 4)
-align-fair (Atomic a) = (omega (arith, size-least a), omega arith)
-align-fair (Struct n) = (omega arith, omega arith)
+pub align_fair : (t : Ty) → (0 < align_in t) × (align_in t ≤ 4)
+align_fair (Atomic a) = (omega (arith, size_least a), omega arith)
+align_fair (Struct n) = (omega arith, omega arith)
 
 -- a declared member of a book has an alignment from 1 to 4 and a name of fewer than 256 bytes
-pub decl-fair : (types book tys : List ℕ) (at j : ℕ) → Bytes book → Fair (decl_at types book tys at j)
+pub decl_fair : (types book tys : List ℕ) (at j : ℕ) → Bytes book → Fair (decl_at types book tys at j)
 unfolding decl_at resolved
-decl-fair types book tys at j b =
-    let a = align-fair (stored_ty (ty_of_word (get_or tys j 0)) (word_at 4 book (at + 16 * j + 8))) in
+decl_fair types book tys at j b =
+    let a = align_fair (stored_ty (ty_of_word (get_or tys j 0)) (word_at 4 book (at + 16 * j + 8))) in
     record { least = a.0; most = a.1; name = word_below 1 book (at + 16 * j + 4) b }
 
 -- what is stored for a found type is of that type, or DWORDs
-stored-fits : (t : Ty) (dim : ℕ) → TyFits t → TyFits (stored_ty t dim)
+stored_fits : (t : Ty) (dim : ℕ) → TyFits t → TyFits (stored_ty t dim)
 unfolding stored_ty
-stored-fits t dim f = go (bool_array t dim)
+stored_fits t dim f = go (bool_array t dim)
   where
     go : (b : Bool) → TyFits (cond b (Atomic DWord) t)
     go true = tt
     go false = f
 
 -- the type of a declared member whose type was found is an atomic or a structure below 200
-pub decl-ty : (types book tys : List ℕ) (at n j : ℕ) → j < n → Found book tys at n
+pub decl_ty : (types book tys : List ℕ) (at n j : ℕ) → j < n → Found book tys at n
     → TyFits (decl_at types book tys at j).ty
 unfolding decl_at resolved
-decl-ty types book tys at n j l f = stored-fits (ty_of_word (get_or tys j 0)) _ (f.types j l)
+decl_ty types book tys at n j l f = stored_fits (ty_of_word (get_or tys j 0)) _ (f.types j l)

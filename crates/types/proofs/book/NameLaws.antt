@@ -10,44 +10,44 @@ use borrow.Author.Tests.{eq-eqb, ne_eqb, eqb-true, le-leb, lt-leb, leb-true}
 use lib.Dec.{eqb, leb}
 use lib.ListN.{length, get_or, drop, drop_of_length-le}
 use lib.Seq.{drop-cons}
-use Rattle.words.proofs.TestLaws.{and_left, and_right, and-off}
+use Rattle.words.proofs.TestLaws.{and_left, and_right, and_off}
 use Rattle.types.specs.book.Names.{lower_of, same_name, name_byte, name_bytes, good_name}
 
 -- ---- small letters
 
 -- a byte below A stays as it is
-pub lower-below : (x : ℕ) → x < 65 → x ≡ lower_of x
+pub lower_below : (x : ℕ) → x < 65 → x ≡ lower_of x
 unfolding lower_of
-lower-below x h = simp (lt-leb 65 x h)
+lower_below x h = simp (lt-leb 65 x h)
 
 -- a byte from A to Z becomes its small letter, 32 higher
-pub lower-capital : (x : ℕ) → 65 ≤ x → x ≤ 90 → x + 32 ≡ lower_of x
+pub lower_capital : (x : ℕ) → 65 ≤ x → x ≤ 90 → x + 32 ≡ lower_of x
 unfolding lower_of
-lower-capital x h k = simp (le-leb 65 x h, le-leb x 90 k)
+lower_capital x h k = simp (le-leb 65 x h, le-leb x 90 k)
 
 -- a byte above Z stays as it is
-pub lower-above : (x : ℕ) → 65 ≤ x → 90 < x → x ≡ lower_of x
+pub lower_above : (x : ℕ) → 65 ≤ x → 90 < x → x ≡ lower_of x
 unfolding lower_of
-lower-above x h k = simp (le-leb 65 x h, lt-leb x 90 k)
+lower_above x h k = simp (le-leb 65 x h, lt-leb x 90 k)
 
 -- ---- equality without case
 
-same-on : (x y : ℕ) (xs ys : List ℕ) → lower_of x ≡ lower_of y → same_name (x ∷ xs) (y ∷ ys) ≡ same_name xs ys
+same_on : (x y : ℕ) (xs ys : List ℕ) → lower_of x ≡ lower_of y → same_name (x ∷ xs) (y ∷ ys) ≡ same_name xs ys
 unfolding same_name
-same-on x y xs ys e = simp (eq-eqb _ _ e)
+same_on x y xs ys e = simp (eq-eqb _ _ e)
 
-same-off : (x y : ℕ) (xs ys : List ℕ) → (lower_of x ≡ lower_of y → ⊥) → same_name (x ∷ xs) (y ∷ ys) ≡ false
+same_off : (x y : ℕ) (xs ys : List ℕ) → (lower_of x ≡ lower_of y → ⊥) → same_name (x ∷ xs) (y ∷ ys) ≡ false
 unfolding same_name
-same-off x y xs ys e = simp (ne_eqb _ _ e)
+same_off x y xs ys e = simp (ne_eqb _ _ e)
 
 -- names of two lengths differ
-pub same-long : (xs ys : List ℕ) → (length xs ≡ length ys → ⊥) → same_name xs ys ≡ false
+pub same_long : (xs ys : List ℕ) → (length xs ≡ length ys → ⊥) → same_name xs ys ≡ false
 unfolding same_name
-same-long [] [] n = absurd (n refl)
-same-long [] (y ∷ ys) n = refl
-same-long (x ∷ xs) [] n = refl
-same-long (x ∷ xs) (y ∷ ys) n =
-    and-off (eqb (lower_of x) (lower_of y)) (same_name xs ys) (same-long xs ys (λ e. n (ap suc e)))
+same_long [] [] n = absurd (n refl)
+same_long [] (y ∷ ys) n = refl
+same_long (x ∷ xs) [] n = refl
+same_long (x ∷ xs) (y ∷ ys) n =
+    and_off (eqb (lower_of x) (lower_of y)) (same_name xs ys) (same_long xs ys (λ e. n (ap suc e)))
 
 -- the test says that the small letters are equal, and is passed where they are
 same_head : (u v : ℕ) (xs ys : List ℕ) → (same_name xs ys ≡ true → map lower_of xs ≡ map lower_of ys) → (b : Bool)
@@ -60,35 +60,35 @@ same_head u v xs ys rest true p q =
 same_head u v xs ys rest false p q = cc
 
 -- names that are the same have the same small letters
-pub same-lower : (xs ys : List ℕ) → same_name xs ys ≡ true → map lower_of xs ≡ map lower_of ys
+pub same_lower : (xs ys : List ℕ) → same_name xs ys ≡ true → map lower_of xs ≡ map lower_of ys
 unfolding same_name
-same-lower [] [] e = refl
-same-lower [] (y ∷ ys) e = let z : ◌≡◌ {A = List ℕ} [] (map lower_of (y ∷ ys)) = cc in z
-same-lower (x ∷ xs) [] e = let z : ◌≡◌ {A = List ℕ} (map lower_of (x ∷ xs)) [] = cc in z
-same-lower (x ∷ xs) (y ∷ ys) e =
-    same_head (lower_of x) (lower_of y) xs ys (same-lower xs ys) (eqb (lower_of x) (lower_of y)) refl e
+same_lower [] [] e = refl
+same_lower [] (y ∷ ys) e = let z : ◌≡◌ {A = List ℕ} [] (map lower_of (y ∷ ys)) = cc in z
+same_lower (x ∷ xs) [] e = let z : ◌≡◌ {A = List ℕ} (map lower_of (x ∷ xs)) [] = cc in z
+same_lower (x ∷ xs) (y ∷ ys) e =
+    same_head (lower_of x) (lower_of y) xs ys (same_lower xs ys) (eqb (lower_of x) (lower_of y)) refl e
 
 -- names with the same small letters are the same
-pub lower-same : (xs ys : List ℕ) → map lower_of xs ≡ map lower_of ys → same_name xs ys ≡ true
+pub lower_same : (xs ys : List ℕ) → map lower_of xs ≡ map lower_of ys → same_name xs ys ≡ true
 unfolding same_name
-lower-same [] [] e = refl
-lower-same [] (y ∷ ys) e = let z : false ≡ true = cc in z
-lower-same (x ∷ xs) [] e = let z : false ≡ true = cc in z
-lower-same (x ∷ xs) (y ∷ ys) e =
+lower_same [] [] e = refl
+lower_same [] (y ∷ ys) e = let z : false ≡ true = cc in z
+lower_same (x ∷ xs) [] e = let z : false ≡ true = cc in z
+lower_same (x ∷ xs) (y ∷ ys) e =
     let e' : lower_of x ∷ map lower_of xs ≡ lower_of y ∷ map lower_of ys = e in
     let h : lower_of x ≡ lower_of y = cc in
     let t : map lower_of xs ≡ map lower_of ys = cc in
-    same-on x y xs ys h ∙ lower-same xs ys t
+    same_on x y xs ys h ∙ lower_same xs ys t
 
 -- names are the same where each byte is
-same-each : (xs ys : List ℕ) → length xs ≡ length ys
+same_each : (xs ys : List ℕ) → length xs ≡ length ys
     → ((j : ℕ) → j < length xs → lower_of (get_or xs j 0) ≡ lower_of (get_or ys j 0)) → same_name xs ys ≡ true
 unfolding same_name
-same-each [] [] l e = refl
-same-each [] (y ∷ ys) l e = absurd (let z : ⊥ = omega arith in z)
-same-each (x ∷ xs) [] l e = absurd (let z : ⊥ = omega arith in z)
-same-each (x ∷ xs) (y ∷ ys) l e =
-    same-on x y xs ys (e 0 (omega arith)) ∙ same-each xs ys (omega arith) (λ j h. e (suc j) (omega arith))
+same_each [] [] l e = refl
+same_each [] (y ∷ ys) l e = absurd (let z : ⊥ = omega arith in z)
+same_each (x ∷ xs) [] l e = absurd (let z : ⊥ = omega arith in z)
+same_each (x ∷ xs) (y ∷ ys) l e =
+    same_on x y xs ys (e 0 (omega arith)) ∙ same_each xs ys (omega arith) (λ j h. e (suc j) (omega arith))
 
 -- and differ where one does
 same_not : (xs ys : List ℕ) (j : ℕ) → j < length xs → j < length ys
@@ -96,9 +96,9 @@ same_not : (xs ys : List ℕ) (j : ℕ) → j < length xs → j < length ys
 unfolding same_name
 same_not [] ys j l m e = absurd (let z : ⊥ = omega arith in z)
 same_not (x ∷ xs) [] j l m e = absurd (let z : ⊥ = omega arith in z)
-same_not (x ∷ xs) (y ∷ ys) zero l m e = same-off x y xs ys e
+same_not (x ∷ xs) (y ∷ ys) zero l m e = same_off x y xs ys e
 same_not (x ∷ xs) (y ∷ ys) (suc j) l m e =
-    and-off (eqb (lower_of x) (lower_of y)) (same_name xs ys) (same_not xs ys j (omega arith) (omega arith) e)
+    and_off (eqb (lower_of x) (lower_of y)) (same_name xs ys) (same_not xs ys j (omega arith) (omega arith) e)
 
 -- two names of one length have the same bytes from the i-th on
 pub record SameFrom (a b : List ℕ) (i : ℕ) : Type 0 where
@@ -124,19 +124,19 @@ module _ {a b : List ℕ} {i : ℕ} (s : SameFrom a b i) where
       go j h m (no o) = s.same j (omega (arith, o)) m
 
   -- where the byte before differs, the names differ
-  pub from-not : 0 < i → (lower_of (get_or a (i - 1) 0) ≡ lower_of (get_or b (i - 1) 0) → ⊥) → same_name a b ≡ false
-  from-not l e = same_not a b (i - 1) (omega (arith, s.inside)) (omega (arith, s.inside, s.long)) e
+  pub from_not : 0 < i → (lower_of (get_or a (i - 1) 0) ≡ lower_of (get_or b (i - 1) 0) → ⊥) → same_name a b ≡ false
+  from_not l e = same_not a b (i - 1) (omega (arith, s.inside)) (omega (arith, s.inside, s.long)) e
 
   -- two names with the same bytes from the first on are the same
   pub from_first : i ≤ 0 → same_name a b ≡ true
-  from_first l = same-each a b s.long (λ j h. s.same j (omega arith) h)
+  from_first l = same_each a b s.long (λ j h. s.same j (omega arith) h)
 
 -- ---- the rule
 
 -- a byte below 0x21 is not allowed in a name
-pub byte-below : (x : ℕ) → x < 0x21 → false ≡ name_byte x
+pub byte_below : (x : ℕ) → x < 0x21 → false ≡ name_byte x
 unfolding name_byte
-byte-below x h = simp (lt-leb 0x21 x h)
+byte_below x h = simp (lt-leb 0x21 x h)
 
 -- a byte above 0x7E is not allowed in a name
 pub byte_above : (x : ℕ) → 0x21 ≤ x → 0x7E < x → false ≡ name_byte x
@@ -144,9 +144,9 @@ unfolding name_byte
 byte_above x h k = simp (le-leb 0x21 x h, lt-leb x 0x7E k)
 
 -- a byte from 0x21 to 0x7E is allowed in a name where it is not `;`
-pub byte-within : (x : ℕ) → 0x21 ≤ x → x ≤ 0x7E → not (eqb x 59) ≡ name_byte x
+pub byte_within : (x : ℕ) → 0x21 ≤ x → x ≤ 0x7E → not (eqb x 59) ≡ name_byte x
 unfolding name_byte
-byte-within x h k = simp (le-leb 0x21 x h, le-leb x 0x7E k)
+byte_within x h k = simp (le-leb 0x21 x h, le-leb x 0x7E k)
 
 -- one byte of what is left of a name
 module _ (s : List ℕ) (i : ℕ) (l : i < length s) {b : Bool} (e : b ≡ name_byte (get_or s i 0)) where
@@ -158,31 +158,31 @@ module _ (s : List ℕ) (i : ℕ) (l : i < length s) {b : Bool} (e : b ≡ name_
       rw (add-one, drop-cons s i 0 l, g)
 
   -- where the i-th byte is not allowed, what is left is not
-  pub bytes-off : b ≡ false → name_bytes (drop i s) ≡ false
+  pub bytes_off : b ≡ false → name_bytes (drop i s) ≡ false
   unfolding name_bytes
-  bytes-off q =
+  bytes_off q =
       let g : name_byte (get_or s i 0) ≡ false = sym e ∙ q in
       rw (drop-cons s i 0 l, g)
 
 -- where no byte is left, what is left is allowed
-pub bytes-done : (s : List ℕ) (i : ℕ) → length s ≤ i → name_bytes (drop i s) ≡ true
+pub bytes_done : (s : List ℕ) (i : ℕ) → length s ≤ i → name_bytes (drop i s) ≡ true
 unfolding name_bytes
-bytes-done s i l = rw (drop_of_length-le s l)
+bytes_done s i l = rw (drop_of_length-le s l)
 
 -- a name of no bytes is not good
-pub good-empty : (s : List ℕ) → length s < 1 → false ≡ good_name s
+pub good_empty : (s : List ℕ) → length s < 1 → false ≡ good_name s
 unfolding good_name
-good-empty s h = simp (lt-leb 1 (length s) h)
+good_empty s h = simp (lt-leb 1 (length s) h)
 
 -- a name of more than 40 bytes is not good
-pub good-long : (s : List ℕ) → 1 ≤ length s → 40 < length s → false ≡ good_name s
+pub good_long : (s : List ℕ) → 1 ≤ length s → 40 < length s → false ≡ good_name s
 unfolding good_name
-good-long s h k = simp (le-leb 1 (length s) h, lt-leb (length s) 40 k)
+good_long s h k = simp (le-leb 1 (length s) h, lt-leb (length s) 40 k)
 
 -- a name of 1 to 40 bytes is good where each of its bytes is allowed
-pub good-within : (s : List ℕ) → 1 ≤ length s → length s ≤ 40 → name_bytes s ≡ good_name s
+pub good_within : (s : List ℕ) → 1 ≤ length s → length s ≤ 40 → name_bytes s ≡ good_name s
 unfolding good_name
-good-within s h k = simp (le-leb 1 (length s) h, le-leb (length s) 40 k)
+good_within s h k = simp (le-leb 1 (length s) h, le-leb (length s) 40 k)
 
 -- what a good name has
 pub record NameRule (s : List ℕ) : Type 0 where
@@ -191,9 +191,9 @@ pub record NameRule (s : List ℕ) : Type 0 where
   pub bytes : name_bytes s ≡ true
 
 -- a good name has 1 to 40 bytes, each of them allowed
-pub name-rule : (s : List ℕ) → good_name s ≡ true → NameRule s
+pub name_rule : (s : List ℕ) → good_name s ≡ true → NameRule s
 unfolding good_name
-name-rule s q =
+name_rule s q =
     let a = leb 1 (length s) in
     let b = leb (length s) 40 in
     let long = and_left (a && b) (name_bytes s) q in
@@ -204,5 +204,5 @@ name-rule s q =
     }
 
 -- a name of 1 to 40 bytes, each of them allowed, is good
-pub rule-good : (s : List ℕ) → NameRule s → good_name s ≡ true
-rule-good s r = sym (good-within s r.least r.most) ∙ r.bytes
+pub rule_good : (s : List ℕ) → NameRule s → good_name s ≡ true
+rule_good s r = sym (good_within s r.least r.most) ∙ r.bytes

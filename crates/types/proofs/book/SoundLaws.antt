@@ -21,13 +21,13 @@ use Rattle.types.specs.declared.tables.member.Span.{Span}
 
 -- ---- each of a list
 
-every-at : {A : Type 0} (p : A → Bool) (f : ℕ → A) (j n i : ℕ) → every p (list_from f j n) ≡ true → j ≤ i → i < j + n
+every_at : {A : Type 0} (p : A → Bool) (f : ℕ → A) (j n i : ℕ) → every p (list_from f j n) ≡ true → j ≤ i → i < j + n
     → p (f i) ≡ true
 unfolding every list_from
-every-at p f j zero i q l h = absurd (omega arith)
-every-at p f j (suc n) i q l h =
+every_at p f j zero i q l h = absurd (omega arith)
+every_at p f j (suc n) i q l h =
     let both = (and-eq-true_iff (p (f j)) (every p (list_from f (j + 1) n))).0 q in
-    go both.0 (every-at p f (j + 1) n i both.1) (dec_lt j i)
+    go both.0 (every_at p f (j + 1) n i both.1) (dec_lt j i)
   where
     go : p (f j) ≡ true → (j + 1 ≤ i → i < j + 1 + n → p (f i) ≡ true) → Dec (j < i) → p (f i) ≡ true
     go here later (yes o) = later (omega arith) (omega arith)
@@ -37,25 +37,25 @@ every-at p f j (suc n) i q l h =
 
 -- ---- an entry's names
 
-bodies-end : (start end : ℕ) (s : Span) → in_bodies start end s ≡ true → s.at + s.long ≤ end
+bodies_end : (start end : ℕ) (s : Span) → in_bodies start end s ≡ true → s.at + s.long ≤ end
 unfolding in_bodies
-bodies-end start end s q =
+bodies_end start end s q =
     leb-true _ _ ((and-eq-true_iff (leb start s.at) (leb (s.at + s.long) end)).0 q).1
 
-type-name : (start end : ℕ) (e : TypeEntry) → type_ok start end e ≡ true → e.name.at + e.name.long ≤ end
+type_name : (start end : ℕ) (e : TypeEntry) → type_ok start end e ≡ true → e.name.at + e.name.long ≤ end
 unfolding type_ok
-type-name start end e q =
+type_name start end e q =
     let before = leb e.flags 7 && eqb e.zero 0 && (leb 4 e.flags || eqb e.id 0)
     && (eqb (e.flags / 2 % 2) 1 || eqb e.string 0) in
-    bodies-end start end e.name ((and-eq-true_iff before (in_bodies start end e.name)).0 q).1
+    bodies_end start end e.name ((and-eq-true_iff before (in_bodies start end e.name)).0 q).1
 
-member-names : (start end : ℕ) (e : MemberEntry) → member_ok start end e ≡ true
+member_names : (start end : ℕ) (e : MemberEntry) → member_ok start end e ≡ true
     → (e.name.at + e.name.long ≤ end) × (e.ty.at + e.ty.long ≤ end)
 unfolding member_ok
-member-names start end e q =
+member_names start end e q =
     let both = (and-eq-true_iff (leb e.local 1 && in_bodies start end e.name) (in_bodies start end e.ty)).0 q in
     let name = (and-eq-true_iff (leb e.local 1) (in_bodies start end e.name)).0 both.0 in
-    (bodies-end start end e.name name.1, bodies-end start end e.ty both.1)
+    (bodies_end start end e.name name.1, bodies_end start end e.ty both.1)
 
 -- ---- the whole
 
@@ -85,36 +85,36 @@ sound book q =
     let q1 = (and-eq-true_iff a b).0 q2.0 in
     record {
       room = leb-true _ _ q1.1;
-      types = λ i l. type-name start (length book) (type_entry book i)
-          (every-at (type_ok start (length book)) (type_entry book) 0 (types_in book) i q2.1
+      types = λ i l. type_name start (length book) (type_entry book i)
+          (every_at (type_ok start (length book)) (type_entry book) 0 (types_in book) i q2.1
           (omega arith) (omega arith));
-      names = λ k l. (member-names start (length book) (member_entry book (types_in book) k)
-          (every-at (member_ok start (length book)) (member_entry book (types_in book)) 0 (members_in book) k q4.1
+      names = λ k l. (member_names start (length book) (member_entry book (types_in book) k)
+          (every_at (member_ok start (length book)) (member_entry book (types_in book)) 0 (members_in book) k q4.1
           (omega arith) (omega arith))).0;
-      uses = λ k l. (member-names start (length book) (member_entry book (types_in book) k)
-          (every-at (member_ok start (length book)) (member_entry book (types_in book)) 0 (members_in book) k q4.1
+      uses = λ k l. (member_names start (length book) (member_entry book (types_in book) k)
+          (every_at (member_ok start (length book)) (member_entry book (types_in book)) 0 (members_in book) k q4.1
           (omega arith) (omega arith))).1;
       sums = eqb-true _ _ q3.1;
     }
 
 -- ---- one type's members after the other's
 
-sum-add : (book : List ℕ) (j a b : ℕ) → sum_counts (list_from (type_entry book) j (a + b))
+sum_add : (book : List ℕ) (j a b : ℕ) → sum_counts (list_from (type_entry book) j (a + b))
     ≡ sum_counts (list_from (type_entry book) j a) + sum_counts (list_from (type_entry book) (j + a) b)
 unfolding sum_counts list_from
-sum-add book j zero b = rw (zero-add b, add-zero j) (sym (zero-add _))
-sum-add book j (suc a) b =
+sum_add book j zero b = rw (zero-add b, add-zero j) (sym (zero-add _))
+sum_add book j (suc a) b =
     let e : j + suc a ≡ j + 1 + a = omega arith in
-    rw (suc-add, e) (omega (arith, sum-add book (j + 1) a b))
+    rw (suc-add, e) (omega (arith, sum_add book (j + 1) a b))
 
 first_next : (book : List ℕ) (i : ℕ) → first_member book (i + 1) ≡ first_member book i + count_of book i
 unfolding first_member sum_counts list_from
-first_next book i = sum-add book 0 i 1 ∙ rw (zero-add, add-zero)
+first_next book i = sum_add book 0 i 1 ∙ rw (zero-add, add-zero)
 
 -- the members of the first type begin right after the type entries
-pub entries-first : (book : List ℕ) → 4 + 16 * types_in book ≡ entries_at book 0
+pub entries_first : (book : List ℕ) → 4 + 16 * types_in book ≡ entries_at book 0
 unfolding entries_at first_member sum_counts list_from
-entries-first book = omega arith
+entries_first book = omega arith
 
 -- the members of the next type begin where those of the i-th end
 pub entries_next : (book : List ℕ) (i : ℕ) → entries_at book i + 16 * count_of book i ≡ entries_at book (i + 1)
@@ -123,30 +123,30 @@ entries_next book i = omega (arith, first_next book i)
 
 module _ {book : List ℕ} (s : BookSound book) {i : ℕ} (l : i < types_in book) where
   -- the members of the i-th type are among all
-  pub among-all : first_member book i + count_of book i ≤ members_in book
+  pub among_all : first_member book i + count_of book i ≤ members_in book
   unfolding first_member
-  among-all =
+  among_all =
       let t = types_in book in
       let e : i + 1 + (t - (i + 1)) ≡ t = omega arith in
-      omega (arith, first_next book i, s.sums, rw e at (sum-add book 0 (i + 1) (t - (i + 1))))
+      omega (arith, first_next book i, s.sums, rw e at (sum_add book 0 (i + 1) (t - (i + 1))))
 
   -- the entry of the i-th type lies in the book
-  pub type-inside : 20 + 16 * i ≤ length book
-  type-inside = omega (arith, s.room)
+  pub type_inside : 20 + 16 * i ≤ length book
+  type_inside = omega (arith, s.room)
 
-  entry-same : (k : ℕ) → entries_at book i + 16 * k ≡ 4 + 16 * types_in book + 16 * (first_member book i + k)
+  entry_same : (k : ℕ) → entries_at book i + 16 * k ≡ 4 + 16 * types_in book + 16 * (first_member book i + k)
   unfolding entries_at
-  entry-same k = omega arith
+  entry_same k = omega arith
 
   -- the entries of its members, and their names, lie in the book
-  pub entries-inside : EntriesInside book (entries_at book i) (count_of book i)
-  entries-inside =
+  pub entries_inside : EntriesInside book (entries_at book i) (count_of book i)
+  entries_inside =
       record {
-        inside = omega (arith, entry-same (count_of book i), among-all, s.room);
-        names = λ k h. rw (entry-same k) (s.names (first_member book i + k) (omega (arith, among-all)));
+        inside = omega (arith, entry_same (count_of book i), among_all, s.room);
+        names = λ k h. rw (entry_same k) (s.names (first_member book i + k) (omega (arith, among_all)));
       }
 
   -- the names of its members' types lie in the book
-  pub entries-uses : (k : ℕ) → k < count_of book i
+  pub entries_uses : (k : ℕ) → k < count_of book i
       → (entry_of book (entries_at book i) k).ty.at + (entry_of book (entries_at book i) k).ty.long ≤ length book
-  entries-uses k h = rw (entry-same k) (s.uses (first_member book i + k) (omega (arith, among-all)))
+  entries_uses k h = rw (entry_same k) (s.uses (first_member book i + k) (omega (arith, among_all)))

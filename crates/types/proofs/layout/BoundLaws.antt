@@ -20,8 +20,8 @@ use Rattle.types.specs.declared.layout.placing.Decl.{Decl}
 use Rattle.types.specs.declared.layout.placing.Host.{Host}
 use Rattle.types.specs.declared.layout.placing.Host.TheVariants.{Closed, Open, Shared}
 use Rattle.types.specs.declared.layout.placing.Placed.{Placed}
-use Rattle.types.proofs.layout.PlaceLaws.{Full, place-cases, LayoutEnds, no_access, no-far}
-use Rattle.types.proofs.layout.StoreLaws.{names-append}
+use Rattle.types.proofs.layout.PlaceLaws.{Full, place_cases, LayoutEnds, no_access, no_far, past_other}
+use Rattle.types.proofs.layout.StoreLaws.{names_append}
 
 -- ---- the counts
 
@@ -31,85 +31,85 @@ module _ (name : Decl → List ℕ) (host : ℕ → List ℕ) (e : Cursor) (n' :
   after c d ds p = then_parts p (host c.members) (name d) (λ c'. parts_from name host c' ds)
 
   -- there are as many parts as were counted
-  pub parts-count : (c : Cursor) (n : ℕ) (ds : List Decl) → measured host c n ds ≡ Came e n'
+  pub parts_count : (ds : List Decl) (c : Cursor) (n : ℕ) → measured host c n ds ≡ Came e n'
       → c.members + length (parts_from name host c ds) ≡ e.members
   unfolding measured parts_from opened next_bit
-  parts-count c n [] q = let z : c ≡ e = cc in rw z (omega arith)
-  parts-count c n (d ∷ ds) q =
-      place-cases (λ p. LayoutEnds host e n' c n d ds p → c.members + length (after c d ds p) ≡ e.members) c d
+  parts_count [] c n q = let z : c ≡ e = cc in rw z (omega arith)
+  parts_count (d ∷ ds) c n q =
+      place_cases (λ p. LayoutEnds host e n' c n d ds p → c.members + length (after c d ds p) ≡ e.members) c d
       (record {
         wrong = λ a r. no_access r;
-        opens = λ b f r. omega (arith, parts-count _ _ ds r);
-        next = λ b byte bit h l r. omega (arith, parts-count _ _ ds r);
-        shared = λ b i h r. omega (arith, parts-count _ _ ds r);
-        other = λ b l r. omega (arith, parts-count _ _ ds r);
-        far = λ b l r. no-far r;
+        opens = λ b f r. omega (arith, parts_count ds _ _ r);
+        next = λ b byte bit h l r. omega (arith, parts_count ds _ _ r);
+        shared = λ b i h r. omega (arith, parts_count ds _ _ r);
+        other = λ b l r. omega (arith, parts_count ds _ _ r);
+        far = λ b l r. no_far r;
       })
       q
 
   -- and as many bytes of names
-  pub names-count : (c : Cursor) (n : ℕ) (ds : List Decl) → Every (λ d. length (name d) ≡ d.name.long) ds
+  pub names_count : (ds : List Decl) (c : Cursor) (n : ℕ) → Every (λ d. length (name d) ≡ d.name.long) ds
       → measured host c n ds ≡ Came e n' → n + length (names_of (parts_from name host c ds)) ≡ n'
   unfolding measured parts_from opened next_bit names_of Every
-  names-count c n [] l q = let z : n ≡ n' = cc in omega arith
-  names-count c n (d ∷ ds) (l, ls) q =
-      place-cases (λ p. LayoutEnds host e n' c n d ds p → n + length (names_of (after c d ds p)) ≡ n') c d
+  names_count [] c n l q = let z : n ≡ n' = cc in omega arith
+  names_count (d ∷ ds) c n (l, ls) q =
+      place_cases (λ p. LayoutEnds host e n' c n d ds p → n + length (names_of (after c d ds p)) ≡ n') c d
       (record {
         wrong = λ a r. no_access r;
-        opens = λ b f r. simp length-append (omega (arith, names-count _ _ ds ls r));
-        next = λ b byte bit h k r. simp length-append (omega (arith, names-count _ _ ds ls r));
-        shared = λ b i h r. simp length-append (omega (arith, names-count _ _ ds ls r));
-        other = λ b k r. simp length-append (omega (arith, names-count _ _ ds ls r));
-        far = λ b k r. no-far r;
+        opens = λ b f r. simp length-append (omega (arith, names_count ds _ _ ls r));
+        next = λ b byte bit h k r. simp length-append (omega (arith, names_count ds _ _ ls r));
+        shared = λ b i h r. simp length-append (omega (arith, names_count ds _ _ ls r));
+        other = λ b k r. simp length-append (omega (arith, names_count ds _ _ ls r));
+        far = λ b k r. no_far r;
       })
       q
 
 -- h hosts are h parts
-pub hosts-count : (k h : ℕ) → length (host_parts k h) ≡ h
+pub hosts_count : (k h : ℕ) → length (host_parts k h) ≡ h
 unfolding host_parts
-hosts-count k zero = refl
-hosts-count k (suc h) = ap suc (hosts-count (k + 1) h)
+hosts_count k zero = refl
+hosts_count k (suc h) = ap suc (hosts_count (k + 1) h)
 
 module _ (name : Decl → List ℕ) (type : List ℕ) (ds : List Decl) (n₀ : ℕ) (c : Cursor) (n : ℕ)
     (q : measured (host_name type) udt_start n₀ ds ≡ Came c n) where
-  udt-count : length (udt_parts name type ds) ≡ c.members
+  udt_count : length (udt_parts name type ds) ≡ c.members
   unfolding udt_parts
-  udt-count = omega (arith, parts-count name (host_name type) c n udt_start n₀ ds q)
+  udt_count = omega (arith, parts_count name (host_name type) c n ds udt_start n₀ q)
 
-  udt-names : Every (λ d. length (name d) ≡ d.name.long) ds → n₀ + length (names_of (udt_parts name type ds)) ≡ n
+  udt_names : Every (λ d. length (name d) ≡ d.name.long) ds → n₀ + length (names_of (udt_parts name type ds)) ≡ n
   unfolding udt_parts
-  udt-names l = names-count name (host_name type) c n udt_start n₀ ds l q
+  udt_names l = names_count name (host_name type) c n ds udt_start n₀ l q
 
 -- an AOI's names begin with its hosts', EnableIn and EnableOut, which have 17 bytes
 module _ (name : Decl → List ℕ) (type : List ℕ) (ds : List Decl) (n₀ : ℕ) (c : Cursor) (n : ℕ)
     (q : measured (host_name type) (aoi_start (aoi_hosts ds)) n₀ ds ≡ Came c n) where
-  aoi-count : length (aoi_parts name type ds) ≡ c.members
+  aoi_count : length (aoi_parts name type ds) ≡ c.members
   unfolding aoi_parts
-  aoi-count =
+  aoi_count =
       let h = aoi_hosts ds in
-      simp length-append (omega (arith, hosts-count 0 h, parts-count name (host_name type) c n (aoi_start h) n₀ ds q))
+      simp length-append (omega (arith, hosts_count 0 h, parts_count name (host_name type) c n ds (aoi_start h) n₀ q))
 
-  aoi-names : Every (λ d. length (name d) ≡ d.name.long) ds
+  aoi_names : Every (λ d. length (name d) ≡ d.name.long) ds
       → n₀ ≡ length (names_of (host_parts 0 (aoi_hosts ds))) + 17 → length (names_of (aoi_parts name type ds)) ≡ n
   unfolding aoi_parts names_of
-  aoi-names l e =
+  aoi_names l e =
       let h = aoi_hosts ds in
-      simp (names-append, length-append) (omega (arith, names-count name (host_name type) c n (aoi_start h) n₀ ds l q))
+      simp (names_append, length-append) (omega (arith, names_count name (host_name type) c n ds (aoi_start h) n₀ l q))
 
 -- a UDT or an AOI has as many parts as were counted
-pub type-count : (aoi : Bool) (name : Decl → List ℕ) (type : List ℕ) (ds : List Decl) (c : Cursor) (n : ℕ)
+pub type_count : (aoi : Bool) (name : Decl → List ℕ) (type : List ℕ) (ds : List Decl) (c : Cursor) (n : ℕ)
     → measured_of aoi type ds ≡ Came c n → length (parts_of aoi name type ds) ≡ c.members
 unfolding measured_aoi
-type-count true name type ds c n q = aoi-count name type ds _ c n q
-type-count false name type ds c n q = udt-count name type ds 0 c n q
+type_count true name type ds c n q = aoi_count name type ds _ c n q
+type_count false name type ds c n q = udt_count name type ds 0 c n q
 
 -- a UDT or an AOI has as many bytes of names as were counted, where each is as long as its entry says
-pub type-names : (aoi : Bool) (name : Decl → List ℕ) (type : List ℕ) (ds : List Decl) (c : Cursor) (n : ℕ)
+pub type_names : (aoi : Bool) (name : Decl → List ℕ) (type : List ℕ) (ds : List Decl) (c : Cursor) (n : ℕ)
     → measured_of aoi type ds ≡ Came c n → Every (λ d. length (name d) ≡ d.name.long) ds
     → length (names_of (parts_of aoi name type ds)) ≡ n
 unfolding measured_aoi
-type-names true name type ds c n q l = aoi-names name type ds _ c n q l refl
-type-names false name type ds c n q l = omega (arith, udt-names name type ds 0 c n q l)
+type_names true name type ds c n q l = aoi_names name type ds _ c n q l refl
+type_names false name type ds c n q l = omega (arith, udt_names name type ds 0 c n q l)
 
 -- ---- the size
 
@@ -119,14 +119,15 @@ spare Closed = 0
 spare (Open byte bit) = 8 - bit
 spare (Shared i) = 0
 
-spare-full : (h : Host) → Full h → spare h ≡ 0
-spare-full Closed f = refl
-spare-full (Open byte bit) f = omega arith
+spare_full : (h : Host) → Full h → spare h ≡ 0
+spare_full Closed f = refl
+spare_full (Open byte bit) f = omega arith
+spare_full (Shared _) f = elim f [ ]
 
-spare-most : (h : Host) → spare h ≤ 8
-spare-most Closed = omega arith
-spare-most (Open byte bit) = omega arith
-spare-most (Shared i) = omega arith
+spare_most : (h : Host) → spare h ≤ 8
+spare_most Closed = omega arith
+spare_most (Open byte bit) = omega arith
+spare_most (Shared i) = omega arith
 
 -- opening a host past 2^26 costs nine members in the end: itself, and the eight bits of which some may be left
 abbrev NearEnd : Cursor → Type 0
@@ -137,43 +138,49 @@ module _ (host : ℕ → List ℕ) (e : Cursor) (n' : ℕ) where
   unfolding measured opened next_bit
   near c n [] k q = let z : c ≡ e = cc in rw (← z) k
   near c n (d ∷ ds) k q =
-      place-cases (λ p. LayoutEnds host e n' c n d ds p → NearEnd e) c d
+      place_cases (λ p. LayoutEnds host e n' c n d ds p → NearEnd e) c d
       (record {
         wrong = λ a r. no_access r;
-        opens = λ b f r. near _ _ ds (omega (arith, spare-full c.host f)) r;
-        next = λ b byte bit h l r. near _ _ ds (let j = rw h at k in omega arith) r;
-        shared = λ b i h r. near _ _ ds (let j = rw h at k in omega arith) r;
-        other = λ b l r. near _ _ ds (omega arith) r;
-        far = λ b l r. no-far r;
+        opens = λ b f r.
+            near (record { offset = c.offset + 1; host = Open c.offset 1; members = c.members + 2 }) _ ds
+            (omega (arith, spare_full c.host f)) r;
+        next = λ b byte bit h l r.
+            near (record { offset = c.offset; host = Open byte (bit + 1); members = c.members + 1 }) _ ds
+            (let j = rw h at k in omega arith) r;
+        shared = λ b i h r.
+            near (record { offset = c.offset; host = Shared (i + 1); members = c.members + 1 }) _ ds
+            (let j = rw h at k in omega arith) r;
+        other = λ b l r. near (past_other c d) _ ds (omega arith) r;
+        far = λ b l r. no_far r;
       })
       q
 
   -- 2,000 members are at most 222 hosts of nine and one of two past 2^26
-  size-most : (c : Cursor) (n : ℕ) (ds : List Decl) → NearEnd c → measured host c n ds ≡ Came e n'
+  size_most : (c : Cursor) (n : ℕ) (ds : List Decl) → NearEnd c → measured host c n ds ≡ Came e n'
       → e.members ≤ most_members
       → rounded_size e ≤ most_size + 224
   unfolding align_up
-  size-most c n ds k q l = omega (arith, near c n ds k q, spare-most e.host)
+  size_most c n ds k q l = omega (arith, near c n ds k q, spare_most e.host)
 
 -- the hosts of an AOI are members too
 module _ (host : ℕ → List ℕ) (n₀ : ℕ) (ds : List Decl) (c : Cursor) (n : ℕ) where
-  udt-most : measured host udt_start n₀ ds ≡ Came c n → c.members ≤ most_members → rounded_size c ≤ most_size + 224
-  udt-most q l = size-most host c n udt_start n₀ ds (omega arith) q l
+  udt_most : measured host udt_start n₀ ds ≡ Came c n → c.members ≤ most_members → rounded_size c ≤ most_size + 224
+  udt_most q l = size_most host c n udt_start n₀ ds (omega arith) q l
 
-  aoi-most : (h : ℕ) → measured host (aoi_start h) n₀ ds ≡ Came c n → c.members ≤ most_members
+  aoi_most : (h : ℕ) → measured host (aoi_start h) n₀ ds ≡ Came c n → c.members ≤ most_members
       → rounded_size c ≤ most_size + 224
-  aoi-most h q l =
-      let few = parts-count (λ d. []) host c n (aoi_start h) n₀ ds q in
-      size-most host c n (aoi_start h) n₀ ds (omega arith) q l
+  aoi_most h q l =
+      let few = parts_count (λ d. []) host c n ds (aoi_start h) n₀ q in
+      size_most host c n (aoi_start h) n₀ ds (omega arith) q l
 
 -- a UDT or an AOI of at most 2,000 members has at most 2^26 + 224 bytes
-pub type-most : (aoi : Bool) (type : List ℕ) (ds : List Decl) (c : Cursor) (n : ℕ)
+pub type_most : (aoi : Bool) (type : List ℕ) (ds : List Decl) (c : Cursor) (n : ℕ)
     → measured_of aoi type ds ≡ Came c n → c.members ≤ most_members → rounded_size c ≤ most_size + 224
 unfolding measured_aoi
-type-most true type ds c n q l = aoi-most (host_name type) _ ds c n (aoi_hosts ds) q l
-type-most false type ds c n q l = udt-most (host_name type) 0 ds c n q l
+type_most true type ds c n q l = aoi_most (host_name type) _ ds c n (aoi_hosts ds) q l
+type_most false type ds c n q l = udt_most (host_name type) 0 ds c n q l
 
 -- refusal 7 keeps a string's capacity at or below 2^26 - 4
-pub string-most : (c : ℕ) → c ≤ most_size - 4 → string_size c ≤ most_size
+pub string_most : (c : ℕ) → c ≤ most_size - 4 → string_size c ≤ most_size
 unfolding string_size align_up
-string-most c l = omega arith
+string_most c l = omega arith

@@ -21,7 +21,7 @@ use Rattle.types.specs.declared.layout.placing.Placed.{Placed}
 use Rattle.types.specs.declared.layout.placing.Placed.TheVariants.{Hosted, One, AccessWrong, TooFar}
 use Rattle.types.specs.declared.tables.member.Bit.TheVariants.{At}
 use Rattle.types.specs.declared.tables.member.Member.{Member}
-use Rattle.types.proofs.layout.PlaceLaws.{end_of, past_other, place-cases}
+use Rattle.types.proofs.layout.PlaceLaws.{end_of, past_other, place_cases}
 
 -- ---- free and used bits
 
@@ -84,39 +84,39 @@ pub not_plain : {A : Type 0} {m : Member} {k : ℕ} → m.bit ≡ At k → Plain
 not_plain e p = absurd (true≢false (sym (ap has_bit e) ∙ ap has_bit p.whole))
 
 -- the lowest multiple of a from x on is not below x
-align-least : (x a : ℕ) → 0 < a → x ≤ align_up x a
+align_least : (x a : ℕ) → 0 < a → x ≤ align_up x a
 unfolding align_up
-align-least x a l = omega (arith, div-add-mod' (x + (a - 1)) a, mod-lt (x + (a - 1)) l)
+align_least x a l = omega (arith, div-add-mod' (x + (a - 1)) a, mod-lt (x + (a - 1)) l)
 
 module _ (d : Decl) (ds : List Decl) where
-  bools-on : is_bool d.ty ≡ true → bools (d ∷ ds) ≡ 1 + bools ds
+  bools_on : is_bool d.ty ≡ true → bools (d ∷ ds) ≡ 1 + bools ds
   unfolding bools
-  bools-on b = rw b
+  bools_on b = rw b
 
-  bools-off : is_bool d.ty ≡ false → bools (d ∷ ds) ≡ bools ds
+  bools_off : is_bool d.ty ≡ false → bools (d ∷ ds) ≡ bools ds
   unfolding bools
-  bools-off b = rw b (omega arith)
+  bools_off b = rw b (omega arith)
 
 -- any other member leaves nothing of a UDT's host, and all of an AOI's
 module _ (limit : ℕ) where
-  closed-to : (h : Host) → spare_to limit (closed h) ≤ spare_to limit h
+  closed_to : (h : Host) → spare_to limit (closed h) ≤ spare_to limit h
   unfolding closed
-  closed-to Closed = omega arith
-  closed-to (Open byte bit) = omega arith
-  closed-to (Shared i) = omega arith
+  closed_to Closed = omega arith
+  closed_to (Open byte bit) = omega arith
+  closed_to (Shared i) = omega arith
 
-  closed-beside : (h : Host) {first past : ℕ} → (past ≤ spare_from h) ⊎ (spare_to limit h ≤ first)
+  closed_beside : (h : Host) {first past : ℕ} → (past ≤ spare_from h) ⊎ (spare_to limit h ≤ first)
       → (past ≤ spare_from (closed h)) ⊎ (spare_to limit (closed h) ≤ first)
   unfolding closed
-  closed-beside Closed u = u
-  closed-beside (Open byte bit) u = inr (omega arith)
-  closed-beside (Shared i) u = u
+  closed_beside Closed u = u
+  closed_beside (Open byte bit) u = inr (omega arith)
+  closed_beside (Shared i) u = u
 
-pub closed-shared : (h : Host) → shared_bits (closed h) ≡ shared_bits h
+pub closed_shared : (h : Host) → shared_bits (closed h) ≡ shared_bits h
 unfolding closed
-closed-shared Closed = refl
-closed-shared (Open byte bit) = refl
-closed-shared (Shared i) = refl
+closed_shared Closed = refl
+closed_shared (Open byte bit) = refl
+closed_shared (Shared i) = refl
 
 -- a bit is the first of a host's rest, which then begins after it
 record Takes (limit : ℕ) (h : Host) (at : ℕ) (h' : Host) : Type 0 where
@@ -137,7 +137,7 @@ module _ {sizes : ℕ → ℕ} {limit i : ℕ} {c : Cursor} {d : Decl} {ds : Lis
     record {
       earlier = tt;
       onward = omega arith;
-      ready = record { before = omega arith; enough = omega (arith, bools-on d ds b) };
+      ready = record { before = omega arith; enough = omega (arith, bools_on d ds b) };
       apart = λ x u. inl (omega (arith, u.before));
       taken = record { before = omega arith; beside = inl (omega arith) };
       onto = λ w. not_plain refl w;
@@ -165,31 +165,31 @@ module _ {sizes : ℕ → ℕ} {limit i : ℕ} {c : Cursor} {d : Decl} {ds : Lis
   others : is_bool d.ty ≡ false → PlacedStep sizes limit i c ds (One (other_at d (start_of c d)) (past_other c d))
   unfolding end_of start_of
   others b =
-      let a = align-least c.offset d.align r.align in
+      let a = align_least c.offset d.align r.align in
       let e : size_in sizes d.ty * times d.count ≡ d.size * times d.count = rw (← r.size) in
-      let t = closed-to limit c.host in
+      let t = closed_to limit c.host in
       record {
         earlier = r.earlier;
         onward = omega arith;
-        ready = record { before = omega arith; enough = rw closed-shared (omega (arith, bools-off d ds b)) };
+        ready = record { before = omega arith; enough = rw closed_shared (omega (arith, bools_off d ds b)) };
         apart = λ x u. inl (omega (arith, u.before));
         taken = record { before = omega arith; beside = inr (omega arith) };
         onto = λ w. omega arith;
-        keeps = λ first past u. record { before = omega arith; beside = closed-beside limit c.host u.beside };
+        keeps = λ first past u. record { before = omega arith; beside = closed_beside limit c.host u.beside };
       }
 
   -- every step; the j-th BOOL of an AOI is bit j
   pub steps : PlacedStep sizes limit i c ds (placed c d)
   steps =
-      place-cases (PlacedStep sizes limit i c ds) c d
+      place_cases (PlacedStep sizes limit i c ds) c d
       (record {
         wrong = λ a. tt;
         opens = λ b f. opens b;
         next = λ b byte bit h l.
-            takes byte bit (Open byte (bit + 1)) (rw h (omega arith)) (omega (arith, bools-on d ds b));
+            takes byte bit (Open byte (bit + 1)) (rw h (omega arith)) (omega (arith, bools_on d ds b));
         shared = λ b j h.
             let n : j + bools (d ∷ ds) ≤ limit = (rw h at k).enough in
-            let m = bools-on d ds b in
+            let m = bools_on d ds b in
             takes (4 * (j / 32) + j % 32 / 8) (j % 8) (Shared (j + 1)) (rw h (omega arith)) (omega arith);
         other = λ b l. others b;
         far = λ b l. tt;

@@ -27,28 +27,28 @@ use Rattle.types.specs.declared.tables.member.Bit.TheVariants.{At}
 use Rattle.types.specs.declared.tables.member.Member.{Member}
 use Rattle.types.proofs.layout.FreeLaws.{HostReady, BitsTaken, MemberStep, HostStep, PlacedStep, not_plain}
 use Rattle.types.proofs.layout.FreeLaws.{steps}
-use Rattle.types.proofs.layout.LayoutLaws.{times-one, times-same}
-use Rattle.types.proofs.layout.PlaceLaws.{LayoutEnds, no_access, no-far}
+use Rattle.types.proofs.layout.LayoutLaws.{times_one, times_same}
+use Rattle.types.proofs.layout.PlaceLaws.{LayoutEnds, no_access, no_far}
 
 -- ---- declared members, one after the other
 
 -- a hidden part shares no bit with a visible one
-hidden-clear : (sizes : ℕ → ℕ) (m : Member) → m.hidden ≡ true → (ps : List Part) → Clear sizes m ps
+hidden_clear : (sizes : ℕ → ℕ) (m : Member) → m.hidden ≡ true → (ps : List Part) → Clear sizes m ps
 unfolding Clear
-hidden-clear sizes m h [] = tt
-hidden-clear sizes m h (p ∷ ps) = (λ v w. absurd (true≢false (sym h ∙ v)), hidden-clear sizes m h ps)
+hidden_clear sizes m h [] = tt
+hidden_clear sizes m h (p ∷ ps) = (λ v w. absurd (true≢false (sym h ∙ v)), hidden_clear sizes m h ps)
 
 -- a part that is not plain stands in no order
-free-rising : (sizes : ℕ → ℕ) (m : Member) → (Plain m → ⊥) → (ps : List Part) → Rising sizes m ps
+free_rising : (sizes : ℕ → ℕ) (m : Member) → (Plain m → ⊥) → (ps : List Part) → Rising sizes m ps
 unfolding Rising
-free-rising sizes m f [] = tt
-free-rising sizes m f (p ∷ ps) = (λ v w. absurd (f v), free-rising sizes m f ps)
+free_rising sizes m f [] = tt
+free_rising sizes m f (p ∷ ps) = (λ v w. absurd (f v), free_rising sizes m f ps)
 
-hidden-rising : (sizes : ℕ → ℕ) (m : Member) → m.hidden ≡ true → (ps : List Part) → Rising sizes m ps
-hidden-rising sizes m h ps = free-rising sizes m (λ v. true≢false (sym h ∙ v.visible)) ps
+hidden_rising : (sizes : ℕ → ℕ) (m : Member) → m.hidden ≡ true → (ps : List Part) → Rising sizes m ps
+hidden_rising sizes m h ps = free_rising sizes m (λ v. true≢false (sym h ∙ v.visible)) ps
 
-bool-rising : (sizes : ℕ → ℕ) (m : Member) (k : ℕ) → m.bit ≡ At k → (ps : List Part) → Rising sizes m ps
-bool-rising sizes m k e ps = free-rising sizes m (λ v. not_plain e v) ps
+bool_rising : (sizes : ℕ → ℕ) (m : Member) (k : ℕ) → m.bit ≡ At k → (ps : List Part) → Rising sizes m ps
+bool_rising sizes m k e ps = free_rising sizes m (λ v. not_plain e v) ps
 
 -- what holds of the parts from a cursor on, in a structure of so many bytes: nothing of what was before is in their way
 record Rest (sizes : ℕ → ℕ) (limit i size : ℕ) (c : Cursor) (ps : List Part) : Type 0 where
@@ -80,18 +80,18 @@ module _ {sizes : ℕ → ℕ} {limit i size : ℕ} {c c' : Cursor} {ds : List D
       }
 
   -- a hidden part before the others
-  host-more : HostStep sizes limit i c ds m c' → c'.offset ≤ size → Rest sizes limit i size c ps
+  host_more : HostStep sizes limit i c ds m c' → c'.offset ≤ size → Rest sizes limit i size c ps
       → Rest sizes limit i size c (named name m ∷ ps)
   unfolding Laid Clear Rising
-  host-more s l r =
+  host_more s l r =
       record {
         room = r.room;
         laid = (
           record {
             earlier = s.earlier;
             inside = omega arith;
-            clear = hidden-clear sizes m s.hidden ps;
-            rising = hidden-rising sizes m s.hidden ps;
+            clear = hidden_clear sizes m s.hidden ps;
+            rising = hidden_rising sizes m s.hidden ps;
           },
           r.laid,
         );
@@ -112,10 +112,10 @@ module _ (sizes : ℕ → ℕ) (limit i size : ℕ) (name : Decl → List ℕ) (
       → Rest sizes limit i size c (then_parts p (host c.members) (name d) (λ c'. parts_from name host c' ds))
   rest_then c d n₀ ds go (Hosted h m c') (f, s) q =
       let r = go c' _ s.ready q in
-      host-more f r.room (one_more s r)
+      host_more f r.room (one_more s r)
   rest_then c d n₀ ds go (One m c') s q = one_more s (go c' _ s.ready q)
   rest_then c d n₀ ds go AccessWrong s q = no_access q
-  rest_then c d n₀ ds go TooFar s q = no-far q
+  rest_then c d n₀ ds go TooFar s q = no_far q
 
   rest : (ds : List Decl) → Every (Resolved sizes i) ds → e.offset ≤ size → LaidFrom ds
   unfolding Every measured parts_from Laid Clear Rising
@@ -132,38 +132,38 @@ size_room c = omega arith
 module _ (sizes : ℕ → ℕ) (i : ℕ) where
   -- ---- UDT
 
-  udt-laid : (name : Decl → List ℕ) (type : List ℕ) (ds : List Decl) (n₀ : ℕ) (c : Cursor) (n : ℕ)
+  udt_laid : (name : Decl → List ℕ) (type : List ℕ) (ds : List Decl) (n₀ : ℕ) (c : Cursor) (n : ℕ)
       → Every (Resolved sizes i) ds → measured (host_name type) udt_start n₀ ds ≡ Came c n
       → Laid sizes i (rounded_size c) (udt_parts name type ds)
   unfolding udt_parts
-  udt-laid name type ds n₀ c n rs q =
+  udt_laid name type ds n₀ c n rs q =
       (rest sizes (bools ds) i (rounded_size c) name (host_name type) c n ds rs (size_room c) udt_start n₀
       (omega arith) q).laid
 
   -- ---- AOI
 
   -- so many hosts from the k-th on, before other parts
-  hosts-laid : (size k h : ℕ) (ps : List Part) → 4 * (k + h) ≤ size → Laid sizes i size ps
+  hosts_laid : (size k h : ℕ) (ps : List Part) → 4 * (k + h) ≤ size → Laid sizes i size ps
       → Laid sizes i size (host_parts k h ++ ps)
   unfolding host_parts Laid size_of times
-  hosts-laid size k zero ps l r = r
-  hosts-laid size k (suc h) ps l r =
+  hosts_laid size k zero ps l r = r
+  hosts_laid size k (suc h) ps l r =
       let rest = host_parts (k + 1) h ++ ps in (
         record {
           earlier = tt;
           inside = omega arith;
-          clear = hidden-clear sizes (bit_host_at k) refl rest;
-          rising = hidden-rising sizes (bit_host_at k) refl rest;
+          clear = hidden_clear sizes (bit_host_at k) refl rest;
+          rising = hidden_rising sizes (bit_host_at k) refl rest;
         },
-        hosts-laid size (k + 1) h ps (omega arith) r,
+        hosts_laid size (k + 1) h ps (omega arith) r,
       )
 
   -- EnableIn and EnableOut have bits 0 and 1, and all BOOLs to come fit into the hosts
-  aoi-laid : (name : Decl → List ℕ) (type : List ℕ) (ds : List Decl) (n₀ : ℕ) (c : Cursor) (n : ℕ)
+  aoi_laid : (name : Decl → List ℕ) (type : List ℕ) (ds : List Decl) (n₀ : ℕ) (c : Cursor) (n : ℕ)
       → Every (Resolved sizes i) ds → measured (host_name type) (aoi_start (aoi_hosts ds)) n₀ ds ≡ Came c n
       → Laid sizes i (rounded_size c) (aoi_parts name type ds)
   unfolding aoi_parts aoi_hosts Laid Clear
-  aoi-laid name type ds n₀ c n rs q =
+  aoi_laid name type ds n₀ c n rs q =
       let h = aoi_hosts ds in
       let start = aoi_start h in
       let r = rest sizes (32 * h) i (rounded_size c) name (host_name type) c n ds rs (size_room c) start n₀
@@ -173,33 +173,33 @@ module _ (sizes : ℕ → ℕ) (i : ℕ) where
       let clear : (bit : ℕ) → bit < 2 → Clear sizes (enable_at bit) others =
       λ bit b. r.clear (enable_at bit) (record { before = omega arith; beside = inl (omega arith) }) in
       let unordered : (bit : ℕ) (ps : List Part) → Rising sizes (enable_at bit) ps =
-      λ bit ps. bool-rising sizes (enable_at bit) bit refl ps in
+      λ bit ps. bool_rising sizes (enable_at bit) bit refl ps in
       let out : Laid sizes i (rounded_size c) (named enable_out (enable_at 1) ∷ others) = (
         record { earlier = tt; inside = omega arith; clear = clear 1 (omega arith); rising = unordered 1 others },
         r.laid,
       ) in
       let apart : Clear sizes (enable_at 0) (named enable_out (enable_at 1) ∷ others) =
       (λ v w. inl (omega arith), clear 0 (omega arith)) in
-      hosts-laid (rounded_size c) 0 h _ (omega arith)
+      hosts_laid (rounded_size c) 0 h _ (omega arith)
       (record { earlier = tt; inside = omega arith; clear = apart; rising = unordered 0 _ }, out)
 
   -- the parts of a UDT or an AOI that was measured to its end are laid out well
-  pub type-laid : (aoi : Bool) (name : Decl → List ℕ) (type : List ℕ) (ds : List Decl) (c : Cursor) (n : ℕ)
+  pub type_laid : (aoi : Bool) (name : Decl → List ℕ) (type : List ℕ) (ds : List Decl) (c : Cursor) (n : ℕ)
       → Every (Resolved sizes i) ds → measured_of aoi type ds ≡ Came c n
       → Laid sizes i (rounded_size c) (parts_of aoi name type ds)
   unfolding measured_aoi
-  type-laid true name type ds c n rs q = aoi-laid name type ds _ c n rs q
-  type-laid false name type ds c n rs q = udt-laid name type ds 0 c n rs q
+  type_laid true name type ds c n rs q = aoi_laid name type ds _ c n rs q
+  type_laid false name type ds c n rs q = udt_laid name type ds 0 c n rs q
 
   -- ---- strings
 
   -- the parts of a string with a capacity above 0 are laid out well
-  pub string-laid : (c : ℕ) → 0 < c → Laid sizes i (string_size c) (string_parts c)
+  pub string_laid : (c : ℕ) → 0 < c → Laid sizes i (string_size c) (string_parts c)
   unfolding string_parts string_size align_up Laid Clear Rising size_of
-  string-laid c l =
-      let one : 1 ≡ times 0 = times-one 0 refl in
-      let all : c ≡ times c = times-same c (omega arith) in
-      let data-laid : Laid sizes i (string_size c) (named (68 ∷ 65 ∷ 84 ∷ 65 ∷ []) (data_of c) ∷ []) =
+  string_laid c l =
+      let one : 1 ≡ times 0 = times_one 0 refl in
+      let all : c ≡ times c = times_same c (omega arith) in
+      let data_laid : Laid sizes i (string_size c) (named (68 ∷ 65 ∷ 84 ∷ 65 ∷ []) (data_of c) ∷ []) =
       (record { earlier = tt; inside = omega arith; clear = tt; rising = tt }, tt) in (
         record {
           earlier = tt;
@@ -207,65 +207,65 @@ module _ (sizes : ℕ → ℕ) (i : ℕ) where
           clear = (λ v w. inl (omega arith), tt);
           rising = (λ v w. omega arith, tt);
         },
-        data-laid,
+        data_laid,
       )
 
   -- ---- predefined
 
   -- the BOOLs from the k-th on lie below bit 32 - k
-  status-clear : (m : Member) (k : ℕ) (bits : List (List ℕ)) → k + length bits ≤ 32 → 32 - k ≤ first_bit m
+  status_clear : (m : Member) (k : ℕ) (bits : List (List ℕ)) → k + length bits ≤ 32 → 32 - k ≤ first_bit m
       → Clear sizes m (status_parts k bits)
   unfolding status_parts Clear
-  status-clear m k [] l f = tt
-  status-clear m k (b ∷ bits) l f =
-      (λ v w. inr (omega arith), status-clear m (k + 1) bits (omega arith) (omega arith))
+  status_clear m k [] l f = tt
+  status_clear m k (b ∷ bits) l f =
+      (λ v w. inr (omega arith), status_clear m (k + 1) bits (omega arith) (omega arith))
 
-  status-laid : (k : ℕ) (bits : List (List ℕ)) → k + length bits ≤ 32 → Laid sizes i 12 (status_parts k bits)
+  status_laid : (k : ℕ) (bits : List (List ℕ)) → k + length bits ≤ 32 → Laid sizes i 12 (status_parts k bits)
   unfolding status_parts Laid
-  status-laid k [] l = tt
-  status-laid k (b ∷ bits) l =
-      let below = status-clear (status_at k) (k + 1) bits (omega arith) (omega arith) in
-      let unordered = bool-rising sizes (status_at k) _ refl (status_parts (k + 1) bits) in (
+  status_laid k [] l = tt
+  status_laid k (b ∷ bits) l =
+      let below = status_clear (status_at k) (k + 1) bits (omega arith) (omega arith) in
+      let unordered = bool_rising sizes (status_at k) _ refl (status_parts (k + 1) bits) in (
         record { earlier = tt; inside = omega arith; clear = below; rising = unordered },
-        status-laid (k + 1) bits (omega arith),
+        status_laid (k + 1) bits (omega arith),
       )
 
   -- and are in no order with a word
-  status-rising : (m : Member) (k : ℕ) (bits : List (List ℕ)) → Rising sizes m (status_parts k bits)
+  status_rising : (m : Member) (k : ℕ) (bits : List (List ℕ)) → Rising sizes m (status_parts k bits)
   unfolding status_parts Rising
-  status-rising m k [] = tt
-  status-rising m k (b ∷ bits) = (λ v w. not_plain refl w, status-rising m (k + 1) bits)
+  status_rising m k [] = tt
+  status_rising m k (b ∷ bits) = (λ v w. not_plain refl w, status_rising m (k + 1) bits)
 
   -- CTL has 32 bits, below both words
-  pub control-laid : (one two : List ℕ) (bits : List (List ℕ)) → length bits ≤ 32
+  pub control_laid : (one two : List ℕ) (bits : List (List ℕ)) → length bits ≤ 32
       → Laid sizes i 12 (control_parts one two bits)
   unfolding control_parts Laid Clear Rising size_of times
-  control-laid one two bits l =
+  control_laid one two bits l =
       let below : (m : Member) → 32 ≤ first_bit m → Clear sizes m (status_parts 0 bits) =
-      λ m f. status-clear m 0 bits (omega arith) (omega arith) in
-      let bools-laid = status-laid 0 bits (omega arith) in
+      λ m f. status_clear m 0 bits (omega arith) (omega arith) in
+      let bools_laid = status_laid 0 bits (omega arith) in
       let second = named two (dint_at 8) ∷ status_parts 0 bits in
-      let second-laid : Laid sizes i 12 second = (
+      let second_laid : Laid sizes i 12 second = (
         record {
           earlier = tt;
           inside = omega arith;
           clear = below (dint_at 8) (omega arith);
-          rising = status-rising (dint_at 8) 0 bits;
+          rising = status_rising (dint_at 8) 0 bits;
         },
-        bools-laid,
+        bools_laid,
       ) in
       let first = named one (dint_at 4) ∷ second in
       let apart : Clear sizes (dint_at 4) second = (λ v w. inl (omega arith), below (dint_at 4) (omega arith)) in
-      let rising : Rising sizes (dint_at 4) second = (λ v w. omega arith, status-rising (dint_at 4) 0 bits) in
-      let first-laid : Laid sizes i 12 first =
-      (record { earlier = tt; inside = omega arith; clear = apart; rising = rising }, second-laid) in (
+      let rising : Rising sizes (dint_at 4) second = (λ v w. omega arith, status_rising (dint_at 4) 0 bits) in
+      let first_laid : Laid sizes i 12 first =
+      (record { earlier = tt; inside = omega arith; clear = apart; rising = rising }, second_laid) in (
         record {
           earlier = tt;
           inside = omega arith;
-          clear = hidden-clear sizes ctl_at refl first;
-          rising = hidden-rising sizes ctl_at refl first;
+          clear = hidden_clear sizes ctl_at refl first;
+          rising = hidden_rising sizes ctl_at refl first;
         },
-        first-laid,
+        first_laid,
       )
 
 -- ---- parts by their numbers
@@ -279,19 +279,19 @@ module _ (sizes : ℕ → ℕ) (i size : ℕ) (x : Part) where
   part_lies (p ∷ ps) zero (d, ds) l = d
   part_lies (p ∷ ps) (suc k) (d, ds) l = part_lies ps k ds (omega arith)
 
-  clear-part : (m : Member) (ps : List Part) (k : ℕ) → Clear sizes m ps → k < length ps
+  clear_part : (m : Member) (ps : List Part) (k : ℕ) → Clear sizes m ps → k < length ps
       → m.hidden ≡ false → (get_or ps k x).member.hidden ≡ false → Apart sizes m (get_or ps k x).member
   unfolding Clear
-  clear-part m [] k c l v w = absurd (omega arith)
-  clear-part m (p ∷ ps) zero (c, cs) l v w = c v w
-  clear-part m (p ∷ ps) (suc k) (c, cs) l v w = clear-part m ps k cs (omega arith) v w
+  clear_part m [] k c l v w = absurd (omega arith)
+  clear_part m (p ∷ ps) zero (c, cs) l v w = c v w
+  clear_part m (p ∷ ps) (suc k) (c, cs) l v w = clear_part m ps k cs (omega arith) v w
 
   -- no two visible parts share a bit
-  pub parts-apart : (ps : List Part) (j k : ℕ) → Laid sizes i size ps → j < k → k < length ps
+  pub parts_apart : (ps : List Part) (j k : ℕ) → Laid sizes i size ps → j < k → k < length ps
       → (get_or ps j x).member.hidden ≡ false → (get_or ps k x).member.hidden ≡ false
       → Apart sizes (get_or ps j x).member (get_or ps k x).member
   unfolding Laid
-  parts-apart [] j k d o l v w = absurd (omega arith)
-  parts-apart (p ∷ ps) j zero d o l v w = absurd (omega arith)
-  parts-apart (p ∷ ps) zero (suc k) (d, ds) o l v w = clear-part p.member ps k d.clear (omega arith) v w
-  parts-apart (p ∷ ps) (suc j) (suc k) (d, ds) o l v w = parts-apart ps j k ds (omega arith) (omega arith) v w
+  parts_apart [] j k d o l v w = absurd (omega arith)
+  parts_apart (p ∷ ps) j zero d o l v w = absurd (omega arith)
+  parts_apart (p ∷ ps) zero (suc k) (d, ds) o l v w = clear_part p.member ps k d.clear (omega arith) v w
+  parts_apart (p ∷ ps) (suc j) (suc k) (d, ds) o l v w = parts_apart ps j k ds (omega arith) (omega arith) v w

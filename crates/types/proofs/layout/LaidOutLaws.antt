@@ -10,7 +10,8 @@ use Rattle.types.specs.inside.layout.Passes.{parts_of, measured_aoi, measured_of
 use Rattle.types.specs.layout.HostNames.{host_name}
 use Rattle.types.specs.layout.Placing.{placed}
 use Rattle.types.specs.layout.Structs.{names_of, named, LaidOut, laid, stopped, after, then_laid, layout_from}
-use Rattle.types.specs.layout.Structs.{udt_start, udt_layout, aoi_hosts, host_parts, aoi_start, enable_parts, aoi_layout}
+use Rattle.types.specs.layout.Structs.{udt_start, udt_layout, aoi_hosts, host_parts, aoi_start, enable_parts}
+use Rattle.types.specs.layout.Structs.{aoi_layout}
 use Rattle.types.specs.layout.Structs.{layout_of}
 use Rattle.types.specs.tables.Defs.{Part}
 use Rattle.types.specs.declared.layout.measure.Measured.{Measured}
@@ -34,11 +35,11 @@ after_both ps qs too_far = refl
 
 module _ (name : Decl → List ℕ) (host : ℕ → List ℕ) where
   -- so many bytes of names may come before
-  from-passes : (c : Cursor) (n : ℕ) (ds : List Decl)
+  from_passes : (c : Cursor) (n : ℕ) (ds : List Decl)
       → layout_from name host c ds ≡ both (parts_from name host c ds) (measured host c n ds)
   unfolding layout_from parts_from measured
-  from-passes c n [] = refl
-  from-passes c n (d ∷ ds) = go (placed c d) (λ c' n'. from-passes c' n' ds)
+  from_passes c n [] = refl
+  from_passes c n (d ∷ ds) = go (placed c d) (λ c' n'. from_passes c' n' ds)
     where
       go : (p : Placed)
           → ((c' : Cursor) (n' : ℕ)
@@ -58,15 +59,16 @@ module _ (name : Decl → List ℕ) (host : ℕ → List ℕ) where
       go TooFar rest = refl
 
 -- the layout of a UDT or an AOI is its parts, and how far they come, as one
-pub laid-passes : (aoi : Bool) (name : Decl → List ℕ) (type : List ℕ) (ds : List Decl)
+pub laid_passes : (aoi : Bool) (name : Decl → List ℕ) (type : List ℕ) (ds : List Decl)
     → layout_of aoi name type ds ≡ both (parts_of aoi name type ds) (measured_of aoi type ds)
 unfolding aoi_layout aoi_parts measured_aoi udt_layout udt_parts
-laid-passes true name type ds =
+laid_passes true name type ds =
     let h = aoi_hosts ds in
     let long = length (names_of (host_parts 0 h)) + 17 in
     let rest = parts_from name (host_name type) (aoi_start h) ds in
     let m = measured (host_name type) (aoi_start h) long ds in
     ap (λ (l : LaidOut). after (host_parts 0 h) (after enable_parts l))
-    (from-passes name (host_name type) (aoi_start h) long ds)
-    ∙ ap (after (host_parts 0 h)) (after_both enable_parts rest m) ∙ after_both (host_parts 0 h) (enable_parts ++ rest) m
-laid-passes false name type ds = from-passes name (host_name type) udt_start 0 ds
+    (from_passes name (host_name type) (aoi_start h) long ds)
+    ∙ ap (after (host_parts 0 h)) (after_both enable_parts rest m)
+    ∙ after_both (host_parts 0 h) (enable_parts ++ rest) m
+laid_passes false name type ds = from_passes name (host_name type) udt_start 0 ds

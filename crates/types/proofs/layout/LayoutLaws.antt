@@ -1,5 +1,5 @@
 -- Laws of one step of a layout: a member's end, the ways out of placing, and what a step leaves.
-use Prim.Native.Nat.{ℕ, ◌+◌, ◌-◌, ◌*◌, ◌≤◌, ◌<◌}
+use Prim.Native.Nat.{ℕ, ◌+◌, ◌*◌, ◌≤◌, ◌<◌}
 use mathlib.Core.Path.{◌≡◌, sym}
 use mathlib.Core.Bool.{true, false}
 use borrow.Author.Tests.{eq-eqb, ne_eqb, le-leb, lt-leb}
@@ -15,42 +15,42 @@ use Rattle.types.specs.declared.layout.placing.Host.{Host}
 use Rattle.types.specs.declared.layout.placing.Placed.TheVariants.{One, AccessWrong, TooFar}
 
 -- a count of 0 is one element
-pub times-one : (n : ℕ) → n ≡ 0 → 1 ≡ times n
+pub times_one : (n : ℕ) → n ≡ 0 → 1 ≡ times n
 unfolding times
-times-one n e = simp (eq-eqb n 0 e)
+times_one n e = simp (eq-eqb n 0 e)
 
 -- any other count is as many elements
-pub times-same : (n : ℕ) → (n ≡ 0 → ⊥) → n ≡ times n
+pub times_same : (n : ℕ) → (n ≡ 0 → ⊥) → n ≡ times n
 unfolding times
-times-same n e = simp (ne_eqb n 0 e)
+times_same n e = simp (ne_eqb n 0 e)
 
 module _ (offset size count : ℕ) {end : ℕ} (e : end ≡ offset + size * times count) where
   -- a member that ends at or below 2^26 has that end
-  pub end-at : end ≤ most_size → done end ≡ member_end offset size count
+  pub end_at : end ≤ most_size → done end ≡ member_end offset size count
   unfolding member_end
-  end-at h = rw (← e) (simp (le-leb end most_size h))
+  end_at h = rw (← e) (simp (le-leb end most_size h))
 
   -- a member that ends above 2^26 is refused with 12
-  pub end-over : most_size < end → refused 12 0 ≡ member_end offset size count
+  pub end_over : most_size < end → refused 12 0 ≡ member_end offset size count
   unfolding member_end
-  end-over h = rw (← e) (simp (lt-leb end most_size h))
+  end_over h = rw (← e) (simp (lt-leb end most_size h))
 
 -- ---- the ways out of one step
 
 -- access 0 is good
-pub access-first : (a : ℕ) → a ≡ 0 → true ≡ access_ok a
+pub access_first : (a : ℕ) → a ≡ 0 → true ≡ access_ok a
 unfolding access_ok
-access-first a e = simp (eq-eqb a 0 e)
+access_first a e = simp (eq-eqb a 0 e)
 
 -- access 2 is good
-pub access-second : (a : ℕ) → (a ≡ 0 → ⊥) → a ≡ 2 → true ≡ access_ok a
+pub access_second : (a : ℕ) → (a ≡ 0 → ⊥) → a ≡ 2 → true ≡ access_ok a
 unfolding access_ok
-access-second a n e = simp (ne_eqb a 0 n, eq-eqb a 2 e)
+access_second a n e = simp (ne_eqb a 0 n, eq-eqb a 2 e)
 
 -- an access that is neither is good where it is 3
-pub access-third : (a : ℕ) → (a ≡ 0 → ⊥) → (a ≡ 2 → ⊥) → eqb a 3 ≡ access_ok a
+pub access_third : (a : ℕ) → (a ≡ 0 → ⊥) → (a ≡ 2 → ⊥) → eqb a 3 ≡ access_ok a
 unfolding access_ok
-access-third a n m = simp (ne_eqb a 0 n, ne_eqb a 2 m)
+access_third a n m = simp (ne_eqb a 0 n, ne_eqb a 2 m)
 
 module _ (c : Cursor) (d : Decl) {at : ℕ} (end : End) (s : at ≡ start_of c d)
     (e : said_by end ≡ member_end at d.size d.count) where
@@ -58,28 +58,28 @@ module _ (c : Cursor) (d : Decl) {at : ℕ} (end : End) (s : at ≡ start_of c d
   ends = rw (← s) (sym e)
 
   -- the way out of any other member where it ends above 2^26: too far
-  pub other-over : end ≡ Over → TooFar ≡ place_other c d
+  pub other_over : end ≡ Over → TooFar ≡ place_other c d
   unfolding place_other
-  other-over q = rw (ends, q)
+  other_over q = rw (ends, q)
 
   -- any other member stands at its start, closes the host, and leaves the cursor at its end
-  pub other-at : {o : ℕ} {h : Host} → end ≡ At o → h ≡ closed c.host
+  pub other_at_lem : {o : ℕ} {h : Host} → end ≡ At o → h ≡ closed c.host
       → One (other_at d at) (record { offset = o; host = h; members = c.members + 1 }) ≡ place_other c d
   unfolding place_other
-  other-at {o} {h} q k = rw (s, k, ends, q)
+  other_at_lem {o} {h} q k = rw (s, k, ends, q)
 
 module _ (c : Cursor) (d : Decl) where
   -- a BOOL with a good access goes into a host
-  pub placed-bool : access_ok d.access ≡ true → is_bool d.ty ≡ true → place_bool c.host c d ≡ placed c d
+  pub placed_bool : access_ok d.access ≡ true → is_bool d.ty ≡ true → place_bool c.host c d ≡ placed c d
   unfolding placed
-  placed-bool a b = rw (a, b)
+  placed_bool a b = rw (a, b)
 
   -- any other member with a good access goes to its aligned start, or is too far
-  pub placed-other : access_ok d.access ≡ true → is_bool d.ty ≡ false → place_other c d ≡ placed c d
+  pub placed_other : access_ok d.access ≡ true → is_bool d.ty ≡ false → place_other c d ≡ placed c d
   unfolding placed
-  placed-other a b = rw (a, b)
+  placed_other a b = rw (a, b)
 
   -- the way out at the access, where it is not 0, 2 or 3
-  pub placed-wrong : access_ok d.access ≡ false → AccessWrong ≡ placed c d
+  pub placed_wrong : access_ok d.access ≡ false → AccessWrong ≡ placed c d
   unfolding placed
-  placed-wrong a = rw a
+  placed_wrong a = rw a

@@ -19,29 +19,29 @@ use Rattle.types.specs.declared.layout.placing.Host.TheVariants.{Closed, Open, S
 use Rattle.types.specs.declared.layout.placing.Placed.{Placed}
 use Rattle.types.specs.declared.layout.placing.Placed.TheVariants.{Hosted, One, AccessWrong, TooFar}
 use Rattle.types.specs.declared.tables.member.Member.{Member}
-use Rattle.types.proofs.layout.PlaceLaws.{place-cases}
+use Rattle.types.proofs.layout.PlaceLaws.{place_cases}
 
 module _ (host : ℕ → List ℕ) (c : Cursor) (n : ℕ) (d : Decl) {p : Placed} (e : p ≡ placed c d) where
   -- where a host opens, the lengths of its name and of the member's are added
-  pub one-hosted : {h m : Member} {c' : Cursor} {long : ℕ} → p ≡ Hosted h m c' → long ≡ length (host c.members)
+  pub one_hosted : {h m : Member} {c' : Cursor} {long : ℕ} → p ≡ Hosted h m c' → long ≡ length (host c.members)
       → Came c' (n + long + d.name.long) ≡ measure_one host c n d
   unfolding measure_one
-  one-hosted {long} q l = rw (← e, q, l)
+  one_hosted {long} q l = rw (← e, q, l)
 
   -- where the member is placed alone, the length of its name is added
-  pub one-alone : {m : Member} {c' : Cursor} → p ≡ One m c' → Came c' (n + d.name.long) ≡ measure_one host c n d
+  pub one_alone : {m : Member} {c' : Cursor} → p ≡ One m c' → Came c' (n + d.name.long) ≡ measure_one host c n d
   unfolding measure_one
-  one-alone q = rw (← e, q)
+  one_alone q = rw (← e, q)
 
   -- a member with a wrong access is measured as that
-  pub one-access : p ≡ AccessWrong → access_wrong ≡ measure_one host c n d
+  pub one_access : p ≡ AccessWrong → access_wrong ≡ measure_one host c n d
   unfolding measure_one
-  one-access q = rw (← e, q)
+  one_access q = rw (← e, q)
 
   -- the way out at a member that ends too far
-  pub one-far : p ≡ TooFar → too_far ≡ measure_one host c n d
+  pub one_far : p ≡ TooFar → too_far ≡ measure_one host c n d
   unfolding measure_one
-  one-far q = rw (← e, q)
+  one_far q = rw (← e, q)
 
 -- ---- the members that are left
 
@@ -74,25 +74,25 @@ module _ (host : ℕ → List ℕ) (c : Cursor) (n : ℕ) (d : Decl) (ds : List 
   far TooFar a b rest q = refl
 
   -- where the first member is measured, the whole measures as those after it do from there
-  pub measured-on : {c' : Cursor} {n' : ℕ} → measure_one host c n d ≡ Came c' n'
+  pub measured_on : {c' : Cursor} {n' : ℕ} → measure_one host c n d ≡ Came c' n'
       → measured host c n (d ∷ ds) ≡ measured host c' n' ds
   unfolding measure_one measured
-  measured-on q = next (placed c d) _ _ (λ x y. measured host x y ds) q
+  measured_on q = next (placed c d) _ _ (λ x y. measured host x y ds) q
 
   -- where the access of the first member is wrong, the whole is refused so
-  pub measured-access : measure_one host c n d ≡ access_wrong → measured host c n (d ∷ ds) ≡ access_wrong
+  pub measured_access : measure_one host c n d ≡ access_wrong → measured host c n (d ∷ ds) ≡ access_wrong
   unfolding measure_one measured
-  measured-access q = access (placed c d) _ _ (λ x y. measured host x y ds) q
+  measured_access q = access (placed c d) _ _ (λ x y. measured host x y ds) q
 
   -- where the first member ends too far, the whole is refused so
-  pub measured-far : measure_one host c n d ≡ too_far → measured host c n (d ∷ ds) ≡ too_far
+  pub measured_far : measure_one host c n d ≡ too_far → measured host c n (d ∷ ds) ≡ too_far
   unfolding measure_one measured
-  measured-far q = far (placed c d) _ _ (λ x y. measured host x y ds) q
+  measured_far q = far (placed c d) _ _ (λ x y. measured host x y ds) q
 
 -- where no member is left, the cursor and the bytes of names are what is measured
-pub measured-done : (host : ℕ → List ℕ) (c : Cursor) (n : ℕ) → Came c n ≡ measured host c n []
+pub measured_done : (host : ℕ → List ℕ) (c : Cursor) (n : ℕ) → Came c n ≡ measured host c n []
 unfolding measured
-measured-done host c n = refl
+measured_done host c n = refl
 
 -- ---- how far a cursor can have come
 
@@ -105,23 +105,23 @@ carried {k} {n} {n'} {c} {c'} f q =
 never : {A : Type 0} {m : Measured} {c : Cursor} {n : ℕ} → m ≡ Came c n → m ≡ access_wrong → A
 never p q = let z : true ≡ false = cc in absurd (true≢false z)
 
-never-far : {A : Type 0} {m : Measured} {c : Cursor} {n : ℕ} → m ≡ Came c n → m ≡ too_far → A
-never-far p q = let z : true ≡ false = cc in absurd (true≢false z)
+never_far : {A : Type 0} {m : Measured} {c : Cursor} {n : ℕ} → m ≡ Came c n → m ≡ too_far → A
+never_far p q = let z : true ≡ false = cc in absurd (true≢false z)
 
-closed-bits : (h : Host) → shared_bits (closed h) ≤ shared_bits h
+closed_bits : (h : Host) → shared_bits (closed h) ≤ shared_bits h
 unfolding closed
-closed-bits Closed = omega arith
-closed-bits (Open b k) = omega arith
-closed-bits (Shared i) = omega arith
+closed_bits Closed = omega arith
+closed_bits (Open b k) = omega arith
+closed_bits (Shared i) = omega arith
 
 -- one member more comes no farther than k + 1 members can
-pub far-on : (host : ℕ → List ℕ) (k : ℕ) (c : Cursor) (n : ℕ) (d : Decl) {c' : Cursor} {n' : ℕ} → Far k c n → Fair d
+pub far_on : (host : ℕ → List ℕ) (k : ℕ) (c : Cursor) (n : ℕ) (d : Decl) {c' : Cursor} {n' : ℕ} → Far k c n → Fair d
     → length (host c.members) ≤ 40 → measure_one host c n d ≡ Came c' n' → Far (k + 1) c' n'
 unfolding measure_one opened next_bit
-far-on host k c n d {c'} {n'} f a h =
-    place-cases
-    (λ p. then_measure p (length (host c.members)) d.name.long n (λ x y. Came x y) ≡ Came c' n' → Far (k + 1)
-    c' n')
+far_on host k c n d {c'} {n'} f a h =
+    place_cases
+    (λ p. then_measure p (length (host c.members)) d.name.long n (λ x y. Came x y) ≡ Came c' n'
+    → Far (k + 1) c' n')
     c d
     (record {
       wrong = λ w q. never q refl;
@@ -157,11 +157,11 @@ far-on host k c n d {c'} {n'} f a h =
           (record {
             offset = omega arith;
             members = omega (arith, f.members);
-            bits = omega (arith, closed-bits c.host, f.bits);
+            bits = omega (arith, closed_bits c.host, f.bits);
             names = omega (arith, f.names, a.name);
           })
           q;
-      far = λ b l q. never-far q refl;
+      far = λ b l q. never_far q refl;
     })
 
 -- a step from a cursor that has not come too far keeps inside 32 bits

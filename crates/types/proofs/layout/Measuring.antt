@@ -12,9 +12,9 @@ use Rattle.types.specs.layout.Structs.{udt_start, aoi_start}
 use Rattle.types.specs.declared.layout.measure.Measured.{Measured}
 use Rattle.types.specs.declared.layout.measure.Measured.TheVariants.{Came, AccessWrong, TooFar}
 use Rattle.types.specs.declared.layout.placing.Cursor.{Cursor}
-use Rattle.types.proofs.book.DeclLaws.{decls-cons, decls-none, found_first, decl-fair}
-use Rattle.types.proofs.layout.DigitLaws.{host-most}
-use Rattle.types.proofs.layout.MeasureLaws.{measured-on, measured-access, measured-far, measured-done, far-on}
+use Rattle.types.proofs.book.DeclLaws.{decls_cons, decls_none, found_first, decl_fair}
+use Rattle.types.proofs.layout.DigitLaws.{host_most}
+use Rattle.types.proofs.layout.MeasureLaws.{measured_on, measured_access, measured_far, measured_done, far_on}
 use Rattle.types.proofs.layout.MeasureLaws.{near}
 
 -- the whole measures as the members from the j-th on do from this cursor, which is not too far
@@ -45,12 +45,12 @@ module _ {types book tys name : List ℕ} {at n n₀ names j : ℕ} {c₀ c : Cu
     (m : Measuring types book tys name at n c₀ n₀ c names j) where
   -- after the last member the cursor and the bytes of names are what the whole measures
   pub all_done : n ≤ j → Came c names ≡ measured (host_name name) c₀ n₀ (decls_from types book tys at 0 n)
-  all_done l = sym (rw (decls-none types book tys at n j l) at m.same ∙ sym (measured-done (host_name name) c names))
+  all_done l = sym (rw (decls_none types book tys at n j l) at m.same ∙ sym (measured_done (host_name name) c names))
 
   module _ (l : j < n) (b : Bytes book) where
     -- a step at the j-th member keeps inside 32 bits
-    pub one-near : Near c names (decl_at types book tys at j)
-    one-near = near (m.passed + j) c names _ (omega (arith, m.few)) m.far (decl-fair types book tys at j b)
+    pub one_near : Near c names (decl_at types book tys at j)
+    one_near = near (m.passed + j) c names _ (omega (arith, m.few)) m.far (decl_fair types book tys at j b)
 
     -- the first j + 1 members were found
     pub one_found : Found book tys at (j + 1)
@@ -60,17 +60,17 @@ module _ {types book tys name : List ℕ} {at n n₀ names j : ℕ} {c₀ c : Cu
     split : measured (host_name name) c₀ n₀ (decls_from types book tys at 0 n)
         ≡ measured (host_name name) c names
         (decl_at types book tys at j ∷ decls_from types book tys at (j + 1) (n - (j + 1)))
-    split = m.same ∙ ap (measured (host_name name) c names) (decls-cons types book tys at n j l)
+    split = m.same ∙ ap (measured (host_name name) c names) (decls_cons types book tys at n j l)
 
     module _ (one : Measured) (e : one ≡ measure_one (host_name name) c names (decl_at types book tys at j)) where
       -- where the access of the j-th member is wrong, the whole is refused so
-      pub refused-access : one ≡ AccessWrong
+      pub refused_access : one ≡ AccessWrong
           → AccessWrong ≡ measured (host_name name) c₀ n₀ (decls_from types book tys at 0 n)
-      refused-access q = sym (split ∙ measured-access (host_name name) c names _ _ (sym e ∙ q))
+      refused_access q = sym (split ∙ measured_access (host_name name) c names _ _ (sym e ∙ q))
 
       -- where the j-th member ends too far, the whole is refused so
-      pub refused-far : one ≡ TooFar → TooFar ≡ measured (host_name name) c₀ n₀ (decls_from types book tys at 0 n)
-      refused-far q = sym (split ∙ measured-far (host_name name) c names _ _ (sym e ∙ q))
+      pub refused_far : one ≡ TooFar → TooFar ≡ measured (host_name name) c₀ n₀ (decls_from types book tys at 0 n)
+      refused_far q = sym (split ∙ measured_far (host_name name) c names _ _ (sym e ∙ q))
 
       -- where the j-th member is measured, it is so at the next
       pub goes_on : {c' : Cursor} {n' : ℕ} → one ≡ Came c' n'
@@ -82,9 +82,9 @@ module _ {types book tys name : List ℕ} {at n n₀ names j : ℕ} {c₀ c : Cu
             few = m.few;
             done = omega arith;
             found = m.found;
-            far = rw (← f) (far-on (host_name name) (m.passed + j) c names _ m.far (decl-fair types book tys at j b)
-                (host-most name c.members) (sym e ∙ q));
-            same = split ∙ measured-on (host_name name) c names _ _ (sym e ∙ q);
+            far = rw (← f) (far_on (host_name name) (m.passed + j) c names _ m.far (decl_fair types book tys at j b)
+                (host_most name c.members) (sym e ∙ q));
+            same = split ∙ measured_on (host_name name) c names _ _ (sym e ∙ q);
           }
 
 -- any members of a book can be measured from the start of a UDT, and after the hosts of an AOI
@@ -98,9 +98,9 @@ from_start f l =
     }
 
 -- up to 65,536 members can be measured after the hosts, EnableIn and EnableOut of an AOI
-pub from-hosts : {book tys : List ℕ} {at n h long : ℕ} → Found book tys at n → n ≤ 65536 → h ≤ 2050 → long ≤ 15 * h
+pub from_hosts : {book tys : List ℕ} {at n h long : ℕ} → Found book tys at n → n ≤ 65536 → h ≤ 2050 → long ≤ 15 * h
     → Measurable book tys at n (aoi_start h) (long + 17)
-from-hosts f l k m =
+from_hosts f l k m =
     record {
       found = f;
       passed = 2052;

@@ -23,7 +23,7 @@ use Rattle.types.specs.declared.layout.placing.Host.TheVariants.{Closed, Open, S
 use Rattle.types.specs.declared.layout.placing.Placed.{Placed}
 use Rattle.types.specs.declared.layout.placing.Placed.TheVariants.{One, AccessWrong, TooFar}
 use Rattle.types.specs.declared.tables.member.Member.{Member}
-use Rattle.types.proofs.layout.LayoutLaws.{placed-bool}
+use Rattle.types.proofs.layout.LayoutLaws.{placed_bool}
 
 -- a UDT's host has no bit left, or there is none
 abbrev pub Full : Host → Type 0
@@ -61,9 +61,9 @@ module _ (P : Placed → Type 0) (c : Cursor) (d : Decl) (w : Ways P c d) where
       (λ l. w.opens b (rw e (ltb-false bit 8 l)))
   bool_cases b (Shared i) e = w.shared b i e
 
-  other-cases : is_bool d.ty ≡ false → P (place_other c d)
+  other_cases : is_bool d.ty ≡ false → P (place_other c d)
   unfolding place_other member_end end_of
-  other-cases b = go (leb (end_of c d) most_size) refl
+  other_cases b = go (leb (end_of c d) most_size) refl
     where
       go : (t : Bool) → leb (end_of c d) most_size ≡ t
           → P (on_end (cond t (done (end_of c d)) (refused 12 0)) (λ e. One (other_at d (start_of c d))
@@ -72,11 +72,11 @@ module _ (P : Placed → Type 0) (c : Cursor) (d : Decl) (w : Ways P c d) where
       go false q = w.far b (leb-false _ _ q)
 
   -- what holds of each way that a step can go holds of the step
-  pub place-cases : P (placed c d)
+  pub place_cases : P (placed c d)
   unfolding placed
-  place-cases =
+  place_cases =
       either P (access_ok d.access)
-      (λ a. either P (is_bool d.ty) (λ b. bool_cases b c.host refl) other-cases)
+      (λ a. either P (is_bool d.ty) (λ b. bool_cases b c.host refl) other_cases)
       w.wrong
 
 -- ---- a step among others
@@ -94,53 +94,54 @@ module _ {A : Type 0} {c : Cursor} {n : ℕ} where
   no_access q = let z : true ≡ false = cc in absurd (true≢false z)
 
   -- no layout with a member too far comes to an end
-  pub no-far : too_far ≡ Came c n → A
-  no-far q = let z : true ≡ false = cc in absurd (true≢false z)
+  pub no_far : too_far ≡ Came c n → A
+  no_far q = let z : true ≡ false = cc in absurd (true≢false z)
 
 -- ---- in a UDT no host stays open across another member
 
-closed-udt : (h : Host) → InUdt h → closed h ≡ Closed
+closed_udt : (h : Host) → InUdt h → closed h ≡ Closed
 unfolding closed
-closed-udt Closed u = refl
-closed-udt (Open byte bit) u = refl
+closed_udt Closed u = refl
+closed_udt (Open byte bit) u = refl
+closed_udt (Shared _) u = elim u [ ]
 
 shut : {c : Cursor} → c.host ≡ Closed → Shut c
 unfolding place_bool
-shut {c} h = record { host = h; opens = λ e a b. sym (placed-bool c e a b) ∙ rw h }
+shut {c} h = record { host = h; opens = λ e a b. sym (placed_bool c e a b) ∙ rw h }
 
 -- after any other member the next BOOL opens a new host at the current offset
-pub host-closed : (c : Cursor) (d : Decl) (m : Member) (c' : Cursor) → InUdt c.host → is_bool d.ty ≡ false
+pub host_closed : (c : Cursor) (d : Decl) (m : Member) (c' : Cursor) → InUdt c.host → is_bool d.ty ≡ false
     → placed c d ≡ One m c' → Shut c'
 unfolding opened next_bit
-host-closed c d m c' u b =
-    place-cases (λ p. p ≡ One m c' → Shut c') c d
+host_closed c d m c' u b =
+    place_cases (λ p. p ≡ One m c' → Shut c') c d
     (record {
       wrong = λ a q. let z : true ≡ false = cc in absurd (true≢false z);
       opens = λ t f q. absurd (true≢false (sym t ∙ b));
       next = λ t byte bit h l q. absurd (true≢false (sym t ∙ b));
       shared = λ t i h q. absurd (true≢false (sym t ∙ b));
-      other = λ t l q. shut (let e : closed c.host ≡ c'.host = cc in sym e ∙ closed-udt c.host u);
+      other = λ t l q. shut (let e : closed c.host ≡ c'.host = cc in sym e ∙ closed_udt c.host u);
       far = λ t l q. let z : true ≡ false = cc in absurd (true≢false z);
     })
 
 module _ (host : ℕ → List ℕ) (e : Cursor) (n' : ℕ) where
-  stays-udt : (c : Cursor) (n : ℕ) (ds : List Decl) → InUdt c.host → measured host c n ds ≡ Came e n'
+  stays_udt : (ds : List Decl) (c : Cursor) (n : ℕ) → InUdt c.host → measured host c n ds ≡ Came e n'
       → InUdt e.host
   unfolding measured opened next_bit
-  stays-udt c n [] u q = let z : c ≡ e = cc in rw (← z) u
-  stays-udt c n (d ∷ ds) u q =
-      place-cases (λ p. LayoutEnds host e n' c n d ds p → InUdt e.host) c d
+  stays_udt [] c n u q = let z : c ≡ e = cc in rw (← z) u
+  stays_udt (d ∷ ds) c n u q =
+      place_cases (λ p. LayoutEnds host e n' c n d ds p → InUdt e.host) c d
       (record {
         wrong = λ a r. no_access r;
-        opens = λ b f r. stays-udt _ _ ds tt r;
-        next = λ b byte bit h l r. stays-udt _ _ ds tt r;
+        opens = λ b f r. stays_udt ds _ _ tt r;
+        next = λ b byte bit h l r. stays_udt ds _ _ tt r;
         shared = λ b i h r. absurd (rw h at u);
-        other = λ b l r. stays-udt _ _ ds (rw (closed-udt c.host u) tt) r;
-        far = λ b l r. no-far r;
+        other = λ b l r. stays_udt ds _ _ (rw (closed_udt c.host u) tt) r;
+        far = λ b l r. no_far r;
       })
       q
 
   -- so it is after any members of a UDT
-  pub udt-shut : (n₀ : ℕ) (ds : List Decl) (d : Decl) (m : Member) (c' : Cursor)
+  pub udt_shut : (n₀ : ℕ) (ds : List Decl) (d : Decl) (m : Member) (c' : Cursor)
       → measured host udt_start n₀ ds ≡ Came e n' → is_bool d.ty ≡ false → placed e d ≡ One m c' → Shut c'
-  udt-shut n₀ ds d m c' q b p = host-closed e d m c' (stays-udt udt_start n₀ ds tt q) b p
+  udt_shut n₀ ds d m c' q b p = host_closed e d m c' (stays_udt ds udt_start n₀ tt q) b p

@@ -29,18 +29,18 @@ pub record StringRow (members : List ℕ) (d : StructDef) : Type 0 where
   pub size : d.size ≡ 4 + 4 * ((capacity + 3) / 4)
 
 -- what is laid out as a string is one
-pub string-is : (c : ℕ) → StringParts (string_size c) (string_parts c)
-string-is c = record { capacity = c; rows = refl; bytes = refl }
+pub string_is : (c : ℕ) → StringParts (string_size c) (string_parts c)
+string_is c = record { capacity = c; rows = refl; bytes = refl }
 
 -- nothing is asked of another kind
-pub other-kind : {size : ℕ} {parts : List Part} (k : StructKind) → eqb (kind_word k) 2 ≡ false → k ≡ Str
+pub other_kind : {size : ℕ} {parts : List Part} (k : StructKind) → eqb (kind_word k) 2 ≡ false → k ≡ Str
     → StringParts size parts
-other-kind k n e = absurd (true≢false (sym (ap (λ (x : StructKind). eqb (kind_word x) 2) e) ∙ n))
+other_kind k n e = absurd (true≢false (sym (ap (λ (x : StructKind). eqb (kind_word x) 2) e) ∙ n))
 
 -- the kind of a UDT or an AOI is not Str
-pub no-string : (aoi : Bool) → eqb (kind_word (laid_kind aoi)) 2 ≡ false
-no-string true = refl
-no-string false = refl
+pub no_string : (aoi : Bool) → eqb (kind_word (laid_kind aoi)) 2 ≡ false
+no_string true = refl
+no_string false = refl
 
 -- a string's size is 4 plus its capacity rounded up to 4
 pub string_bytes : (c : ℕ) → string_size c ≡ 4 + 4 * ((c + 3) / 4)

@@ -17,49 +17,49 @@ use Rattle.types.specs.declared.refusals.refusal.Refusal.TheVariants.{NoRoom, No
 
 module _ {s out : List ℕ} where
   -- where the buffer has room, the bytes are put at its start and their length is answered
-  pub given-room : length s ≤ length out → Given true s out (Length (length s)) (sets out 0 s)
+  pub given_room : length s ≤ length out → Given true s out (Length (length s)) (sets out 0 s)
   unfolding length_given buffer_left
-  given-room h =
+  given_room h =
       let e = le-leb (length s) (length out) h in
       record { is = simp e; bytes = simp e }
 
   -- the way out with 16, where the buffer is too short: it stays as it was
-  pub given-none : length out < length s → Given true s out (Refused NoRoom) out
+  pub given_none : length out < length s → Given true s out (Refused NoRoom) out
   unfolding length_given buffer_left
-  given-none h =
+  given_none h =
       let e = lt-leb (length s) (length out) h in
       record { is = simp e; bytes = simp e }
 
   -- the way out with 15, where there is nothing to give: the buffer stays as it was
-  pub given-absent : {there : Bool} → there ≡ false → Given there s out (Refused NoSuchType) out
+  pub given_absent : {there : Bool} → there ≡ false → Given there s out (Refused NoSuchType) out
   unfolding length_given buffer_left
-  given-absent e = record { is = rw e; bytes = rw e }
+  given_absent e = record { is = rw e; bytes = rw e }
 
 -- ---- a line in a buffer of its own
 
 module _ {s out left : List ℕ} {n : ℕ} (l : Lined s out n left) where
-  same-long : length left ≡ length out
-  same-long = rw l.bytes (length-sets out 0 s)
+  same_long : length left ≡ length out
+  same_long = rw l.bytes (length-sets out 0 s)
 
   -- it lies inside the buffer
-  pub line-inside : n ≤ length left
-  line-inside = omega (arith, l.long, l.room, same-long)
+  pub line_inside : n ≤ length left
+  line_inside = omega (arith, l.long, l.room, same_long)
 
   -- it is the buffer's first part
-  pub line-part : take n left ≡ s
-  line-part =
+  pub line_part : take n left ≡ s
+  line_part =
       rw (l.bytes, l.long)
       (rw (sets-eq s out 0 (omega (arith, l.room))) (take_at s _ (length s) refl))
 
   -- that part is as long as was answered
-  pub line-long : n ≡ length (take n left)
-  line-long = rw line-part l.long
+  pub line_long : n ≡ length (take n left)
+  line_long = rw line_part l.long
 
   -- a line of a buffer below 2^32 bytes can be given
-  pub line-short : length out < 2 ^ 32 → length (take n left) < 2 ^ 32
-  line-short h = omega (arith, line-long, l.long, l.room)
+  pub line_short : length out < 2 ^ 32 → length (take n left) < 2 ^ 32
+  line_short h = omega (arith, line_long, l.long, l.room)
 
   -- giving that part is giving the line, where there is one
-  pub line-given : {there : Bool} {buffer given : List ℕ} {r : Wrote} → there ≡ true
+  pub line_given : {there : Bool} {buffer given : List ℕ} {r : Wrote} → there ≡ true
       → Given true (take n left) buffer r given → Given there s buffer r given
-  line-given e g = rw (e, ← line-part) g
+  line_given e g = rw (e, ← line_part) g

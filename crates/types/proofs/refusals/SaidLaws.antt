@@ -77,48 +77,48 @@ back refusal.PredefinedIds = refl
 back refusal.LengthsWrong = refl
 back refusal.TagTooLarge = refl
 
-pub refusal-same : (r s : Refusal) → number_of r ≡ number_of s → place_of r ≡ place_of s → r ≡ s
-refusal-same r s e f = sym (back r) ∙ ap₂ refusal_at e f ∙ back s
+pub refusal_same : (r s : Refusal) → number_of r ≡ number_of s → place_of r ≡ place_of s → r ≡ s
+refusal_same r s e f = sym (back r) ∙ ap₂ refusal_at e f ∙ back s
 
 -- refusals that say the same number and place are the same
-pub why-same : {A : Type 0} (r s : Refusal) → why {A = A} r ≡ why s → r ≡ s
-why-same r s e =
+pub why_same : {A : Type 0} (r s : Refusal) → why {A = A} r ≡ why s → r ≡ s
+why_same r s e =
     let number : number_of r ≡ number_of s = cc in
     let place : place_of r ≡ place_of s = cc in
-    refusal-same r s number place
+    refusal_same r s number place
 
-pub wrote-same : (r s : Wrote) → said_by r ≡ said_by s → r ≡ s
-wrote-same (wrote.Length n) (wrote.Length m) e = cc
-wrote-same (wrote.Length n) (wrote.Refused s) e = cc
-wrote-same (wrote.Refused r) (wrote.Length m) e = cc
-wrote-same (wrote.Refused r) (wrote.Refused s) e = let f = why-same r s e in cc
+pub wrote_same : (r s : Wrote) → said_by r ≡ said_by s → r ≡ s
+wrote_same (wrote.Length n) (wrote.Length m) e = cc
+wrote_same (wrote.Length n) (wrote.Refused s) e = cc
+wrote_same (wrote.Refused r) (wrote.Length m) e = cc
+wrote_same (wrote.Refused r) (wrote.Refused s) e = let f = why_same r s e in cc
 
 pub fit_same : (r s : Fit) → fit_says r ≡ fit_says s → r ≡ s
 fit_same fit.Fits fit.Fits e = refl
 fit_same fit.Fits (fit.Refused s) e = cc
 fit_same (fit.Refused r) fit.Fits e = cc
-fit_same (fit.Refused r) (fit.Refused s) e = let f = why-same r s e in cc
+fit_same (fit.Refused r) (fit.Refused s) e = let f = why_same r s e in cc
 
-pub shaped-same : (r s : Shaped) → shaped_says r ≡ shaped_says s → r ≡ s
-shaped-same r s e =
+pub shaped_same : (r s : Shaped) → shaped_says r ≡ shaped_says s → r ≡ s
+shaped_same r s e =
     ap₂ (λ f x. record { fit = f; shape = x }) (fit_same r.fit s.fit (ap (λ t. t.said) e)) (ap (λ t. t.shape) e)
 
-pub headed-same : (r s : Headed) → headed_says r ≡ headed_says s → r ≡ s
-headed-same r s e =
+pub headed_same : (r s : Headed) → headed_says r ≡ headed_says s → r ≡ s
+headed_same r s e =
     ap₂ (λ f h. record { fit = f; header = h }) (fit_same r.fit s.fit (ap (λ t. t.said) e))
     (ap (λ t. t.header) e)
 
-pub symbol-same : (r s : Symbol) → symbol_says r ≡ symbol_says s → r ≡ s
-symbol-same (symbol.Type n) (symbol.Type m) e = cc
-symbol-same (symbol.Type n) (symbol.Refused s) e = cc
-symbol-same (symbol.Refused r) (symbol.Type m) e = cc
-symbol-same (symbol.Refused r) (symbol.Refused s) e = let f = why-same r s e in cc
+pub symbol_same : (r s : Symbol) → symbol_says r ≡ symbol_says s → r ≡ s
+symbol_same (symbol.Type n) (symbol.Type m) e = cc
+symbol_same (symbol.Type n) (symbol.Refused s) e = cc
+symbol_same (symbol.Refused r) (symbol.Type m) e = cc
+symbol_same (symbol.Refused r) (symbol.Refused s) e = let f = why_same r s e in cc
 
-pub wasted-same : (r s : Wasted) → wasted_says r ≡ wasted_says s → r ≡ s
-wasted-same (wasted.Bits n) (wasted.Bits m) e = cc
-wasted-same (wasted.Bits n) (wasted.Refused s) e = cc
-wasted-same (wasted.Refused r) (wasted.Bits m) e = cc
-wasted-same (wasted.Refused r) (wasted.Refused s) e = let f = why-same r s e in cc
+pub wasted_same : (r s : Wasted) → wasted_says r ≡ wasted_says s → r ≡ s
+wasted_same (wasted.Bits n) (wasted.Bits m) e = cc
+wasted_same (wasted.Bits n) (wasted.Refused s) e = cc
+wasted_same (wasted.Refused r) (wasted.Bits m) e = cc
+wasted_same (wasted.Refused r) (wasted.Refused s) e = let f = why_same r s e in cc
 
 -- a type's word tells the type
 word_same : (a b : Ty) → word_of a ≡ word_of b → a ≡ b
@@ -127,19 +127,19 @@ word_same (Atomic a) (Struct n) e = absurd (let z : ⊥ = omega (arith, code_bel
 word_same (Struct n) (Atomic b) e = absurd (let z : ⊥ = omega (arith, code_below b) in z)
 word_same (Struct n) (Struct m) e = ap Struct (omega arith)
 
-pub found-same : (r s : FoundTy) → found_says r ≡ found_says s → r ≡ s
-found-same (found.Is a) (found.Is b) e =
+pub found_same : (r s : FoundTy) → found_says r ≡ found_says s → r ≡ s
+found_same (found.Is a) (found.Is b) e =
     let w : word_of a ≡ word_of b = cc in
     ap found.Is (word_same a b w)
-found-same (found.Is a) found.Nothing e = cc
-found-same found.Nothing (found.Is b) e = cc
-found-same found.Nothing found.Nothing e = refl
+found_same (found.Is a) found.Nothing e = cc
+found_same found.Nothing (found.Is b) e = cc
+found_same found.Nothing found.Nothing e = refl
 
-pub built-same : (r s : Built) → built_says r ≡ built_says s → r ≡ s
-built-same (built.Types n) (built.Types m) e = cc
-built-same (built.Types n) (built.Refused s) e = cc
-built-same (built.Refused r) (built.Types m) e = cc
-built-same (built.Refused r) (built.Refused s) e = let f = why-same r s e in cc
+pub built_same : (r s : Built) → built_says r ≡ built_says s → r ≡ s
+built_same (built.Types n) (built.Types m) e = cc
+built_same (built.Types n) (built.Refused s) e = cc
+built_same (built.Refused r) (built.Types m) e = cc
+built_same (built.Refused r) (built.Refused s) e = let f = why_same r s e in cc
 
 pub end_same : (r s : End) → end_says r ≡ end_says s → r ≡ s
 end_same (ends.At n) (ends.At m) e = cc

@@ -35,14 +35,14 @@ stuck false b {a} n e = other 22 n (λ z. omega arith) e
 
 module _ (ids : PredefinedIds) (book : List ℕ) where
   -- an accepted build passed the test of the ids, and the rounds from the predefined types accepted the same
-  pub accepted-both : (ds : List Def) → build_of ids book ≡ accepted ds
+  pub accepted_both : (ds : List Def) → build_of ids book ≡ accepted ds
       → (predefined_ids ids ≡ true)
       × (rounds_from book (predefined ids) ≡ accepted ds)
   unfolding build_of
-  accepted-both ds e = passed (predefined_ids ids) (book_ok book) ds e
+  accepted_both ds e = passed (predefined_ids ids) (book_ok book) ds e
 
   -- where a build gives refusal 10, the rounds gave it
-  pub refused-rounds : (p : ℕ) → build_of ids book ≡ refused (stuck_at p)
+  pub refused_rounds : (p : ℕ) → build_of ids book ≡ refused (stuck_at p)
       → rounds_from book (predefined ids) ≡ refused (stuck_at p)
   unfolding build_of
-  refused-rounds p e = stuck (predefined_ids ids) (book_ok book) p e
+  refused_rounds p e = stuck (predefined_ids ids) (book_ok book) p e

@@ -27,33 +27,33 @@ use Rattle.types.specs.declared.adding.progress.Progress.TheVariants.{Waits, Ref
 use Rattle.types.specs.declared.adding.used.Used.{Used}
 use Rattle.types.specs.declared.refusals.refusal.Refusal.{Refusal}
 use Rattle.types.specs.declared.rounds.round.Round.TheVariants.{Refused, Went}
-use Rattle.types.proofs.adding.VerdictLaws.{verdict-fits}
-use Rattle.types.proofs.book.SoundLaws.{BookSound, sound, among-all}
-use Rattle.types.proofs.rounds.RoundLaws.{round-keep}
-use Rattle.types.proofs.rounds.RoundsKeep.{Begun, keeps, predefined-begun}
-use Rattle.types.proofs.rounds.RunLaws.{Inner, inner_start, inner-past, inner-wait, inner-no, inner-yes}
-use Rattle.types.proofs.rounds.RunLaws.{inner-end}
-use Rattle.types.proofs.rounds.StandLaws.{turn_in, turn-same, turn-waits, turn-refused, turn-added, AddedBy}
-use Rattle.types.proofs.rounds.StandLaws.{tries-stand}
-use Rattle.types.proofs.rounds.WaitLaws.{waits-on}
-use Rattle.types.proofs.tables.RegistryLaws.{stands-more}
-use Rattle.types.proofs.tables.ShownLaws.{TablesShow, shown-more}
+use Rattle.types.proofs.adding.VerdictLaws.{verdict_fits}
+use Rattle.types.proofs.book.SoundLaws.{BookSound, sound, among_all}
+use Rattle.types.proofs.rounds.RoundLaws.{round_keep}
+use Rattle.types.proofs.rounds.RoundsKeep.{Begun, keeps, predefined_begun}
+use Rattle.types.proofs.rounds.RunLaws.{Inner, inner_start, inner_past, inner_wait, inner_no, inner_yes}
+use Rattle.types.proofs.rounds.RunLaws.{inner_end}
+use Rattle.types.proofs.rounds.StandLaws.{turn_in, turn_same, turn_waits, turn_refused, turn_added, AddedBy}
+use Rattle.types.proofs.rounds.StandLaws.{tries_stand}
+use Rattle.types.proofs.rounds.WaitLaws.{waits_on}
+use Rattle.types.proofs.tables.RegistryLaws.{stands_more}
+use Rattle.types.proofs.tables.ShownLaws.{TablesShow, shown_more}
 
 -- ---- registries that rounds reach
 
-reached-begun : (book : List ℕ) → Bytes book → (ds : List Def) → Reached book ds → Begun ds
-reached-begun book b _ (first ids q) = predefined-begun ids q
-reached-begun book b _ (more ds ds' i r e) = keeps book b ds ds' i (reached-begun book b ds r) e
+reached_begun : (book : List ℕ) → Bytes book → (ds : List Def) → Reached book ds → Begun ds
+reached_begun book b _ (first ids q) = predefined_begun ids q
+reached_begun book b _ (more ds ds' i r e) = keeps book b ds ds' i (reached_begun book b ds r) e
 
 -- each type of a registry that rounds reach is shown by its row, and the rows after them are unused
-pub reached-shown : {book : List ℕ} {ds : List Def} → Bytes book → Reached book ds → TablesShow ds
-reached-shown {book} {ds} b r = (reached-begun book b ds r).good.shown
+pub reached_shown : {book : List ℕ} {ds : List Def} → Bytes book → Reached book ds → TablesShow ds
+reached_shown {book} {ds} b r = (reached_begun book b ds r).good.shown
 
 -- a round goes from one to another
-pub reached-round : {book : List ℕ} {ds ds' : List Def} (ws : List ℕ) {ws' : List ℕ} → Reached book ds
+pub reached_round : {book : List ℕ} {ds ds' : List Def} (ws : List ℕ) {ws' : List ℕ} → Reached book ds
     → round_in book ds ws ≡ went ds' ws' → Reached book ds'
-reached-round {book} {ds} {ds'} ws {ws'} r e =
-    round-keep stuck_at (ready_in book) (add_in book) (Reached book) (λ s s' i p h q. more s s' i p q) ds ws ds' ws'
+reached_round {book} {ds} {ds'} ws {ws'} r e =
+    round_keep stuck_at (ready_in book) (add_in book) (Reached book) (λ s s' i p h q. more s s' i p q) ds ws ds' ws'
     r e
 
 -- ---- what the loop keeps
@@ -66,12 +66,12 @@ pub record Const (book tys : List ℕ) (T : ℕ) : Type 0 where
   pub room : members_in book ≤ length tys
 
 -- the types that the loop goes over are fewer than 65,536
-pub const-small : {book tys : List ℕ} {T : ℕ} → Const book tys T → T < 65536
-const-small {book} k = omega (arith, k.is, word_below 2 book 0 k.bytes)
+pub const_small : {book tys : List ℕ} {T : ℕ} → Const book tys T → T < 65536
+const_small {book} k = omega (arith, k.is, word_below 2 book 0 k.bytes)
 
 -- what the loop has of book and scratch it has with another scratch of the same length
-pub const-kept : {book tys tys' : List ℕ} {T : ℕ} → Const book tys T → length tys' ≡ length tys → Const book tys' T
-const-kept k e = record { bytes = k.bytes; okay = k.okay; is = k.is; room = rw e k.room }
+pub const_kept : {book tys tys' : List ℕ} {T : ℕ} → Const book tys T → length tys' ≡ length tys → Const book tys' T
+const_kept k e = record { bytes = k.bytes; okay = k.okay; is = k.is; room = rw e k.room }
 
 -- a round began with one registry that is known, and goes as the definition says from any that its tables stand for
 pub record InRound (book : List ℕ) (T : ℕ) (t₀ m₀ n₀ tys₀ f₀ k₀ r₀ : List ℕ) (u₀ : Used)
@@ -93,15 +93,15 @@ pub start_small : {book t m n tys f k r : List ℕ} {T left : ℕ} {u : Used} �
 start_small {book} p b = omega (arith, p.is, word_below 2 book 0 b)
 
 -- a round begins at type 0, with the tables, flags and scratches that it is given
-pub within-start : {book t m n tys f k r : List ℕ} {T left : ℕ} {u : Used} → RoundIn book T u left t m n tys f k r
+pub within_start : {book t m n tys f k r : List ℕ} {T left : ℕ} {u : Used} → RoundIn book T u left t m n tys f k r
     → Bytes book → InRound book T t m n tys f k r u t m n tys f k r u left 0 (4 + 16 * T)
-within-start p b =
+within_start p b =
     record {
       const = record { bytes = b; okay = p.okay; is = p.is; room = p.room };
       began = p.defs;
       reached = p.reached;
       stood = p.stands;
-      each = λ ds q s. inner_start (reached-shown b q) s p.is p.count p.flags;
+      each = λ ds q s. inner_start (reached_shown b q) s p.is p.count p.flags;
       words = refl;
       flags = refl;
       tries = p.tries;
@@ -111,21 +111,21 @@ within-start p b =
 
 -- ---- adding, from the verdict
 
-add-no : (book : List ℕ) (ds : List Def) (i : ℕ) (x : Why) → verdict_on book (view_of ds) i ≡ against x
+add_no : (book : List ℕ) (ds : List Def) (i : ℕ) (x : Why) → verdict_on book (view_of ds) i ≡ against x
     → add_in book ds i ≡ no x
 unfolding add_in
-add-no book ds i x q = rw q
+add_no book ds i x q = rw q
 
-add-yes : (book : List ℕ) (ds : List Def) (i : ℕ) (d : Def) → verdict_on book (view_of ds) i ≡ for d
+add_yes : (book : List ℕ) (ds : List Def) (i : ℕ) (d : Def) → verdict_on book (view_of ds) i ≡ for d
     → add_in book ds i ≡ ok (ds ++ d ∷ [])
 unfolding add_in
-add-yes book ds i d q = rw q
+add_yes book ds i d q = rw q
 
 module _ {book t₀ m₀ n₀ tys₀ f₀ k₀ r₀ t m n tys f k r : List ℕ} {T left i at : ℕ} {u₀ u : Used}
     (w : InRound book T t₀ m₀ n₀ tys₀ f₀ k₀ r₀ u₀ t m n tys f k r u left i at) where
   -- where the round stands from the registry that it began with
-  pub within-now : Inner book w.began f₀ T t m n f u left i at
-  within-now = w.each w.began w.reached w.stood
+  pub within_now : Inner book w.began f₀ T t m n f u left i at
+  within_now = w.each w.began w.reached w.stood
 
   -- ---- the end of a round
 
@@ -135,7 +135,7 @@ module _ {book t₀ m₀ n₀ tys₀ f₀ k₀ r₀ t m n tys f k r : List ℕ} 
       record {
         each = λ ds q s.
             let v = w.each ds q s in
-            let d = inner-end v l in
+            let d = inner_end v l in
             record { defs = v.ds; is = d.0; stands = v.stands; count = d.1; tries = w.tries };
       }
 
@@ -151,39 +151,39 @@ module _ {book t₀ m₀ n₀ tys₀ f₀ k₀ r₀ t m n tys f k r : List ℕ} 
     -- the turn of type i finds what it asks
     pub within_in : TurnIn t m n book tys k r i at u
     within_in =
-        let v = within-now in
+        let v = within_now in
         turn_in v.shown v.stands book i at v.place tys w.const.bytes good known w.const.room w.tries
 
     -- the places of entries stay small
-    pub within-near : at + 16 * count_of book i < 4 + 32 * 65536
+    pub within_near : at + 16 * count_of book i < 4 + 32 * 65536
     unfolding entries_at
-    within-near =
+    within_near =
         omega (
           arith,
-          within-now.place,
-          among-all good known,
+          within_now.place,
+          among_all good known,
           word_below 2 book 0 w.const.bytes,
           word_below 2 book 2 w.const.bytes,
         )
 
     -- the type whose turn it is has a flag
-    pub within-flag : i < length f
-    within-flag = omega (arith, within-now.flags, l)
+    pub within_flag : i < length f
+    within_flag = omega (arith, within_now.flags, l)
 
     -- where type i waits, at least one type is left
-    pub within-left : get_or f i 0 ≡ 0 → 1 ≤ left
-    within-left o = omega (arith, within-now.count, ap length (waits-on f T i l o))
+    pub within_left : get_or f i 0 ≡ 0 → 1 ≤ left
+    within_left o = omega (arith, within_now.count, ap length (waits_on f T i l o))
 
     -- a type that was added before is passed, and the round goes on with the next one
-    pub within-past : (get_or f i 0 ≡ 0 → ⊥)
+    pub within_past : (get_or f i 0 ≡ 0 → ⊥)
         → InRound book T t₀ m₀ n₀ tys₀ f₀ k₀ r₀ u₀ t m n tys f k r u left (i + 1) (at + 16 * count_of book i)
-    within-past o =
+    within_past o =
         record {
           const = w.const;
           began = w.began;
           reached = w.reached;
           stood = w.stood;
-          each = λ ds q s. inner-past (w.each ds q s) l o;
+          each = λ ds q s. inner_past (w.each ds q s) l o;
           words = w.words;
           flags = w.flags;
           tries = w.tries;
@@ -198,76 +198,76 @@ module _ {book t₀ m₀ n₀ tys₀ f₀ k₀ r₀ t m n tys f k r : List ℕ} 
       -- the turn against the definition, where the round stands
       turned : {ds₀ : List Def} (v : Inner book ds₀ f₀ T t m n f u left i at)
           → Turned (ready_in book v.ds i) (verdict_on book (view_of v.ds) i) u t m n t' m' n' x
-      turned v = turn-same v.shown v.stands book i at v.place h
+      turned v = turn_same v.shown v.stands book i at v.place h
 
       -- where the turn refuses the type, the round was made with that refusal
-      pub made-no : {k' r' : List ℕ} (y : Refusal) → x ≡ Against y
+      pub made_no : {k' r' : List ℕ} (y : Refusal) → x ≡ Against y
           → RoundMade book T u₀ t₀ m₀ n₀ f₀ t' m' n' f k' r' (Refused y)
-      made-no y e =
+      made_no y e =
           record {
             each = λ ds q s.
                 let v = w.each ds q s in
-                let d = turn-refused (turned v) y e in
-                inner-no v l (why_of y) o d.0 (add-no book v.ds i (why_of y) d.1);
+                let d = turn_refused (turned v) y e in
+                inner_no v l (why_of y) o d.0 (add_no book v.ds i (why_of y) d.1);
           }
 
       -- with the type that was added
       module _ {ds₀ : List Def} (v : Inner book ds₀ f₀ T t m n f u left i at) (u' : Used) (e : x ≡ Added u') where
         new : AddedBy (ready_in book v.ds i) (verdict_on book (view_of v.ds) i) u t m n t' m' n' u'
-        new = turn-added (turned v) u' e
+        new = turn_added (turned v) u' e
 
-        new-shown : TablesShow (v.ds ++ new.d ∷ [])
-        new-shown =
-            shown-more v.ds new.d v.shown
-            (verdict-fits book v.ds i new.d w.const.bytes v.shown new.is)
+        new_shown : TablesShow (v.ds ++ new.d ∷ [])
+        new_shown =
+            shown_more v.ds new.d v.shown
+            (verdict_fits book v.ds i new.d w.const.bytes v.shown new.is)
 
-        new-stands : Stands (v.ds ++ new.d ∷ []) t' m' n' u'
-        new-stands = stands-more new.d v.stands new.took
+        new_stands : Stands (v.ds ++ new.d ∷ []) t' m' n' u'
+        new_stands = stands_more new.d v.stands new.took
 
         grown : Inner book ds₀ f₀ T t' m' n' (set f i 1) u' (left - 1) (i + 1) (at + 16 * count_of book i)
         grown =
-            inner-yes v l (v.ds ++ new.d ∷ []) o new.ready (add-yes book v.ds i new.d new.is) new-shown
-            new-stands
+            inner_yes v l (v.ds ++ new.d ∷ []) o new.ready (add_yes book v.ds i new.d new.is) new_shown
+            new_stands
 
-      module _ {tys' k' r' : List ℕ} (kept : length tys' ≡ length tys) (kept-k : length k' ≡ length k)
-          (kept-r : length r' ≡ length r) (tries : Tries book (row_names t n u.types) k' r') where
+      module _ {tys' k' r' : List ℕ} (kept : length tys' ≡ length tys) (kept_k : length k' ≡ length k)
+          (kept_r : length r' ≡ length r) (tries : Tries book (row_names t n u.types) k' r') where
         -- where the type still waits, the round goes on with the next one and the same flags
-        pub within-wait : x ≡ Waits
+        pub within_wait : x ≡ Waits
             → InRound book T t₀ m₀ n₀ tys₀ f₀ k₀ r₀ u₀ t' m' n' tys' f k' r' u left (i + 1)
             (at + 16 * count_of book i)
-        within-wait e =
-            let d = turn-waits (turned within-now) e in
+        within_wait e =
+            let d = turn_waits (turned within_now) e in
             rw (d.1.0, d.1.1.0, d.1.1.1)
             record {
-              const = const-kept w.const kept;
+              const = const_kept w.const kept;
               began = w.began;
               reached = w.reached;
               stood = w.stood;
               each = λ ds q s.
                   let v = w.each ds q s in
-                  inner-wait v l o (turn-waits (turned v) e).0;
+                  inner_wait v l o (turn_waits (turned v) e).0;
               words = kept ∙ w.words;
               flags = w.flags;
               tries = tries;
-              members = kept-k ∙ w.members;
-              rows = kept-r ∙ w.rows;
+              members = kept_k ∙ w.members;
+              rows = kept_r ∙ w.rows;
             }
 
         -- where the type is added, its flag is set, one fewer is left, and the round goes on with the next one
-        pub within-yes : (u' : Used) → x ≡ Added u'
+        pub within_yes : (u' : Used) → x ≡ Added u'
             → InRound book T t₀ m₀ n₀ tys₀ f₀ k₀ r₀ u₀ t' m' n' tys' (set f i 1) k' r' u' (left - 1) (i + 1)
             (at + 16 * count_of book i)
-        within-yes u' e =
-            let v = within-now in
+        within_yes u' e =
+            let v = within_now in
             record {
-              const = const-kept w.const kept;
+              const = const_kept w.const kept;
               began = w.began;
               reached = w.reached;
               stood = w.stood;
               each = λ ds q s. grown (w.each ds q s) u' e;
               words = kept ∙ w.words;
               flags = length-set f i 1 ∙ w.flags;
-              tries = tries-stand (new v u' e).d v.shown v.stands (new-shown v u' e) (new-stands v u' e) tries;
-              members = kept-k ∙ w.members;
-              rows = kept-r ∙ w.rows;
+              tries = tries_stand (new v u' e).d v.shown v.stands (new_shown v u' e) (new_stands v u' e) tries;
+              members = kept_k ∙ w.members;
+              rows = kept_r ∙ w.rows;
             }

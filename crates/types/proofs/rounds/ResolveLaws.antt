@@ -21,7 +21,7 @@ use Rattle.types.specs.declared.atomics.lookup.FoundTy.{FoundTy}
 use Rattle.types.specs.declared.atomics.lookup.FoundTy.TheVariants.{Is, Nothing}
 use Rattle.types.specs.declared.tables.member.Ty.{Ty}
 use Rattle.types.specs.declared.tables.member.Ty.TheVariants.{Atomic, Struct}
-use Rattle.types.proofs.book.BookLaws.{from_cons, from-none}
+use Rattle.types.proofs.book.BookLaws.{from_cons, from_none}
 
 -- ---- what is found
 
@@ -53,9 +53,9 @@ found_below known s = go (atomic_named s)
     go none = rw zero-add at (among_below known s 0)
 
 -- a type that is found is an atomic or one of the known types
-pub found-earlier : (known : List (List ℕ)) (s : List ℕ) (ty : Ty) → type_among known s ≡ Is ty
+pub found_earlier : (known : List (List ℕ)) (s : List ℕ) (ty : Ty) → type_among known s ≡ Is ty
     → Earlier (length known) ty
-found-earlier known s ty e = rw e at (found_below known s)
+found_earlier known s ty e = rw e at (found_below known s)
 
 -- ---- the words that are left
 
@@ -70,34 +70,34 @@ pub record WordsLeft (known : List (List ℕ)) (book : List ℕ) (at n : ℕ) (t
 module _ {known : List (List ℕ)} {book : List ℕ} {at n : ℕ} {tys₀ tys : List ℕ} (j : ℕ)
     (w : WordsLeft known book at n tys₀ tys j) where
   module _ (l : j < n) where
-    names-cons : type_names book at j (n - j) ≡ type_name book at j ∷ type_names book at (j + 1) (n - (j + 1))
-    names-cons = from_cons (type_name book at) n j l
+    names_cons : type_names book at j (n - j) ≡ type_name book at j ∷ type_names book at (j + 1) (n - (j + 1))
+    names_cons = from_cons (type_name book at) n j l
 
     -- where the j-th member's type is found, its word is stored and those after it are left
-    pub left-on : (ty : Ty) → type_among known (type_name book at j) ≡ Is ty
+    pub left_on : (ty : Ty) → type_among known (type_name book at j) ≡ Is ty
         → WordsLeft known book at n tys₀ (set tys j (ty_word ty)) (j + 1)
     unfolding found_words
-    left-on ty e =
+    left_on ty e =
         let a : j + 1 ≡ suc j = omega arith in
         record {
-          count = w.count ∙ rw (names-cons, e) (omega arith);
-          words = w.words ∙ rw (names-cons, e) (rw a);
+          count = w.count ∙ rw (names_cons, e) (omega arith);
+          words = w.words ∙ rw (names_cons, e) (rw a);
           long = length-set tys j (ty_word ty) ∙ w.long;
         }
 
     -- where the j-th member's type is not known, the types are resolved up to it
-    pub left-stop : type_among known (type_name book at j) ≡ Nothing
+    pub left_stop : type_among known (type_name book at j) ≡ Nothing
         → Resolves known (type_names book at 0 n) tys₀ tys j
     unfolding found_words
-    left-stop e =
+    left_stop e =
         record {
-          is = sym (w.count ∙ rw (names-cons, e) (omega arith));
-          words = sym (w.words ∙ rw (names-cons, e));
+          is = sym (w.count ∙ rw (names_cons, e) (omega arith));
+          words = sym (w.words ∙ rw (names_cons, e));
         }
 
   -- past the last member all types are resolved
   pub left_end : n ≤ j → Resolves known (type_names book at 0 n) tys₀ tys j
   unfolding found_words
   left_end l =
-      let e = from-none (type_name book at) n j l in
+      let e = from_none (type_name book at) n j l in
       record { is = sym (w.count ∙ rw e (omega arith)); words = sym (w.words ∙ rw e) }

@@ -21,14 +21,14 @@ module _ {S R : Type 0} where
   Comes T P (went s ws) = P s ws
 
 module _ {S R : Type 0} (T : R → Type 0) (P Q : S → List ℕ → Type 0) where
-  comes-on : (o : Out S R) → ((s : S) (ws : List ℕ) → P s ws → Q s ws) → Comes T P o → Comes T Q o
-  comes-on (stop r) f c = c
-  comes-on (went s ws) f c = f s ws c
+  comes_on : (o : Out S R) → ((s : S) (ws : List ℕ) → P s ws → Q s ws) → Comes T P o → Comes T Q o
+  comes_on (stop r) f c = c
+  comes_on (went s ws) f c = f s ws c
 
-  comes-keep : (i : ℕ) (o : Out S R) → ((s : S) (ws : List ℕ) → P s ws → Q s (i ∷ ws)) → Comes T P o
+  comes_keep : (i : ℕ) (o : Out S R) → ((s : S) (ws : List ℕ) → P s ws → Q s (i ∷ ws)) → Comes T P o
       → Comes T Q (keep i o)
-  comes-keep i (stop r) f c = c
-  comes-keep i (went s ws) f c = f s ws c
+  comes_keep i (stop r) f c = c
+  comes_keep i (went s ws) f c = f s ws c
 
 module _ {S R : Type 0} (stuck : ℕ → R) (ready : S → ℕ → Bool) (add : S → ℕ → Step S R) where
   -- each way that a round can go on with its next type, from state s to s', of the types ws to ws'
@@ -41,21 +41,21 @@ module _ {S R : Type 0} (stuck : ℕ → R) (ready : S → ℕ → Bool) (add : 
         → P s ws s' ws' → P s (i ∷ ws) s' (i ∷ ws')
 
   module _ (T : R → Type 0) (P : S → List ℕ → S → List ℕ → Type 0) (w : RoundWays T P) where
-    step-cases : (s : S) (i : ℕ) (ws : List ℕ) → ((t : S) → Comes T (P t ws) (round stuck ready add t ws))
+    step_cases : (s : S) (i : ℕ) (ws : List ℕ) → ((t : S) → Comes T (P t ws) (round stuck ready add t ws))
         → ready s i ≡ true → (a : Step S R) → add s i ≡ a
         → Comes T (P s (i ∷ ws)) (on_step a (λ t. round stuck ready add t ws))
-    step-cases s i ws ih h (no r) e = w.refuses s i r h e
-    step-cases s i ws ih h (ok t) e =
-        comes-on T (P t ws) _ (round stuck ready add t ws) (w.adds s t i ws h e) (ih t)
+    step_cases s i ws ih h (no r) e = w.refuses s i r h e
+    step_cases s i ws ih h (ok t) e =
+        comes_on T (P t ws) _ (round stuck ready add t ws) (w.adds s t i ws h e) (ih t)
 
     -- what holds of each way holds of the round
-    pub round-cases : (s : S) (ws : List ℕ) → Comes T (P s ws) (round stuck ready add s ws)
+    pub round_cases : (s : S) (ws : List ℕ) → Comes T (P s ws) (round stuck ready add s ws)
     unfolding round
-    round-cases s [] = w.over s
-    round-cases s (i ∷ ws) =
+    round_cases s [] = w.over s
+    round_cases s (i ∷ ws) =
         either (Comes T (P s (i ∷ ws))) (ready s i)
-        (λ h. step-cases s i ws (λ t. round-cases t ws) h (add s i) refl)
-        (λ h. comes-keep T (P s ws) _ i (round stuck ready add s ws) (w.waits s i ws h) (round-cases s ws))
+        (λ h. step_cases s i ws (λ t. round_cases t ws) h (add s i) refl)
+        (λ h. comes_keep T (P s ws) _ i (round stuck ready add s ws) (w.waits s i ws h) (round_cases s ws))
 
   -- ---- all rounds
 
@@ -84,19 +84,19 @@ module _ {S R : Type 0} (stuck : ℕ → R) (ready : S → ℕ → Bool) (add : 
         (λ q. v.goes k s w ws s' ws' _ e (eqb-false _ _ q) (ih s' ws'))
 
     -- what holds of each way holds of the rounds
-    pub rounds-cases : (k : ℕ) (s : S) (ws : List ℕ) → Q k s ws (rounds stuck ready add k s ws)
+    pub rounds_cases : (k : ℕ) (s : S) (ws : List ℕ) → Q k s ws (rounds stuck ready add k s ws)
     unfolding rounds
-    rounds-cases zero s [] = v.done zero s
-    rounds-cases zero s (w ∷ ws) = v.spent s w ws
-    rounds-cases (suc k) s [] = v.done (suc k) s
-    rounds-cases (suc k) s (w ∷ ws) =
-        out_cases k s w ws (λ s' ws'. rounds-cases k s' ws') (round stuck ready add s (w ∷ ws)) refl
+    rounds_cases zero s [] = v.done zero s
+    rounds_cases zero s (w ∷ ws) = v.spent s w ws
+    rounds_cases (suc k) s [] = v.done (suc k) s
+    rounds_cases (suc k) s (w ∷ ws) =
+        out_cases k s w ws (λ s' ws'. rounds_cases k s' ws') (round stuck ready add s (w ∷ ws)) refl
 
   -- ---- what every addition keeps, the rounds keep
 
   module _ (P : S → Type 0) (adds : (s s' : S) (i : ℕ) → P s → ready s i ≡ true → add s i ≡ ok s' → P s') where
-    round-ways : RoundWays (λ r. Unit {0}) (λ s ws s' ws'. P s → P s')
-    round-ways =
+    round_ways : RoundWays (λ r. Unit {0}) (λ s ws s' ws'. P s → P s')
+    round_ways =
         record {
           over = λ s p. p;
           refuses = λ s i r h e. tt;
@@ -105,28 +105,28 @@ module _ {S R : Type 0} (stuck : ℕ → R) (ready : S → ℕ → Bool) (add : 
         }
 
     -- what every addition keeps holds after a round that refused no type
-    pub round-keep : (s : S) (ws : List ℕ) (s' : S) (ws' : List ℕ) → P s
+    pub round_keep : (s : S) (ws : List ℕ) (s' : S) (ws' : List ℕ) → P s
         → round stuck ready add s ws ≡ went s' ws' → P s'
-    round-keep s ws s' ws' p e = (rw e at (round-cases _ _ round-ways s ws)) p
+    round_keep s ws s' ws' p e = (rw e at (round_cases _ _ round_ways s ws)) p
 
     -- what every addition keeps holds of the state that all rounds accept
-    pub rounds-keep : (k : ℕ) (s : S) (ws : List ℕ) (s' : S) → P s
+    pub rounds_keep : (k : ℕ) (s : S) (ws : List ℕ) (s' : S) → P s
         → rounds stuck ready add k s ws ≡ accepted s' → P s'
-    rounds-keep k s ws s' p e =
-        rounds-cases (λ k s ws a. P s → (s' : S) → a ≡ accepted s' → P s')
+    rounds_keep k s ws s' p e =
+        rounds_cases (λ k s ws a. P s → (s' : S) → a ≡ accepted s' → P s')
         (record {
           done = λ k s p s' q. let z : s ≡ s' = cc in rw (← z) p;
           spent = λ s w ws p s' q. let z : true ≡ false = cc in absurd (true≢false z);
           refuses = λ k s w ws r f p s' q. let z : true ≡ false = cc in absurd (true≢false z);
           idle = λ k s w ws t vs f l p s' q. let z : true ≡ false = cc in absurd (true≢false z);
-          goes = λ k s w ws t vs a f l ih p. ih (round-keep s (w ∷ ws) t vs p f);
+          goes = λ k s w ws t vs a f l ih p. ih (round_keep s (w ∷ ws) t vs p f);
         })
         k s ws p s' e
 
   -- ---- a round leaves no more types than it began with
 
-  fewer-ways : RoundWays (λ r. Unit {0}) (λ s ws s' ws'. length ws' ≤ length ws)
-  fewer-ways =
+  fewer_ways : RoundWays (λ r. Unit {0}) (λ s ws s' ws'. length ws' ≤ length ws)
+  fewer_ways =
       record {
         over = λ s. omega arith;
         refuses = λ s i r h e. tt;
@@ -135,27 +135,27 @@ module _ {S R : Type 0} (stuck : ℕ → R) (ready : S → ℕ → Bool) (add : 
       }
 
   -- a round that refused no type leaves at most as many waiting as it began with
-  pub round-fewer : (s : S) (ws : List ℕ) (s' : S) {ws' : List ℕ} → round stuck ready add s ws ≡ went s' ws'
+  pub round_fewer : (s : S) (ws : List ℕ) (s' : S) {ws' : List ℕ} → round stuck ready add s ws ≡ went s' ws'
       → length ws' ≤ length ws
-  round-fewer s ws s' e = rw e at (round-cases _ _ fewer-ways s ws)
+  round_fewer s ws s' e = rw e at (round_cases _ _ fewer_ways s ws)
 
   -- ---- the next round of a loop
 
   -- where none waits, the state is the answer
-  pub rounds-none : (k : ℕ) (s : S) (ws : List ℕ) → length ws ≡ 0 → rounds stuck ready add k s ws ≡ accepted s
+  pub rounds_none : (k : ℕ) (s : S) (ws : List ℕ) → length ws ≡ 0 → rounds stuck ready add k s ws ≡ accepted s
   unfolding rounds
-  rounds-none zero s [] e = refl
-  rounds-none zero s (w ∷ ws) e = absurd (omega arith)
-  rounds-none (suc k) s [] e = refl
-  rounds-none (suc k) s (w ∷ ws) e = absurd (omega arith)
+  rounds_none zero s [] e = refl
+  rounds_none zero s (w ∷ ws) e = absurd (omega arith)
+  rounds_none (suc k) s [] e = refl
+  rounds_none (suc k) s (w ∷ ws) e = absurd (omega arith)
 
   -- where some wait, the rounds are one round and then those after it
-  pub rounds-some : (k : ℕ) (s : S) (ws : List ℕ) → 0 < length ws → length ws ≤ k
+  pub rounds_some : (k : ℕ) (s : S) (ws : List ℕ) → 0 < length ws → length ws ≤ k
       → rounds stuck ready add k s ws
       ≡ on_round stuck (length ws) (round stuck ready add s ws) (λ s' ws'. rounds stuck ready add (k - 1) s' ws')
   unfolding rounds
-  rounds-some zero s ws l h = absurd (omega arith)
-  rounds-some (suc k) s [] l h = absurd (omega arith)
-  rounds-some (suc k) s (w ∷ ws) l h =
+  rounds_some zero s ws l h = absurd (omega arith)
+  rounds_some (suc k) s [] l h = absurd (omega arith)
+  rounds_some (suc k) s (w ∷ ws) l h =
       let e : suc k - 1 ≡ k = omega arith in
       rw e

@@ -16,17 +16,17 @@ use Rattle.types.specs.rounds.Turns.{stuck_at, ready_in, verdict_on, step_of, ad
 use Rattle.types.specs.tables.Defs.{Def}
 use Rattle.types.specs.tables.Registry.{view_of}
 use Rattle.types.specs.declared.layout.predefined.PredefinedIds.{PredefinedIds}
-use Rattle.types.proofs.adding.VerdictLaws.{verdict-fits, verdict-laid, verdict-most, verdict-string}
-use Rattle.types.proofs.adding.VerdictLaws.{verdict-proper, verdict-unheld, verdict-unknown}
-use Rattle.types.proofs.layout.PredefinedIds.{ids-allowed}
-use Rattle.types.proofs.layout.PredefinedLaws.{predefined-built, predefined-shown}
-use Rattle.types.proofs.layout.PredefinedWell.{predefined-well}
-use Rattle.types.proofs.rounds.RoundLaws.{rounds-keep}
-use Rattle.types.proofs.tables.ProperLaws.{AllProper, proper-more, predefined-proper}
-use Rattle.types.proofs.tables.RegistryLaws.{length-snoc}
-use Rattle.types.proofs.tables.ShownLaws.{no_def, TablesShow, shown-more}
-use Rattle.types.proofs.tables.UniqueLaws.{Unlike, new-differs, unlike-more, predefined-unlike}
-use Rattle.types.proofs.tables.WellLaws.{Well, well-more}
+use Rattle.types.proofs.adding.VerdictLaws.{verdict_fits, verdict_laid, verdict_most, verdict_string}
+use Rattle.types.proofs.adding.VerdictLaws.{verdict_proper, verdict_unheld, verdict_unknown}
+use Rattle.types.proofs.layout.PredefinedIds.{ids_allowed}
+use Rattle.types.proofs.layout.PredefinedLaws.{predefined_built, predefined_shown}
+use Rattle.types.proofs.layout.PredefinedWell.{predefined_well}
+use Rattle.types.proofs.rounds.RoundLaws.{rounds_keep}
+use Rattle.types.proofs.tables.ProperLaws.{AllProper, proper_more, predefined_proper}
+use Rattle.types.proofs.tables.RegistryLaws.{length_snoc}
+use Rattle.types.proofs.tables.ShownLaws.{no_def, TablesShow, shown_more}
+use Rattle.types.proofs.tables.UniqueLaws.{Unlike, new_differs, unlike_more, predefined_unlike}
+use Rattle.types.proofs.tables.WellLaws.{Well, well_more}
 
 -- a registry that our own calls make
 pub record Good (ds : List Def) : Type 0 where
@@ -41,18 +41,18 @@ pub record Begun (ds : List Def) : Type 0 where
   pub four : 4 ≤ length ds
 
 -- the predefined types are one
-pub predefined-begun : (ids : PredefinedIds) → predefined_ids ids ≡ true
+pub predefined_begun : (ids : PredefinedIds) → predefined_ids ids ≡ true
     → Begun (predefined ids)
-predefined-begun ids e =
+predefined_begun ids e =
     record {
       good =
           record {
-            shown = predefined-shown ids e;
-            well = predefined-well ids;
-            unlike = predefined-unlike ids e;
-            proper = predefined-proper ids e;
+            shown = predefined_shown ids e;
+            well = predefined_well ids;
+            unlike = predefined_unlike ids e;
+            proper = predefined_proper ids e;
           };
-      four = omega (arith, (predefined-built ids (ids-allowed ids e)).few);
+      four = omega (arith, (predefined_built ids (ids_allowed ids e)).few);
     }
 
 -- a step that went on added a type
@@ -77,26 +77,26 @@ module _ (book : List ℕ) (b : Bytes book) where
       (record {
         good =
             record {
-              shown = shown-more ds a.def g.shown (verdict-fits book ds i a.def b g.shown a.is);
+              shown = shown_more ds a.def g.shown (verdict_fits book ds i a.def b g.shown a.is);
               well =
-                  well-more ds a.def g.well
+                  well_more ds a.def g.well
                   (record {
-                    laid = verdict-laid book ds i a.def a.is;
-                    most = verdict-most book ds i a.def a.is;
-                    string = verdict-string book ds i a.def a.is;
+                    laid = verdict_laid book ds i a.def a.is;
+                    most = verdict_most book ds i a.def a.is;
+                    string = verdict_string book ds i a.def a.is;
                   });
               unlike =
-                  unlike-more ds a.def g.unlike
-                  (new-differs ds a.def (verdict-unheld book ds i a.def a.is)
-                  (verdict-unknown book ds i a.def a.is));
-              proper = proper-more ds a.def g.proper (verdict-proper book ds i a.def a.is h.four);
+                  unlike_more ds a.def g.unlike
+                  (new_differs ds a.def (verdict_unheld book ds i a.def a.is)
+                  (verdict_unknown book ds i a.def a.is));
+              proper = proper_more ds a.def g.proper (verdict_proper book ds i a.def a.is h.four);
             };
-        four = omega (arith, h.four, length-snoc ds a.def);
+        four = omega (arith, h.four, length_snoc ds a.def);
       })
 
   -- rounds that accept lead from a registry that begins with the predefined types to such a one
-  pub rounds-begun : (start ds : List Def) → Begun start → rounds_from book start ≡ accepted ds → Begun ds
+  pub rounds_begun : (start ds : List Def) → Begun start → rounds_from book start ≡ accepted ds → Begun ds
   unfolding rounds_from
-  rounds-begun start ds g e =
-      rounds-keep stuck_at (ready_in book) (add_in book) Begun (λ s s' i h r q. keeps s s' i h q) (types_in book) start
+  rounds_begun start ds g e =
+      rounds_keep stuck_at (ready_in book) (add_in book) Begun (λ s s' i h r q. keeps s s' i h q) (types_in book) start
       (up_from 0 (types_in book)) ds g e

@@ -18,10 +18,10 @@ use Rattle.types.specs.rounds.Rounds.{rounds}
 use Rattle.types.specs.rounds.Turns.{stuck_at, entries_at, count_of, ready_in, add_in, rounds_from}
 use Rattle.types.specs.tables.Defs.{Def}
 use Rattle.types.specs.declared.adding.used.Used.{Used}
-use Rattle.types.proofs.book.SoundLaws.{entries-first, entries_next}
-use Rattle.types.proofs.rounds.RoundLaws.{rounds-none, rounds-some}
-use Rattle.types.proofs.rounds.WaitLaws.{waits-on, waits-off, waits_end, snoc-on, snoc-off, after-set, set_snoc}
-use Rattle.types.proofs.rounds.WaitLaws.{waits-all, up-length, keep_all, keep_one, keep-none}
+use Rattle.types.proofs.book.SoundLaws.{entries_first, entries_next}
+use Rattle.types.proofs.rounds.RoundLaws.{rounds_none, rounds_some}
+use Rattle.types.proofs.rounds.WaitLaws.{waits_on, waits_off, waits_end, snoc_on, snoc_off, after_set, set_snoc}
+use Rattle.types.proofs.rounds.WaitLaws.{waits_all, up_length, keep_all, keep_one, keep_none}
 use Rattle.types.proofs.tables.ShownLaws.{TablesShow}
 
 -- at most so many rounds over a book
@@ -53,8 +53,8 @@ inner_start {book} {ds = ds} s h e q g =
       shown = s;
       stands = h;
       passed = omega arith;
-      place = rw e (entries-first book);
-      goes = rw sub-zero (sym (keep-none _));
+      place = rw e (entries_first book);
+      goes = rw sub-zero (sym (keep_none _));
       count = rw (sub-zero, zero-add) q;
       flags = g;
     }
@@ -65,70 +65,70 @@ module _ {book f₀ t m n f : List ℕ} {ds₀ : List Def} {u : Used} {left i at
   next_place = ap (λ (x : ℕ). x + 16 * count_of book i) w.place ∙ entries_next book i
 
   -- a type that was added before
-  pub inner-past : (get_or f i 0 ≡ 0 → ⊥)
+  pub inner_past : (get_or f i 0 ≡ 0 → ⊥)
       → Inner book ds₀ f₀ T t m n f u left (i + 1) (at + 16 * count_of book i)
-  inner-past o =
+  inner_past o =
       record {
         ds = w.ds;
         shown = w.shown;
         stands = w.stands;
         passed = omega arith;
         place = next_place;
-        goes = w.goes ∙ rw (waits-off f T i l o, snoc-off f i o);
-        count = w.count ∙ rw (waits-off f T i l o, snoc-off f i o);
+        goes = w.goes ∙ rw (waits_off f T i l o, snoc_off f i o);
+        count = w.count ∙ rw (waits_off f T i l o, snoc_off f i o);
         flags = w.flags;
       }
 
-  round-on : (ds : List Def) (ws : List ℕ) → round_in book ds (i ∷ ws)
+  round_on : (ds : List Def) (ws : List ℕ) → round_in book ds (i ∷ ws)
       ≡ cond (ready_in book ds i) (on_step (add_in book ds i) (λ s. round_in book s ws)) (keep i (round_in book ds ws))
   unfolding round
-  round-on ds ws = refl
+  round_on ds ws = refl
 
   -- where the type still waits, the round goes on with the next one
-  pub inner-wait : get_or f i 0 ≡ 0 → ready_in book w.ds i ≡ false
+  pub inner_wait : get_or f i 0 ≡ 0 → ready_in book w.ds i ≡ false
       → Inner book ds₀ f₀ T t m n f u left (i + 1) (at + 16 * count_of book i)
-  inner-wait o r =
+  inner_wait o r =
       record {
         ds = w.ds;
         shown = w.shown;
         stands = w.stands;
         passed = omega arith;
         place = next_place;
-        goes = w.goes ∙ rw (waits-on f T i l o, round-on, r, snoc-on f i o)
+        goes = w.goes ∙ rw (waits_on f T i l o, round_on, r, snoc_on f i o)
             (keep_one (waits f 0 i) i (round_in book w.ds (waits f (i + 1) (T - (i + 1)))));
-        count = w.count ∙ rw (waits-on f T i l o, snoc-on f i o, length-append) (omega arith);
+        count = w.count ∙ rw (waits_on f T i l o, snoc_on f i o, length-append) (omega arith);
         flags = w.flags;
       }
 
   -- where the type is refused, so is the round
-  pub inner-no : (x : Why) → get_or f i 0 ≡ 0 → ready_in book w.ds i ≡ true → add_in book w.ds i ≡ no x
+  pub inner_no : (x : Why) → get_or f i 0 ≡ 0 → ready_in book w.ds i ≡ true → add_in book w.ds i ≡ no x
       → round_in book ds₀ (waits f₀ 0 T) ≡ stop x
-  inner-no x o r a = w.goes ∙ rw (waits-on f T i l o, round-on, r, a)
+  inner_no x o r a = w.goes ∙ rw (waits_on f T i l o, round_on, r, a)
 
   -- where the type is added, the round goes on with it known, its flag set and one fewer left
-  pub inner-yes : {t' m' n' : List ℕ} {u' : Used} (ds : List Def) → get_or f i 0 ≡ 0 → ready_in book w.ds i ≡ true
+  pub inner_yes : {t' m' n' : List ℕ} {u' : Used} (ds : List Def) → get_or f i 0 ≡ 0 → ready_in book w.ds i ≡ true
       → add_in book w.ds i ≡ ok ds → TablesShow ds → Stands ds t' m' n' u'
       → Inner book ds₀ f₀ T t' m' n' (set f i 1) u' (left - 1) (i + 1) (at + 16 * count_of book i)
-  inner-yes ds o r a s h =
+  inner_yes ds o r a s h =
       let z = set_snoc f i (omega (arith, w.flags)) in
-      let y = after-set f i 1 (i + 1) (T - (i + 1)) (omega arith) in
+      let y = after_set f i 1 (i + 1) (T - (i + 1)) (omega arith) in
       record {
         ds = ds;
         shown = s;
         stands = h;
         passed = omega arith;
         place = next_place;
-        goes = w.goes ∙ rw (waits-on f T i l o, round-on, r, a, z, y);
-        count = rw (z, y) (omega (arith, w.count, ap length (waits-on f T i l o)));
+        goes = w.goes ∙ rw (waits_on f T i l o, round_on, r, a, z, y);
+        count = rw (z, y) (omega (arith, w.count, ap length (waits_on f T i l o)));
         flags = omega (arith, length-set f i 1, w.flags);
       }
 
 -- at the end of a round it went as the definition says, and so many are left
-pub inner-end : {book f₀ t m n f : List ℕ} {ds₀ : List Def} {u : Used} {left i at T : ℕ}
+pub inner_end : {book f₀ t m n f : List ℕ} {ds₀ : List Def} {u : Used} {left i at T : ℕ}
     (w : Inner book ds₀ f₀ T t m n f u left i at) → T ≤ i
     → (round_in book ds₀ (waits f₀ 0 T) ≡ went w.ds (waits f 0 T)) × (left ≡ length (waits f 0 T))
 unfolding round
-inner-end {f = f} {i = i} {T = T} w l =
+inner_end {f = f} {i = i} {T = T} w l =
     let e : i ≡ T = omega (arith, w.passed) in
     let z : waits f i (T - i) ≡ [] = waits_end f T i l in
     (w.goes ∙ rw (z, e, append-nil), w.count ∙ rw (z, e, add-zero))
@@ -151,7 +151,7 @@ pub outer_start : {book t m n f : List ℕ} {ds : List Def} {u : Used} {T : ℕ}
     → T ≡ types_in book → ((k : ℕ) → get_or f k 0 ≡ 0) → T ≤ length f → Outer book ds T t m n f u T
 unfolding rounds_from
 outer_start {f = f} {ds = ds} {T = T} s h e z g =
-    let q = waits-all f z 0 T in
+    let q = waits_all f z 0 T in
     record {
       ds = ds;
       fuel = T;
@@ -159,39 +159,39 @@ outer_start {f = f} {ds = ds} {T = T} s h e z g =
       stands = h;
       goes = rw (q, e);
       enough = omega arith;
-      count = rw q (sym (up-length 0 T));
+      count = rw q (sym (up_length 0 T));
       flags = g;
     }
 
 module _ {book t m n f : List ℕ} {start : List Def} {u : Used} {T left : ℕ} (o : Outer book start T t m n f u left)
   where
     -- where no type is left, the rounds accept the registry that they have come to
-    pub outer-end : left ≡ 0 → rounds_from book start ≡ accepted o.ds
-    outer-end e =
-        o.goes ∙ rounds-none stuck_at (ready_in book) (add_in book) o.fuel o.ds _ (sym o.count ∙ e)
+    pub outer_end : left ≡ 0 → rounds_from book start ≡ accepted o.ds
+    outer_end e =
+        o.goes ∙ rounds_none stuck_at (ready_in book) (add_in book) o.fuel o.ds _ (sym o.count ∙ e)
 
     module _ (l : 0 < left) where
       some : rounds_in book o.fuel o.ds (waits f 0 T)
           ≡ on_round stuck_at (length (waits f 0 T)) (round_in book o.ds (waits f 0 T))
           (λ s ws. rounds_in book (o.fuel - 1) s ws)
       some =
-          rounds-some stuck_at (ready_in book) (add_in book) o.fuel o.ds (waits f 0 T)
+          rounds_some stuck_at (ready_in book) (add_in book) o.fuel o.ds (waits f 0 T)
           (omega (arith, o.count)) (omega (arith, o.count, o.enough))
 
       -- where a round refuses a type, the rounds give its refusal
-      pub outer-stop : (x : Why) → round_in book o.ds (waits f 0 T) ≡ stop x → rounds_from book start ≡ refused x
-      outer-stop x r = o.goes ∙ some ∙ rw r
+      pub outer_stop : (x : Why) → round_in book o.ds (waits f 0 T) ≡ stop x → rounds_from book start ≡ refused x
+      outer_stop x r = o.goes ∙ some ∙ rw r
 
       -- where a round leaves as many as it began with, the rounds give refusal 10 at the first that waits
-      pub outer-stuck : {ds : List Def} {ws : List ℕ} → round_in book o.ds (waits f 0 T) ≡ went ds ws
+      pub outer_stuck : {ds : List Def} {ws : List ℕ} → round_in book o.ds (waits f 0 T) ≡ went ds ws
           → length ws ≡ left → rounds_from book start ≡ refused (stuck_at (get_or ws 0 0))
-      outer-stuck r e = o.goes ∙ some ∙ rw r (simp (eq-eqb _ _ (e ∙ o.count)))
+      outer_stuck r e = o.goes ∙ some ∙ rw r (simp (eq-eqb _ _ (e ∙ o.count)))
 
       -- where a round leaves fewer, the rounds go on with the registry and the flags after it
-      pub outer-next : {ds : List Def} {t' m' n' g : List ℕ} {u' : Used} {left' : ℕ}
+      pub outer_next : {ds : List Def} {t' m' n' g : List ℕ} {u' : Used} {left' : ℕ}
           → round_in book o.ds (waits f 0 T) ≡ went ds (waits g 0 T) → Reached book ds → Stands ds t' m' n' u'
           → left' ≡ length (waits g 0 T) → T ≤ length g → left' < left → Outer book start T t' m' n' g u' left'
-      outer-next {ds} {g = g} r s h e y d =
+      outer_next {ds} {g = g} r s h e y d =
           record {
             ds = ds;
             fuel = o.fuel - 1;

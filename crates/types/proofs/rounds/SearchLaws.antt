@@ -8,7 +8,7 @@ use mathlib.Core.Bool.{Bool, true, false, cond, true≢false}
 use mathlib.Core.List.{List, [], ◌∷◌, ◌++◌}
 use lib.ListN.{length, get_or, set, length-set, length-append, get_or-append}
 use lib.Seq.{get_or-set_same, get_or-set_other}
-use Rattle.words.proofs.TestLaws.{and-off}
+use Rattle.words.proofs.TestLaws.{and_off}
 use Rattle.types.specs.atomics.Atomic.{atomic_named}
 use Rattle.types.specs.atomics.Lookup.{named_among, type_among, atomic_or}
 use Rattle.types.specs.book.Contents.{every, list_from, types_in}
@@ -24,7 +24,7 @@ use Rattle.types.specs.declared.atomics.atomic.FoundAtomic.TheVariants.{Is as fo
 use Rattle.types.specs.declared.atomics.lookup.FoundTy.{FoundTy}
 use Rattle.types.specs.declared.atomics.lookup.FoundTy.TheVariants.{Is, Nothing}
 use Rattle.types.specs.declared.tables.member.Ty.TheVariants.{Struct}
-use Rattle.types.proofs.tables.AgreeLaws.{length-list, get_d-from, get_d-list}
+use Rattle.types.proofs.tables.AgreeLaws.{length_list, get_d_from, get_d_list}
 
 -- ---- a name that is not found is none of the names
 
@@ -53,10 +53,10 @@ neither : (a : FoundAtomic) (f : FoundTy) → atomic_or a f ≡ Nothing → (a �
 neither (found a) f e = let z : true ≡ false = cc in absurd (true≢false z)
 neither none f e = (refl, e)
 
-pub unseen-all : (known : List (List ℕ)) {s : List ℕ} → type_among known s ≡ Nothing → (n : ℕ) → n ≡ length known
+pub unseen_all : (known : List (List ℕ)) {s : List ℕ} → type_among known s ≡ Nothing → (n : ℕ) → n ≡ length known
     → Unseen known s n
 unfolding type_among
-unseen-all known {s} e n q =
+unseen_all known {s} e n q =
     let d = neither (atomic_named s) (named_among known s 0) e in
     record {
       few = omega (arith, q);
@@ -76,32 +76,33 @@ module _ (f : ℕ → List ℕ) (s : List ℕ) (from n : ℕ) (u : Unseen (list_
       go (no o) =
           let p : from + (j - from) ≡ j = omega (arith, o) in
           let q = none_other (list_from f from (n - from)) s from e (j - from)
-          (omega (arith, o, length-list f from (n - from))) in
-          rw (get_d-list f n j [] l, ← p)
-          (rw (get_d-from f from (n - from) (j - from) [] (omega (arith, o))) at q)
+          (omega (arith, o, length_list f from (n - from))) in
+          rw (get_d_list f n j [] l, ← p)
+          (rw (get_d_from f from (n - from) (j - from) [] (omega (arith, o))) at q)
 
   -- a name that is no atomic's, none of the first types' and none of the later ones' is not found
-  pub unseen-none : type_among (list_from f 0 n) s ≡ Nothing
+  pub unseen_none : type_among (list_from f 0 n) s ≡ Nothing
   unfolding type_among
-  unseen-none = rw u.plain (other_none (list_from f 0 n) s 0 (λ j l. each j (omega (arith, length-list f 0 n))))
+  unseen_none = rw u.plain (other_none (list_from f 0 n) s 0 (λ j l. each j (omega (arith, length_list f 0 n))))
 
 -- ---- a member's type that is not found
 
 -- where one name is not known, not all are
-pub one-unknown : (known names : List (List ℕ)) (k : ℕ) → k < length names → type_among known (get_or names k []) ≡ Nothing
+pub one_unknown : (known names : List (List ℕ)) (k : ℕ) → k < length names
+    → type_among known (get_or names k []) ≡ Nothing
     → all_known has_name known names ≡ false
 unfolding every
-one-unknown known [] k l e = absurd (let z : ⊥ = omega arith in z)
-one-unknown known (s ∷ ss) zero l e = rw e
-one-unknown known (s ∷ ss) (suc k) l e =
-    and-off (is_found (type_among known s)) _ (one-unknown known ss k (omega arith) e)
+one_unknown known [] k l e = absurd (let z : ⊥ = omega arith in z)
+one_unknown known (s ∷ ss) zero l e = rw e
+one_unknown known (s ∷ ss) (suc k) l e =
+    and_off (is_found (type_among known s)) _ (one_unknown known ss k (omega arith) e)
 
 -- the first that is not known
-pub first-unknown : (known names : List (List ℕ)) → length (found_words known names) < length names
+pub first_unknown : (known names : List (List ℕ)) → length (found_words known names) < length names
     → type_among known (get_or names (length (found_words known names)) []) ≡ Nothing
 unfolding found_words
-first-unknown known [] l = absurd (let z : ⊥ = omega arith in z)
-first-unknown known (s ∷ ss) l = go (type_among known s) refl l (first-unknown known ss)
+first_unknown known [] l = absurd (let z : ⊥ = omega arith in z)
+first_unknown known (s ∷ ss) l = go (type_among known s) refl l (first_unknown known ss)
   where
     go : (f : FoundTy) → type_among known s ≡ f → length (then_word f (found_words known ss)) < suc (length ss)
         → (length (found_words known ss) < length ss
@@ -112,9 +113,9 @@ first-unknown known (s ∷ ss) l = go (type_among known s) refl l (first-unknown
 
 -- ---- what is known of earlier turns
 
-unseen-more : {known : List (List ℕ)} {s : List ℕ} {n : ℕ} (x : List ℕ) → Unseen known s n
+unseen_more : {known : List (List ℕ)} {s : List ℕ} {n : ℕ} (x : List ℕ) → Unseen known s n
     → Unseen (known ++ x ∷ []) s n
-unseen-more {known} x u =
+unseen_more {known} x u =
     record {
       few = omega (arith, u.few, length-append known (x ∷ []));
       plain = u.plain;
@@ -122,28 +123,28 @@ unseen-more {known} x u =
     }
 
 -- where no type was tried, what the scratches say is true of any known names
-pub tries-start : {book stuck tried : List ℕ} {known : List (List ℕ)} → types_in book ≤ length stuck
+pub tries_start : {book stuck tried : List ℕ} {known : List (List ℕ)} → types_in book ≤ length stuck
     → types_in book ≤ length tried → ((k : ℕ) → get_or tried k 0 ≡ 0) → Tries book known stuck tried
-tries-start {known} a b z = record { members = a; rows = b; missed = λ i l o. absurd (o (z i)) }
+tries_start {known} a b z = record { members = a; rows = b; missed = λ i l o. absurd (o (z i)) }
 
 module _ {book stuck tried : List ℕ} {known : List (List ℕ)} (t : Tries book known stuck tried) where
   -- what is known of earlier turns stays true with one known name more
-  pub tries-more : (x : List ℕ) → Tries book (known ++ x ∷ []) stuck tried
-  tries-more x =
+  pub tries_more : (x : List ℕ) → Tries book (known ++ x ∷ []) stuck tried
+  tries_more x =
       record {
         members = t.members;
         rows = t.rows;
         missed = λ i l o. record {
           below = (t.missed i l o).below;
-          unseen = unseen-more x (t.missed i l o).unseen;
+          unseen = unseen_more x (t.missed i l o).unseen;
         };
       }
 
   module _ (i n : ℕ) (l : i < types_in book) where
-    tries-at : (stuck' : List ℕ) → types_in book ≤ length stuck'
+    tries_at : (stuck' : List ℕ) → types_in book ≤ length stuck'
         → ((j : ℕ) → (j ≡ i → ⊥) → get_or stuck' j 0 ≡ get_or stuck j 0) → Missed book known i (get_or stuck' i 0) n
         → Tries book known stuck' (set tried i n)
-    tries-at stuck' a same m =
+    tries_at stuck' a same m =
         record {
           members = a;
           rows = omega (arith, t.rows, length-set tried i n);
@@ -166,16 +167,16 @@ module _ {book stuck tried : List ℕ} {known : List (List ℕ)} (t : Tries book
 
     module _ (long : n ≡ length known) (k : ℕ) (below : k < count_of book i)
         (none_is : type_among known (type_name book (entries_at book i) k) ≡ Nothing) where
-      missed-now : Missed book known i k n
-      missed-now = record { below = below; unseen = unseen-all known none_is n long }
+      missed_now : Missed book known i k n
+      missed_now = record { below = below; unseen = unseen_all known none_is n long }
 
       -- where type i still waits for the same member, what the scratches say stays true
-      pub tries-again : get_or stuck i 0 ≡ k → Tries book known stuck (set tried i n)
-      tries-again e = tries-at stuck t.members (λ j d. refl) (rw e missed-now)
+      pub tries_again : get_or stuck i 0 ≡ k → Tries book known stuck (set tried i n)
+      tries_again e = tries_at stuck t.members (λ j d. refl) (rw e missed_now)
 
       -- where type i waits for the k-th member, what the scratches then say is true
-      pub tries-new : Tries book known (set stuck i k) (set tried i n)
-      tries-new =
-          tries-at (set stuck i k) (omega (arith, t.members, length-set stuck i k))
+      pub tries_new : Tries book known (set stuck i k) (set tried i n)
+      tries_new =
+          tries_at (set stuck i k) (omega (arith, t.members, length-set stuck i k))
           (λ j d. get_or-set_other stuck i j k 0 d)
-          (rw (get_or-set_same stuck i k 0 (omega (arith, t.members))) missed-now)
+          (rw (get_or-set_same stuck i k 0 (omega (arith, t.members))) missed_now)

@@ -25,29 +25,29 @@ use Rattle.types.specs.declared.adding.progress.Progress.{Progress}
 use Rattle.types.specs.declared.adding.progress.Progress.TheVariants.{Waits, Refused, Added}
 use Rattle.types.specs.declared.adding.used.Used.{Used}
 use Rattle.types.specs.declared.refusals.refusal.Refusal.{Refusal}
-use Rattle.types.proofs.book.SoundLaws.{BookSound, among-all, type-inside, entries-inside, entries-uses}
-use Rattle.types.proofs.rounds.SearchLaws.{tries-more}
-use Rattle.types.proofs.tables.RegistryLaws.{members-long, names-long}
-use Rattle.types.proofs.tables.ShownLaws.{TablesShow, view-same, names-inside, ids-small}
+use Rattle.types.proofs.book.SoundLaws.{BookSound, among_all, type_inside, entries_inside, entries_uses}
+use Rattle.types.proofs.rounds.SearchLaws.{tries_more}
+use Rattle.types.proofs.tables.RegistryLaws.{members_long, names_long}
+use Rattle.types.proofs.tables.ShownLaws.{TablesShow, view_same, names_inside, ids_small}
 
 -- ---- what the tables show
 
 module _ {ds : List Def} {t m n : List ℕ} {u : Used} (shown : TablesShow ds) (stands : Stands ds t m n u) where
-  view-stands : view_in t n u ≡ view_of ds
-  view-stands = rw (stands.types, stands.names, stands.used) (view-same ds shown)
+  view_stands : view_in t n u ≡ view_of ds
+  view_stands = rw (stands.types, stands.names, stands.used) (view_same ds shown)
 
   pub names_stand : row_names t n u.types ≡ (view_of ds).names
   unfolding view_in
-  names_stand = ap (λ (v : View). v.names) view-stands
+  names_stand = ap (λ (v : View). v.names) view_stands
 
-  usable-stands : Usable t n u
-  usable-stands =
+  usable_stands : Usable t n u
+  usable_stands =
       rw (stands.types, stands.names, stands.used)
       record {
-        rows = names-inside ds shown;
+        rows = names_inside ds shown;
         members = shown.members;
         bytes = shown.bytes;
-        ids = ids-small ds shown;
+        ids = ids_small ds shown;
       }
 
   -- ---- a turn
@@ -59,14 +59,14 @@ module _ {ds : List Def} {t m n : List ℕ} {u : Used} (shown : TablesShow ds) (
         → TurnIn t m n book tys stuck tried i at u
     turn_in tys bytes s l room tries =
         record {
-          usable = usable-stands;
-          rows = rw stands.members (members-long ds);
-          bytes = rw stands.names (names-long ds);
-          entry = type-inside s l;
+          usable = usable_stands;
+          rows = rw stands.members (members_long ds);
+          bytes = rw stands.names (names_long ds);
+          entry = type_inside s l;
           named = s.types i l;
-          inside = rw e (entries-inside s l);
-          uses = rw e (entries-uses s l);
-          room = omega (arith, among-all s l, room);
+          inside = rw e (entries_inside s l);
+          uses = rw e (entries_uses s l);
+          room = omega (arith, among_all s l, room);
           small = omega (arith, l, word_below 2 book 0 bytes);
           among = l;
           place = e;
@@ -74,35 +74,35 @@ module _ {ds : List Def} {t m n : List ℕ} {u : Used} (shown : TablesShow ds) (
         }
 
     -- what it gives is what the definition says
-    pub turn-same : {t' m' n' : List ℕ} {r : Progress}
+    pub turn_same : {t' m' n' : List ℕ} {r : Progress}
         → Turned (all_known has_name (row_names t n u.types) (type_names book at 0 (count_of book i)))
         (add_to (view_in t n u) book i at (decls_of (view_in t n u) book (entries_from book at 0 (count_of book i)))) u
         t m n t' m' n' r
         → Turned (ready_in book ds i) (verdict_on book (view_of ds) i) u t m n t' m' n' r
     unfolding ready_in uses_of verdict_on
-    turn-same h = rw (names_stand, view-stands, e) at h
+    turn_same h = rw (names_stand, view_stands, e) at h
 
 -- ---- the ways that a turn can go
 
-waits-of : (b : Bool) (v : Verdict) (u : Used) (r : Progress) {t m n t' m' n' : List ℕ} → Turned b v u t m n t' m' n' r
+waits_of : (b : Bool) (v : Verdict) (u : Used) (r : Progress) {t m n t' m' n' : List ℕ} → Turned b v u t m n t' m' n' r
     → r ≡ Waits → b ≡ false
-waits-of false v u r h e = refl
-waits-of true (against x) u r h e =
+waits_of false v u r h e = refl
+waits_of true (against x) u r h e =
     let q = (h.takes refl).is in
     cc
-waits-of true (for d) u r h e =
+waits_of true (for d) u r h e =
     let q = (h.takes refl).is in
     cc
 
-refused-of : (x : Refusal) (b : Bool) (v : Verdict) (u : Used) (r : Progress) {t m n t' m' n' : List ℕ}
+refused_of : (x : Refusal) (b : Bool) (v : Verdict) (u : Used) (r : Progress) {t m n t' m' n' : List ℕ}
     → Turned b v u t m n t' m' n' r → r ≡ Refused x → (b ≡ true) × (v ≡ against (why_of x))
-refused-of x false v u r h e =
+refused_of x false v u r h e =
     let q = (h.waits refl).0 in
     (cc, cc)
-refused-of x true (against y) u r h e =
+refused_of x true (against y) u r h e =
     let q = (h.takes refl).is in
     (refl, cc)
-refused-of x true (for d) u r h e =
+refused_of x true (for d) u r h e =
     let q = (h.takes refl).is in
     (cc, cc)
 
@@ -130,24 +130,24 @@ module _ {b : Bool} {v : Verdict} {u : Used} {t m n t' m' n' : List ℕ} {r : Pr
     (h : Turned b v u t m n t' m' n' r)
   where
     -- where a turn says that the type waits, it was not ready, and the tables stay as they were
-    pub turn-waits : r ≡ Waits → (b ≡ false) × ((t' ≡ t) × ((m' ≡ m) × (n' ≡ n)))
-    turn-waits e =
-        let q = waits-of b v u r h e in
+    pub turn_waits : r ≡ Waits → (b ≡ false) × ((t' ≡ t) × ((m' ≡ m) × (n' ≡ n)))
+    turn_waits e =
+        let q = waits_of b v u r h e in
         (q, (h.waits q).1)
 
     -- where a turn says a refusal, the type was ready, and the verdict is that refusal
-    pub turn-refused : (x : Refusal) → r ≡ Refused x → (b ≡ true) × (v ≡ against (why_of x))
-    turn-refused x e = refused-of x b v u r h e
+    pub turn_refused : (x : Refusal) → r ≡ Refused x → (b ≡ true) × (v ≡ against (why_of x))
+    turn_refused x e = refused_of x b v u r h e
 
     -- where a turn says that the type was added, it was ready, and the verdict with it was carried out
-    pub turn-added : (u' : Used) → r ≡ Added u' → AddedBy b v u t m n t' m' n' u'
-    turn-added u' e = added_of u' b v u r h e
+    pub turn_added : (u' : Used) → r ≡ Added u' → AddedBy b v u t m n t' m' n' u'
+    turn_added u' e = added_of u' b v u r h e
 
 -- what the scratches say stays true once a type is added to the tables
-pub tries-stand : {ds : List Def} {t m n t' m' n' book stuck tried : List ℕ} {u u' : Used} (d : Def) → TablesShow ds
+pub tries_stand : {ds : List Def} {t m n t' m' n' book stuck tried : List ℕ} {u u' : Used} (d : Def) → TablesShow ds
     → Stands ds t m n u → TablesShow (ds ++ d ∷ []) → Stands (ds ++ d ∷ []) t' m' n' u'
     → Tries book (row_names t n u.types) stuck tried → Tries book (row_names t' n' u'.types) stuck tried
 unfolding view_of
-tries-stand {ds} d a s b h t =
+tries_stand {ds} d a s b h t =
     let e = map-append (λ (x : Def). x.name) ds (d ∷ []) in
-    rw (names_stand b h, e) (tries-more (rw (names_stand a s) at t) d.name)
+    rw (names_stand b h, e) (tries_more (rw (names_stand a s) at t) d.name)

@@ -9,7 +9,7 @@ use borrow.Author.Tests.{eq-eqb, ne_eqb}
 use lib.Dec.{eqb}
 use lib.ListN.{length, get_or, set, replicate}
 use lib.Seq.{get_or-set_same, get_or-set_other}
-use Rattle.words.proofs.Lists.{cond-append}
+use Rattle.words.proofs.Lists.{cond_append}
 use Rattle.types.specs.inside.rounds.Build.{waits, FirstWaits, Cleared}
 use Rattle.types.specs.rounds.Rounds.{Out, stop, went, keep}
 use Rattle.types.specs.rounds.Turns.{up_from}
@@ -25,16 +25,16 @@ cleared = record { types = refl; members = refl; names = refl }
 
 module _ (f : List ℕ) (n i : ℕ) where
   -- where flag i is not set, type i waits, and then those after it
-  pub waits-on : i < n → get_or f i 0 ≡ 0 → waits f i (n - i) ≡ i ∷ waits f (i + 1) (n - (i + 1))
+  pub waits_on : i < n → get_or f i 0 ≡ 0 → waits f i (n - i) ≡ i ∷ waits f (i + 1) (n - (i + 1))
   unfolding waits
-  waits-on l h =
+  waits_on l h =
       let e : n - i ≡ suc (n - (i + 1)) = omega arith in
       rw e (simp (eq-eqb _ _ h))
 
   -- where flag i is set, only those after type i wait
-  pub waits-off : i < n → (get_or f i 0 ≡ 0 → ⊥) → waits f i (n - i) ≡ waits f (i + 1) (n - (i + 1))
+  pub waits_off : i < n → (get_or f i 0 ≡ 0 → ⊥) → waits f i (n - i) ≡ waits f (i + 1) (n - (i + 1))
   unfolding waits
-  waits-off l h =
+  waits_off l h =
       let e : n - i ≡ suc (n - (i + 1)) = omega arith in
       rw e (simp (ne_eqb _ _ h))
 
@@ -47,58 +47,58 @@ module _ (f : List ℕ) (n i : ℕ) where
 
 -- ---- the last flag
 
-waits-snoc : (f : List ℕ) (j n : ℕ) → waits f j (n + 1) ≡ waits f j n ++ waits f (j + n) 1
+waits_snoc : (f : List ℕ) (j n : ℕ) → waits f j (n + 1) ≡ waits f j n ++ waits f (j + n) 1
 unfolding waits
-waits-snoc f j zero = rw add-zero
-waits-snoc f j (suc n) =
+waits_snoc f j zero = rw add-zero
+waits_snoc f j (suc n) =
     let e : j + suc n ≡ j + 1 + n = omega arith in
-    rw (suc-add, e, waits-snoc f (j + 1) n) (cond-append (eqb (get_or f j 0) 0) j _ _)
+    rw (suc-add, e, waits_snoc f (j + 1) n) (cond_append (eqb (get_or f j 0) 0) j _ _)
 
 module _ (f : List ℕ) (i : ℕ) where
   -- where flag i is set, those that wait up to type i are those before it
-  pub snoc-off : (get_or f i 0 ≡ 0 → ⊥) → waits f 0 (i + 1) ≡ waits f 0 i
+  pub snoc_off : (get_or f i 0 ≡ 0 → ⊥) → waits f 0 (i + 1) ≡ waits f 0 i
   unfolding waits
-  snoc-off o = waits-snoc f 0 i ∙ rw zero-add (simp (ne_eqb _ _ o, append-nil))
+  snoc_off o = waits_snoc f 0 i ∙ rw zero-add (simp (ne_eqb _ _ o, append-nil))
 
   -- where flag i is not set, those that wait up to type i are those before it, and then it
-  pub snoc-on : get_or f i 0 ≡ 0 → waits f 0 (i + 1) ≡ waits f 0 i ++ i ∷ []
+  pub snoc_on : get_or f i 0 ≡ 0 → waits f 0 (i + 1) ≡ waits f 0 i ++ i ∷ []
   unfolding waits
-  snoc-on o = waits-snoc f 0 i ∙ rw zero-add (simp (eq-eqb _ _ o))
+  snoc_on o = waits_snoc f 0 i ∙ rw zero-add (simp (eq-eqb _ _ o))
 
 -- ---- a flag that is set
 
-before-set : (f : List ℕ) (i v j n : ℕ) → j + n ≤ i → waits (set f i v) j n ≡ waits f j n
+before_set : (f : List ℕ) (i v j n : ℕ) → j + n ≤ i → waits (set f i v) j n ≡ waits f j n
 unfolding waits
-before-set f i v j zero l = refl
-before-set f i v j (suc n) l =
-    rw (get_or-set_other f i j v 0 (omega arith), before-set f i v (j + 1) n (omega arith))
+before_set f i v j zero l = refl
+before_set f i v j (suc n) l =
+    rw (get_or-set_other f i j v 0 (omega arith), before_set f i v (j + 1) n (omega arith))
 
 -- a flag that changes leaves those that wait after it as they were
-pub after-set : (f : List ℕ) (i v j n : ℕ) → i < j → waits (set f i v) j n ≡ waits f j n
+pub after_set : (f : List ℕ) (i v j n : ℕ) → i < j → waits (set f i v) j n ≡ waits f j n
 unfolding waits
-after-set f i v j zero l = refl
-after-set f i v j (suc n) l =
-    rw (get_or-set_other f i j v 0 (omega arith), after-set f i v (j + 1) n (omega arith))
+after_set f i v j zero l = refl
+after_set f i v j (suc n) l =
+    rw (get_or-set_other f i j v 0 (omega arith), after_set f i v (j + 1) n (omega arith))
 
 -- once flag i is set, those that wait up to type i are those that waited before it
 pub set_snoc : (f : List ℕ) (i : ℕ) → i < length f → waits (set f i 1) 0 (i + 1) ≡ waits f 0 i
 set_snoc f i l =
     let g : get_or (set f i 1) i 0 ≡ 1 = get_or-set_same f i 1 0 l in
-    snoc-off (set f i 1) i (λ q. omega (arith, g)) ∙ before-set f i 1 0 i (omega arith)
+    snoc_off (set f i 1) i (λ q. omega (arith, g)) ∙ before_set f i 1 0 i (omega arith)
 
 -- ---- no flag is set: all wait
 
 -- where no flag is set, all the types wait, in book order
-pub waits-all : (f : List ℕ) → ((k : ℕ) → get_or f k 0 ≡ 0) → (i n : ℕ) → waits f i n ≡ up_from i n
+pub waits_all : (f : List ℕ) → ((k : ℕ) → get_or f k 0 ≡ 0) → (i n : ℕ) → waits f i n ≡ up_from i n
 unfolding waits up_from
-waits-all f z i zero = refl
-waits-all f z i (suc n) = rw (waits-all f z (i + 1) n) (simp (eq-eqb _ _ (z i)))
+waits_all f z i zero = refl
+waits_all f z i (suc n) = rw (waits_all f z (i + 1) n) (simp (eq-eqb _ _ (z i)))
 
 -- n numbers from i on are n
-pub up-length : (i n : ℕ) → length (up_from i n) ≡ n
+pub up_length : (i n : ℕ) → length (up_from i n) ≡ n
 unfolding up_from
-up-length i zero = refl
-up-length i (suc n) = ap suc (up-length (i + 1) n)
+up_length i zero = refl
+up_length i (suc n) = ap suc (up_length (i + 1) n)
 
 -- ---- the first that waits
 
@@ -114,16 +114,16 @@ passed_start {f} {t} = record { done = omega arith; same = rw sub-zero }
 module _ {f : List ℕ} {t i : ℕ} (p : NoneWaits f t i) where
   -- a type whose flag is set is passed, and none before the next waits
   pub passed_on : i < t → (get_or f i 0 ≡ 0 → ⊥) → NoneWaits f t (i + 1)
-  passed_on l o = record { done = omega arith; same = p.same ∙ waits-off f t i l o }
+  passed_on l o = record { done = omega arith; same = p.same ∙ waits_off f t i l o }
 
   -- where none before type i waits and its flag is not set, it is the first that waits
-  pub passed-found : i < t → get_or f i 0 ≡ 0 → FirstWaits f t i
-  passed-found l o =
-      record { is = sym (ap (λ (w : List ℕ). get_or w 0 0) (p.same ∙ waits-on f t i l o)); small = omega arith }
+  pub passed_found : i < t → get_or f i 0 ≡ 0 → FirstWaits f t i
+  passed_found l o =
+      record { is = sym (ap (λ (w : List ℕ). get_or w 0 0) (p.same ∙ waits_on f t i l o)); small = omega arith }
 
   -- where all types are passed none waits, and 0 is answered
-  pub passed-done : t ≤ i → FirstWaits f t 0
-  passed-done l =
+  pub passed_done : t ≤ i → FirstWaits f t 0
+  passed_done l =
       record { is = sym (ap (λ (w : List ℕ). get_or w 0 0) (p.same ∙ waits_end f t i l)); small = omega arith }
 
 -- ---- what stands before what is left of a round
@@ -140,6 +140,6 @@ module _ {S R : Type 0} where
   keep_one xs i (went s ws) = rw append_assoc
 
   -- no types put before what a round leaves change nothing
-  pub keep-none : (o : Out S R) → keep_all [] o ≡ o
-  keep-none (stop r) = refl
-  keep-none (went s ws) = refl
+  pub keep_none : (o : Out S R) → keep_all [] o ≡ o
+  keep_none (stop r) = refl
+  keep_none (went s ws) = refl

@@ -37,7 +37,7 @@ use Rattle.types.specs.declared.shape.tags.Shape.{Shape}
 use Rattle.types.specs.declared.tables.member.StructDef.{StructDef}
 use Rattle.types.specs.declared.tables.member.Ty.{Ty}
 use Rattle.types.specs.declared.tables.member.Ty.TheVariants.{Atomic, Struct}
-use Rattle.types.proofs.tables.KeptLaws.{kept-ids}
+use Rattle.types.proofs.tables.KeptLaws.{kept_ids}
 
 -- ---- the types that are there
 
@@ -46,21 +46,21 @@ pub no_row : (types : List ℕ) {n : ℕ} → most_types ≤ n → false ≡ is_
 no_row types {n} h = simp (le-ltb n most_types h)
 
 -- a structure with a number below 200 is there just where the id in its row is not 0
-pub row-used : (types : List ℕ) {n : ℕ} {d : StructDef} → n < most_types → d ≡ type_at types n
+pub row_used : (types : List ℕ) {n : ℕ} {d : StructDef} → n < most_types → d ≡ type_at types n
     → not (eqb d.id 0) ≡ is_there types (Struct n)
-row-used types {n} h e = rw e (simp (lt-ltb n most_types h))
+row_used types {n} h e = rw e (simp (lt-ltb n most_types h))
 
 -- a type that is there is an atomic or a structure with a number below 200
-pub there-fits : (types : List ℕ) (t : Ty) → is_there types t ≡ true → TyFits t
-there-fits types (Atomic a) e = tt
-there-fits types (Struct n) e = ltb-true n most_types (and_left (ltb n most_types) _ e)
+pub there_fits : (types : List ℕ) (t : Ty) → is_there types t ≡ true → TyFits t
+there_fits types (Atomic a) e = tt
+there_fits types (Struct n) e = ltb-true n most_types (and_left (ltb n most_types) _ e)
 
 -- ---- the lengths
 
 -- BOOL has at most one length
-pub most-bool : (t : Ty) → is_bool t ≡ true → 1 ≡ most_lengths t
+pub most_bool : (t : Ty) → is_bool t ≡ true → 1 ≡ most_lengths t
 unfolding most_lengths
-most-bool t b = rw b
+most_bool t b = rw b
 
 -- any type but BOOL has at most three lengths
 pub most_other : (t : Ty) → is_bool t ≡ false → 3 ≡ most_lengths t
@@ -69,14 +69,14 @@ most_other t b = rw b
 
 module _ (s : List ℕ) (i : ℕ) (l : i < length s) where
   -- where length i is 0, one of those from it on is 0
-  pub none-off : get_or s i 0 ≡ 0 → none_zero (drop i s) ≡ false
+  pub none_off : get_or s i 0 ≡ 0 → none_zero (drop i s) ≡ false
   unfolding none_zero
-  none-off e = rw (drop-cons s i 0 l) (simp (eq-eqb _ 0 e))
+  none_off e = rw (drop-cons s i 0 l) (simp (eq-eqb _ 0 e))
 
   -- where length i is not 0, none from it on is 0 just where none after it is
-  pub none-on : (get_or s i 0 ≡ 0 → ⊥) → none_zero (drop i s) ≡ none_zero (drop (i + 1) s)
+  pub none_on : (get_or s i 0 ≡ 0 → ⊥) → none_zero (drop i s) ≡ none_zero (drop (i + 1) s)
   unfolding none_zero
-  none-on n = rw (add-one, drop-cons s i 0 l) (simp (ne_eqb _ 0 n))
+  none_on n = rw (add-one, drop-cons s i 0 l) (simp (ne_eqb _ 0 n))
 
 -- where no length is left, none is 0
 pub none_done : (s : List ℕ) (i : ℕ) → length s ≤ i → none_zero (drop i s) ≡ true
@@ -94,34 +94,34 @@ module _ (t : Ty) (s : List ℕ) where
   unfolding lengths_ok
   few h = simp (le-leb (length s) (most_lengths t) h)
 
-  ok-few : lengths_ok t s ≡ true → length s ≤ most_lengths t
+  ok_few : lengths_ok t s ≡ true → length s ≤ most_lengths t
   unfolding lengths_ok
-  ok-few e = leb-true (length s) (most_lengths t) (and_left _ (none_zero s) e)
+  ok_few e = leb-true (length s) (most_lengths t) (and_left _ (none_zero s) e)
 
   -- of right lengths none is 0
-  pub ok-none : lengths_ok t s ≡ true → none_zero s ≡ true
+  pub ok_none : lengths_ok t s ≡ true → none_zero s ≡ true
   unfolding lengths_ok
-  ok-none e = and_right (leb (length s) (most_lengths t)) (none_zero s) e
+  ok_none e = and_right (leb (length s) (most_lengths t)) (none_zero s) e
 
   -- a tag of BOOL counts as BOOL with a length just where it has one
-  pub tag-bool : is_bool t ≡ true → ltb 0 (length s) ≡ bool_tag t s
+  pub tag_bool : is_bool t ≡ true → ltb 0 (length s) ≡ bool_tag t s
   unfolding bool_tag
-  tag-bool b = rw b
+  tag_bool b = rw b
 
   -- a tag of any other type does not count as BOOL with a length
-  pub tag-other : is_bool t ≡ false → false ≡ bool_tag t s
+  pub tag_other : is_bool t ≡ false → false ≡ bool_tag t s
   unfolding bool_tag
-  tag-other b = rw b
+  tag_other b = rw b
 
 -- ---- products
 
 -- where none is 0 the product is not
-product-least : (s : List ℕ) → none_zero s ≡ true → 0 < product s
+product_least : (s : List ℕ) → none_zero s ≡ true → 0 < product s
 unfolding product none_zero
-product-least [] e = omega arith
-product-least (n ∷ s) e =
+product_least [] e = omega arith
+product_least (n ∷ s) e =
     let h : n ≡ 0 → ⊥ = eqb-false n 0 (not-true (eqb n 0) (and_left _ (none_zero s) e)) in
-    let l = product-least s (and_right (not (eqb n 0)) (none_zero s) e) in
+    let l = product_least s (and_right (not (eqb n 0)) (none_zero s) e) in
     let k = le-mul_of_pos_right n l in
     omega (arith, h)
 
@@ -133,36 +133,36 @@ pub record Multiplying (s : List ℕ) (n i : ℕ) : Type 0 where
   pub rest : product s ≡ n * product (drop i s)
 
 -- before the first length the product is 1, and all lengths are left
-pub mul-start : (s : List ℕ) → none_zero s ≡ true → Multiplying s 1 0
-mul-start s e = record { inside = omega arith; small = omega arith; none = e; rest = omega arith }
+pub mul_start : (s : List ℕ) → none_zero s ≡ true → Multiplying s 1 0
+mul_start s e = record { inside = omega arith; small = omega arith; none = e; rest = omega arith }
 
 module _ {s : List ℕ} {n i : ℕ} (w : Multiplying s n i) where
   module _ (l : i < length s) {x : ℕ} (e : x ≡ get_or s i 0) where
-    next-none : none_zero (drop (i + 1) s) ≡ true
+    next_none : none_zero (drop (i + 1) s) ≡ true
     unfolding none_zero
-    next-none = and_right (not (eqb (get_or s i 0) 0)) _ (rw add-one (rw (drop-cons s i 0 l) at w.none))
+    next_none = and_right (not (eqb (get_or s i 0) 0)) _ (rw add-one (rw (drop-cons s i 0 l) at w.none))
 
-    next-rest : product s ≡ n * x * product (drop (i + 1) s)
+    next_rest : product s ≡ n * x * product (drop (i + 1) s)
     unfolding product
-    next-rest = w.rest ∙ rw (add-one, drop-cons s i 0 l, ← e) (sym (mul_assoc n x _))
+    next_rest = w.rest ∙ rw (add-one, drop-cons s i 0 l, ← e) (sym (mul_assoc n x _))
 
     -- the next length is multiplied in where 64 bits hold the product
-    pub mul-on : leb (n * x) (2 ^ 64 - 1) ≡ true → Multiplying s (n * x) (i + 1)
-    mul-on f =
-        record { inside = omega arith; small = leb-true (n * x) (2 ^ 64 - 1) f; none = next-none; rest = next-rest }
+    pub mul_on : leb (n * x) (2 ^ 64 - 1) ≡ true → Multiplying s (n * x) (i + 1)
+    mul_on f =
+        record { inside = omega arith; small = leb-true (n * x) (2 ^ 64 - 1) f; none = next_none; rest = next_rest }
 
     -- where 64 bits do not hold the product with the next length, they do not hold that of all
-    pub mul-over : leb (n * x) (2 ^ 64 - 1) ≡ false → Over ≡ product_of s
+    pub mul_over : leb (n * x) (2 ^ 64 - 1) ≡ false → Over ≡ product_of s
     unfolding product_of
-    mul-over f =
+    mul_over f =
         let h = leb-false (n * x) (2 ^ 64 - 1) f in
-        let k = le-mul_of_pos_right (n * x) (product-least (drop (i + 1) s) next-none) in
-        simp (lt-leb (product s) (2 ^ 64 - 1) (omega (arith, next-rest)))
+        let k = le-mul_of_pos_right (n * x) (product_least (drop (i + 1) s) next_none) in
+        simp (lt-leb (product s) (2 ^ 64 - 1) (omega (arith, next_rest)))
 
   -- where no length is left, the product is that of all
-  pub mul-done : length s ≤ i → Is n ≡ product_of s
+  pub mul_done : length s ≤ i → Is n ≡ product_of s
   unfolding product_of product
-  mul-done l =
+  mul_done l =
       let e : product s ≡ n = w.rest ∙ rw (drop_of_length-le s l) (omega arith) in
       rw e (simp (le-leb n (2 ^ 64 - 1) w.small))
 
@@ -170,51 +170,51 @@ module _ {s : List ℕ} {n i : ℕ} (w : Multiplying s n i) where
 
 module _ (sizes : ℕ → ℕ) (t : Ty) (lengths : List ℕ) (used n : ℕ) {size : ℕ} (e : size ≡ size_in sizes t) where
   -- elements of at most 2^26 bytes in all: the shape is given
-  pub within-fits : leb (size * n) most_size ≡ true
+  pub within_fits : leb (size * n) most_size ≡ true
       → given (record { ty = t; lengths = lengths; used = used; elements = n; bytes = size * n })
       ≡ within sizes t lengths used n
   unfolding within
-  within-fits f = rw (← e) (simp f)
+  within_fits f = rw (← e) (simp f)
 
   -- elements of more than 2^26 bytes in all get refusal 24
-  pub within-over : leb (size * n) most_size ≡ false → refused_shape 24 0 ≡ within sizes t lengths used n
+  pub within_over : leb (size * n) most_size ≡ false → refused_shape 24 0 ≡ within sizes t lengths used n
   unfolding within
-  within-over f = rw (← e) (simp f)
+  within_over f = rw (← e) (simp f)
 
 module _ (sizes : ℕ → ℕ) (n : ℕ) {up : ℕ} (e : up ≡ align_up n 32) where
   -- a BOOL tag whose rounded length is above 2^32 - 1: refusal 24
-  pub bool-over : 2 ^ 32 - 1 < up → refused_shape 24 0 ≡ bool_shape sizes n
+  pub bool_over : 2 ^ 32 - 1 < up → refused_shape 24 0 ≡ bool_shape sizes n
   unfolding bool_shape
-  bool-over h = rw (← e) (simp (lt-leb up (2 ^ 32 - 1) h))
+  bool_over h = rw (← e) (simp (lt-leb up (2 ^ 32 - 1) h))
 
   -- a BOOL tag of a smaller rounded length has a DWORD for each 32, if they are at most 2^26 bytes
-  pub bool-within : up ≤ 2 ^ 32 - 1 → within sizes (Atomic DWord) (three (up ∷ [])) 1 (up / 32) ≡ bool_shape sizes n
+  pub bool_within : up ≤ 2 ^ 32 - 1 → within sizes (Atomic DWord) (three (up ∷ [])) 1 (up / 32) ≡ bool_shape sizes n
   unfolding bool_shape
-  bool-within h = rw (← e) (simp (le-leb up (2 ^ 32 - 1) h))
+  bool_within h = rw (← e) (simp (le-leb up (2 ^ 32 - 1) h))
 
 -- a product that was found decides
-over-go : (b : Bool) (n : ℕ) (s : ShapeSaid) → cond b (Is n) Over ≡ Over
+over_go : (b : Bool) (n : ℕ) (s : ShapeSaid) → cond b (Is n) Over ≡ Over
     → refused_shape 24 0 ≡ cond b s (refused_shape 24 0)
-over-go true n s q = cc
-over-go false n s q = refl
+over_go true n s q = cc
+over_go false n s q = refl
 
-is-go : (b : Bool) (n m : ℕ) (f : ℕ → ShapeSaid) → cond b (Is n) Over ≡ Is m → f m ≡ cond b (f n) (refused_shape 24 0)
-is-go true n m f q =
+is_go : (b : Bool) (n m : ℕ) (f : ℕ → ShapeSaid) → cond b (Is n) Over ≡ Is m → f m ≡ cond b (f n) (refused_shape 24 0)
+is_go true n m f q =
     let z : m ≡ n = cc in
     ap f z
-is-go false n m f q = cc
+is_go false n m f q = cc
 
 module _ (sizes : ℕ → ℕ) (t : Ty) (s : List ℕ) {p : Product} (e : p ≡ product_of s) where
   -- lengths whose product 64 bits do not hold: refusal 24
   pub plain_over : p ≡ Over → refused_shape 24 0 ≡ plain_shape sizes t s
   unfolding plain_shape product_of
-  plain_over q = over-go (leb (product s) (2 ^ 64 - 1)) _ _ (sym e ∙ q)
+  plain_over q = over_go (leb (product s) (2 ^ 64 - 1)) _ _ (sym e ∙ q)
 
   -- lengths whose product 64 bits hold give so many elements, if they are at most 2^26 bytes
-  pub plain-is : {n : ℕ} → p ≡ Is n → within sizes t (three s) (length s) n ≡ plain_shape sizes t s
+  pub plain_is : {n : ℕ} → p ≡ Is n → within sizes t (three s) (length s) n ≡ plain_shape sizes t s
   unfolding plain_shape product_of
-  plain-is {n} q =
-      is-go (leb (product s) (2 ^ 64 - 1)) _ n (λ (x : ℕ). within sizes t (three s) (length s) x) (sym e ∙ q)
+  plain_is {n} q =
+      is_go (leb (product s) (2 ^ 64 - 1)) _ n (λ (x : ℕ). within sizes t (three s) (length s) x) (sym e ∙ q)
 
 -- ---- the ways out
 
@@ -225,9 +225,9 @@ module _ (types : List ℕ) (t : Ty) (s : List ℕ) where
   not_there a = rw a
 
   -- the way out with 23: the lengths are wrong
-  pub lengths-wrong : is_there types t ≡ true → lengths_ok t s ≡ false → refused_shape 23 0 ≡ shape_of types t s
+  pub lengths_wrong : is_there types t ≡ true → lengths_ok t s ≡ false → refused_shape 23 0 ≡ shape_of types t s
   unfolding shape_of
-  lengths-wrong a b = rw (a, b)
+  lengths_wrong a b = rw (a, b)
 
   -- the way of a BOOL with a right length: the shape of a BOOL tag
   pub bools : is_there types t ≡ true → lengths_ok t s ≡ true → bool_tag t s ≡ true
@@ -263,27 +263,27 @@ code_below DWord = lit< tt
 code_below LWord = lit< tt
 
 -- a type that is there has a type word below 0x9000
-pub type-below : {types : List ℕ} → KeptTypes types → (t : Ty) → is_there types t ≡ true
+pub type_below : {types : List ℕ} → KeptTypes types → (t : Ty) → is_there types t ≡ true
     → type_in (ids_in types) t < 0x9000
-type-below k (Atomic a) h = omega (arith, code_below a)
-type-below {types} k (Struct n) h = omega (arith, kept-ids k.kept n (there-fits types (Struct n) h))
+type_below k (Atomic a) h = omega (arith, code_below a)
+type_below {types} k (Struct n) h = omega (arith, kept_ids k.kept n (there_fits types (Struct n) h))
 
 -- the ways out
 module _ (types : List ℕ) (t : Ty) (used : ℕ) where
   -- no symbol type is given but 15: there is no such type
-  pub symbol-absent : is_there types t ≡ false → say.refused 15 0 ≡ symbol_for types t used
+  pub symbol_absent : is_there types t ≡ false → say.refused 15 0 ≡ symbol_for types t used
   unfolding symbol_for
-  symbol-absent a = rw a
+  symbol_absent a = rw a
 
   -- no symbol type is given but 23: there are more than three lengths
-  pub symbol-many : is_there types t ≡ true → 3 < used → say.refused 23 0 ≡ symbol_for types t used
+  pub symbol_many : is_there types t ≡ true → 3 < used → say.refused 23 0 ≡ symbol_for types t used
   unfolding symbol_for
-  symbol-many a h = rw (a, lt-leb used 3 h)
+  symbol_many a h = rw (a, lt-leb used 3 h)
 
   -- the symbol type is given of a type that is there, with at most three lengths
-  pub symbol-is : is_there types t ≡ true → used ≤ 3 → done (symbol_of (ids_in types) t used) ≡ symbol_for types t used
+  pub symbol_is : is_there types t ≡ true → used ≤ 3 → done (symbol_of (ids_in types) t used) ≡ symbol_for types t used
   unfolding symbol_for
-  symbol-is a h = rw (a, le-leb used 3 h)
+  symbol_is a h = rw (a, le-leb used 3 h)
 
 -- ---- the shapes that are given
 
@@ -292,8 +292,8 @@ record SymbolAsked (types : List ℕ) (r : ShapeSaid) : Type 0 where
   ask : (x : Shape) → r ≡ given x → (is_there types x.ty ≡ true) × (x.used ≤ 3)
 
 module _ (types : List ℕ) where
-  asked-refused : (number : ℕ) → SymbolAsked types (refused_shape number 0)
-  asked-refused number =
+  asked_refused : (number : ℕ) → SymbolAsked types (refused_shape number 0)
+  asked_refused number =
       record {
         ask = λ x e.
             let f : say.refused number 0 ≡ done tt = ap (λ (r : ShapeSaid). r.said) e in
@@ -301,16 +301,16 @@ module _ (types : List ℕ) where
             absurd (omega arith);
       }
 
-  asked-if : (b : Bool) {p q : ShapeSaid} → (b ≡ true → SymbolAsked types p) → SymbolAsked types q
+  asked_if : (b : Bool) {p q : ShapeSaid} → (b ≡ true → SymbolAsked types p) → SymbolAsked types q
       → SymbolAsked types (cond b p q)
-  asked-if true f g = f refl
-  asked-if false f g = g
+  asked_if true f g = f refl
+  asked_if false f g = g
 
-  asked-within : (sizes : ℕ → ℕ) (t : Ty) (lengths : List ℕ) (used n : ℕ) → is_there types t ≡ true → used ≤ 3
+  asked_within : (sizes : ℕ → ℕ) (t : Ty) (lengths : List ℕ) (used n : ℕ) → is_there types t ≡ true → used ≤ 3
       → SymbolAsked types (within sizes t lengths used n)
   unfolding within
-  asked-within sizes t lengths used n f h =
-      asked-if (leb (size_in sizes t * n) most_size)
+  asked_within sizes t lengths used n f h =
+      asked_if (leb (size_in sizes t * n) most_size)
       (λ b.
       record {
         ask = λ x e.
@@ -318,38 +318,38 @@ module _ (types : List ℕ) where
             let q : used ≡ x.used = ap (λ (r : ShapeSaid). r.shape.used) e in
             (rw p at f, omega arith);
       })
-      (asked-refused 24)
+      (asked_refused 24)
 
-  most-three : (t : Ty) → most_lengths t ≤ 3
+  most_three : (t : Ty) → most_lengths t ≤ 3
   unfolding most_lengths
-  most-three t = go (is_bool t)
+  most_three t = go (is_bool t)
     where
       go : (b : Bool) → cond b 1 3 ≤ 3
       go true = omega arith
       go false = omega arith
 
-  asked-shape : (t : Ty) (s : List ℕ) → SymbolAsked types (shape_of types t s)
+  asked_shape : (t : Ty) (s : List ℕ) → SymbolAsked types (shape_of types t s)
   unfolding shape_of bool_shape plain_shape
-  asked-shape t s =
-      asked-if (is_there types t)
+  asked_shape t s =
+      asked_if (is_there types t)
       (λ a.
-      asked-if (lengths_ok t s)
+      asked_if (lengths_ok t s)
       (λ b.
-      let few : length s ≤ 3 = omega (arith, ok-few t s b, most-three t) in
-      asked-if (bool_tag t s)
+      let few : length s ≤ 3 = omega (arith, ok_few t s b, most_three t) in
+      asked_if (bool_tag t s)
       (λ d.
-      asked-if (leb (align_up (get_or s 0 0) 32) (2 ^ 32 - 1))
-      (λ h. asked-within (sizes_in types) (Atomic DWord) _ 1 _ refl (omega arith))
-      (asked-refused 24))
-      (asked-if (leb (product s) (2 ^ 64 - 1))
-      (λ h. asked-within (sizes_in types) t _ (length s) _ a few)
-      (asked-refused 24)))
-      (asked-refused 23))
-      (asked-refused 15)
+      asked_if (leb (align_up (get_or s 0 0) 32) (2 ^ 32 - 1))
+      (λ h. asked_within (sizes_in types) (Atomic DWord) _ 1 _ refl (omega arith))
+      (asked_refused 24))
+      (asked_if (leb (product s) (2 ^ 64 - 1))
+      (λ h. asked_within (sizes_in types) t _ (length s) _ a few)
+      (asked_refused 24)))
+      (asked_refused 23))
+      (asked_refused 15)
 
   -- the symbol type of a shape as `tag_shape` gives it is never refused
-  pub shape-symbol : (t : Ty) (s : List ℕ) (x : Shape) → shape_of types t s ≡ given x
+  pub shape_symbol : (t : Ty) (s : List ℕ) (x : Shape) → shape_of types t s ≡ given x
       → symbol_for types x.ty x.used ≡ done (symbol_of (ids_in types) x.ty x.used)
-  shape-symbol t s x e =
-      let a = (asked-shape t s).ask x e in
-      sym (symbol-is types x.ty x.used a.0 a.1)
+  shape_symbol t s x e =
+      let a = (asked_shape t s).ask x e in
+      sym (symbol_is types x.ty x.used a.0 a.1)

@@ -24,19 +24,19 @@ use Rattle.types.proofs.tables.DefLaws.{PartFits}
 -- ---- numbers that agree below n
 
 module _ (f g : ℕ → ℕ) (n : ℕ) (same : (k : ℕ) → k < n → f k ≡ g k) where
-  type-same : (ty : Ty) → Earlier n ty → type_in f ty ≡ type_in g ty
-  type-same (Atomic a) e = refl
-  type-same (Struct k) e = rw (same k e)
+  type_same : (ty : Ty) → Earlier n ty → type_in f ty ≡ type_in g ty
+  type_same (Atomic a) e = refl
+  type_same (Struct k) e = rw (same k e)
 
-  infos-same : (ps : List Part) → Every (PartFits n) ps → infos f ps ≡ infos g ps
+  infos_same : (ps : List Part) → Every (PartFits n) ps → infos f ps ≡ infos g ps
   unfolding infos info_bytes Every
-  infos-same [] e = refl
-  infos-same (p ∷ ps) e = rw (type-same p.member.ty e.0.earlier, infos-same ps e.1)
+  infos_same [] e = refl
+  infos_same (p ∷ ps) e = rw (type_same p.member.ty e.0.earlier, infos_same ps e.1)
 
   -- ids that agree for the earlier types give the same template
-  pub template-same : (d : Def) → Every (PartFits n) d.parts → template_of f d ≡ template_of g d
+  pub template_same : (d : Def) → Every (PartFits n) d.parts → template_of f d ≡ template_of g d
   unfolding template_of front_of
-  template-same d e = rw (infos-same d.parts e)
+  template_same d e = rw (infos_same d.parts e)
 
   -- sizes that agree for the earlier types give an earlier type the same size
   pub size_same : (ty : Ty) → Earlier n ty → size_in f ty ≡ size_in g ty
@@ -60,22 +60,22 @@ module _ (f g : ℕ → ℕ) (n : ℕ) (same : (k : ℕ) → k < n → f k ≡ g
 
 module _ {A : Type 0} where
   -- the list of n values has length n
-  pub length-list : (f : ℕ → A) (i n : ℕ) → length (list_from f i n) ≡ n
+  pub length_list : (f : ℕ → A) (i n : ℕ) → length (list_from f i n) ≡ n
   unfolding list_from
-  length-list f i zero = refl
-  length-list f i (suc n) = ap suc (length-list f (i + 1) n)
+  length_list f i zero = refl
+  length_list f i (suc n) = ap suc (length_list f (i + 1) n)
 
   -- the k-th of the values from the i-th on is the one with number i + k
-  pub get_d-from : (f : ℕ → A) (i n k : ℕ) (d : A) → k < n → get_or (list_from f i n) k d ≡ f (i + k)
+  pub get_d_from : (f : ℕ → A) (i n k : ℕ) (d : A) → k < n → get_or (list_from f i n) k d ≡ f (i + k)
   unfolding list_from
-  get_d-from f i zero k d h = absurd (omega arith)
-  get_d-from f i (suc n) zero d h = rw add-zero
-  get_d-from f i (suc n) (suc k) d h =
+  get_d_from f i zero k d h = absurd (omega arith)
+  get_d_from f i (suc n) zero d h = rw add-zero
+  get_d_from f i (suc n) (suc k) d h =
       let e : i + suc k ≡ i + 1 + k = omega arith in
-      rw e (get_d-from f (i + 1) n k d (omega arith))
+      rw e (get_d_from f (i + 1) n k d (omega arith))
 
   -- the k-th of the list of the first n values is the value with number k
-  pub get_d-list : (f : ℕ → A) (n k : ℕ) (d : A) → k < n → get_or (list_from f 0 n) k d ≡ f k
-  get_d-list f n k d h =
+  pub get_d_list : (f : ℕ → A) (n k : ℕ) (d : A) → k < n → get_or (list_from f 0 n) k d ≡ f k
+  get_d_list f n k d h =
       let e : 0 + k ≡ k = omega arith in
-      get_d-from f 0 n k d h ∙ ap f e
+      get_d_from f 0 n k d h ∙ ap f e

@@ -35,27 +35,27 @@ use Rattle.types.specs.declared.rounds.build.Built.TheVariants.{Types}
 use Rattle.types.specs.declared.tables.member.StructDef.{StructDef}
 use Rattle.types.specs.declared.tables.member.StructKind.TheVariants.{Predefined, Str}
 use Rattle.types.proofs.layout.StringLaws.{StringRow}
-use Rattle.types.proofs.rounds.BuildWays.{accepted-both}
-use Rattle.types.proofs.rounds.RoundsKeep.{Good, predefined-begun, rounds-begun}
-use Rattle.types.proofs.tables.GoodLaws.{MemberRow, good-count, good-inside, good-laid, good-most, good-listable}
-use Rattle.types.proofs.tables.GoodLaws.{good-used, good-id, good-kind, good-first, good-name, good-members}
-use Rattle.types.proofs.tables.GoodLaws.{good-string, good-unused, good-ids-apart, good-names-apart}
-use Rattle.types.proofs.tables.ProperLaws.{FirstFour, proper-none}
-use Rattle.types.proofs.tables.ShownLaws.{shown-none, ids-fit}
-use Rattle.types.proofs.tables.UniqueLaws.{unlike-none}
-use Rattle.types.proofs.tables.WellLaws.{well-none}
-use Rattle.types.proofs.templates.VisibleLaws.{visible-inside}
+use Rattle.types.proofs.rounds.BuildWays.{accepted_both}
+use Rattle.types.proofs.rounds.RoundsKeep.{Good, predefined_begun, rounds_begun}
+use Rattle.types.proofs.tables.GoodLaws.{MemberRow, good_count, good_inside, good_laid, good_most, good_listable}
+use Rattle.types.proofs.tables.GoodLaws.{good_used, good_id, good_kind, good_first, good_name_lem, good_members}
+use Rattle.types.proofs.tables.GoodLaws.{good_string, good_unused, good_ids_apart, good_names_apart}
+use Rattle.types.proofs.tables.ProperLaws.{FirstFour, proper_none}
+use Rattle.types.proofs.tables.ShownLaws.{shown_none, ids_fit}
+use Rattle.types.proofs.tables.UniqueLaws.{unlike_none}
+use Rattle.types.proofs.tables.WellLaws.{well_none}
+use Rattle.types.proofs.templates.VisibleLaws.{visible_inside}
 
 -- ---- what a build makes
 
 -- a registry that a build can leave is good
-pub made-good : (ds : List Def) → Made ds → Good ds
-made-good ds (none e) =
-    rw e (record { shown = shown-none; well = well-none; unlike = unlike-none; proper = proper-none })
-made-good ds (built ids book bytes e) =
-    let a = accepted-both ids book ds e in
-    (rounds-begun book bytes (predefined ids) ds
-    (predefined-begun ids a.0) a.1).good
+pub made_good : (ds : List Def) → Made ds → Good ds
+made_good ds (none e) =
+    rw e (record { shown = shown_none; well = well_none; unlike = unlike_none; proper = proper_none })
+made_good ds (built ids book bytes e) =
+    let a = accepted_both ids book ds e in
+    (rounds_begun book bytes (predefined ids) ds
+    (predefined_begun ids a.0) a.1).good
 
 -- ---- a row: a type with all that is known of one, or no type
 
@@ -87,81 +87,81 @@ pub data RowIs (types members names : List ℕ) (i : ℕ) : Type 0 where
   holds : TypeRow types members names i → RowIs types members names i
   empty : type_at types i ≡ no_type → RowIs types members names i
 
-good-row : (ds : List Def) (g : Good ds) (i : ℕ) → i < length ds
+good_row : (ds : List Def) (g : Good ds) (i : ℕ) → i < length ds
     → TypeRow (types_table ds) (members_table ds) (names_table ds) i
-good-row ds g i l =
+good_row ds g i l =
     let p = g.proper i l in
-    let id = good-id ds g i l in
+    let id = good_id ds g i l in
     record {
-      counted = rw (good-count ds g) l;
+      counted = rw (good_count ds g) l;
       few = omega (arith, g.shown.few);
-      used = good-used ds g i l;
-      listable = good-listable ds g i l;
-      laid = good-laid ds g i l;
-      most = good-most ds g i l;
-      bits = visible-inside (sizes_in (types_table ds)) i _ _ (good-laid ds g i l);
-      string = good-string ds g i l;
-      first = good-first ds g i l;
+      used = good_used ds g i l;
+      listable = good_listable ds g i l;
+      laid = good_laid ds g i l;
+      most = good_most ds g i l;
+      bits = visible_inside (sizes_in (types_table ds)) i _ _ (good_laid ds g i l);
+      string = good_string ds g i l;
+      first = good_first ds g i l;
       early = rw id p.early;
       late = rw id p.late;
-      kind = rw (id, good-kind ds g i l) p.kind;
-      name = good-name ds g i l;
-      parts = good-members ds g i l;
+      kind = rw (id, good_kind ds g i l) p.kind;
+      name = good_name_lem ds g i l;
+      parts = good_members ds g i l;
     }
 
 -- ---- what a caller may count on
 
 module _ {types members names : List ℕ} (k : Kept types members names) where
   good : Good k.defs
-  good = made-good k.defs k.made
+  good = made_good k.defs k.made
 
   -- the names of all types there are lie inside the table
-  pub kept-inside : NamesInside types names (type_count types)
-  kept-inside = rw (k.rows, k.bytes) (good-inside k.defs good)
+  pub kept_inside : NamesInside types names (type_count types)
+  kept_inside = rw (k.rows, k.bytes) (good_inside k.defs good)
 
   -- ids have twelve bits
-  pub kept-ids : (n : ℕ) → n < most_types → (type_at types n).id < 0x1000
-  kept-ids n l = rw k.rows (ids-fit k.defs good.shown n l)
+  pub kept_ids : (n : ℕ) → n < most_types → (type_at types n).id < 0x1000
+  kept_ids n l = rw k.rows (ids_fit k.defs good.shown n l)
 
   -- so many types there are
-  pub kept-count : type_count types ≡ length k.defs
-  kept-count = rw k.rows (good-count k.defs good)
+  pub kept_count : type_count types ≡ length k.defs
+  kept_count = rw k.rows (good_count k.defs good)
 
   -- a row below the count is a type's
-  pub kept-type : (i : ℕ) → i < type_count types → TypeRow types members names i
-  kept-type =
+  pub kept_type : (i : ℕ) → i < type_count types → TypeRow types members names i
+  kept_type =
       rw (k.rows, k.parts, k.bytes)
-      (λ i l. good-row k.defs good i (rw (good-count k.defs good) at l))
+      (λ i l. good_row k.defs good i (rw (good_count k.defs good) at l))
 
   -- each row is a type, with all that is known of one, or it is empty
   pub kept_row : (i : ℕ) → RowIs types members names i
   kept_row i = go (dec_lt i (type_count types))
     where
       after : length k.defs ≤ i → type_at types i ≡ no_type
-      after = rw k.rows (good-unused k.defs good i)
+      after = rw k.rows (good_unused k.defs good i)
 
       go : Dec (i < type_count types) → RowIs types members names i
-      go (yes l) = holds (kept-type i l)
-      go (no l) = empty (after (omega (arith, l, kept-count)))
+      go (yes l) = holds (kept_type i l)
+      go (no l) = empty (after (omega (arith, l, kept_count)))
 
   -- a row that holds an id is a type's
-  pub kept-used : (i : ℕ) → ((type_at types i).id ≡ 0 → ⊥) → TypeRow types members names i
-  kept-used i u = go (kept_row i)
+  pub kept_used : (i : ℕ) → ((type_at types i).id ≡ 0 → ⊥) → TypeRow types members names i
+  kept_used i u = go (kept_row i)
     where
       go : RowIs types members names i → TypeRow types members names i
       go (holds r) = r
       go (empty e) = absurd (u (ap (λ (d : StructDef). d.id) e))
 
   -- no two types hold the same template id, and no two have the same name
-  pub kept-ids-apart : (i j : ℕ) → i < j → j < type_count types → (type_at types i).id ≡ (type_at types j).id → ⊥
-  kept-ids-apart =
-      rw k.rows (λ i j l h. good-ids-apart k.defs good i j l (rw (good-count k.defs good) at h))
+  pub kept_ids_apart : (i j : ℕ) → i < j → j < type_count types → (type_at types i).id ≡ (type_at types j).id → ⊥
+  kept_ids_apart =
+      rw k.rows (λ i j l h. good_ids_apart k.defs good i j l (rw (good_count k.defs good) at h))
 
-  pub kept-names-apart : (i j : ℕ) → i < j → j < type_count types
+  pub kept_names_apart : (i j : ℕ) → i < j → j < type_count types
       → same_name (row_name types names i) (row_name types names j) ≡ false
-  kept-names-apart =
+  kept_names_apart =
       rw (k.rows, k.bytes)
-      (λ i j l h. good-names-apart k.defs good i j l (rw (good-count k.defs good) at h))
+      (λ i j l h. good_names_apart k.defs good i j l (rw (good_count k.defs good) at h))
 
 -- ---- and what keeps it
 
@@ -185,18 +185,18 @@ module _ (ids : PredefinedIds) (book : List ℕ) (bytes : Bytes book) where
       }
 
   -- a build keeps it, accepted or refused
-  pub build-kept : {t m n : List ℕ} {r : Built} → Ended (build_of ids book) t m n r
+  pub build_kept : {t m n : List ℕ} {r : Built} → Ended (build_of ids book) t m n r
       → Kept t m n
-  build-kept w = kept_by (build_of ids book) refl w
+  build_kept w = kept_by (build_of ids book) refl w
 
   count_by : (a : Answer (List Def) Why) → build_of ids book ≡ a
       → {t m n : List ℕ} (x : ℕ) → Ended a t m n (Types x) → x ≡ type_count t
   count_by (refused y) e x w = let z : true ≡ false = cc w.is in absurd (true≢false z)
   count_by (accepted ds) e x w =
       let is : x ≡ length ds = cc w.is in
-      is ∙ rw w.types (sym (good-count ds (made-good ds (built ids book bytes e))))
+      is ∙ rw w.types (sym (good_count ds (made_good ds (built ids book bytes e))))
 
   -- an accepted build says how many types there are
-  pub build-count : {t m n : List ℕ} {r : Built} (x : ℕ) → Ended (build_of ids book) t m n r
+  pub build_count : {t m n : List ℕ} {r : Built} (x : ℕ) → Ended (build_of ids book) t m n r
       → r ≡ Types x → x ≡ type_count t
-  build-count x w q = count_by (build_of ids book) refl x (rw q at w)
+  build_count x w q = count_by (build_of ids book) refl x (rw q at w)

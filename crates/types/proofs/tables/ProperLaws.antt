@@ -23,34 +23,34 @@ use Rattle.types.specs.templates.Template.{user_id}
 use Rattle.types.specs.declared.layout.predefined.PredefinedIds.{PredefinedIds}
 use Rattle.types.specs.declared.tables.member.StructKind.{StructKind}
 use Rattle.types.specs.declared.tables.member.StructKind.TheVariants.{Udt, Predefined, Str}
-use Rattle.types.proofs.layout.PartLaws.{PartFormed, control-formed, string-formed}
-use Rattle.types.proofs.layout.PredefinedIds.{ids-allowed}
+use Rattle.types.proofs.layout.PartLaws.{PartFormed, control_formed, string_formed}
+use Rattle.types.proofs.layout.PredefinedIds.{ids_allowed}
 use Rattle.types.proofs.tables.ShownLaws.{no_def, each_more}
 
 -- ---- ids
 
 -- a predefined type's id is no user's
-pub predefined-outside : (id : ℕ) → predefined_id id ≡ true → user_id id ≡ false
+pub predefined_outside : (id : ℕ) → predefined_id id ≡ true → user_id id ≡ false
 unfolding predefined_id
-predefined-outside id e = go (user_id id) (and_right (leb 1 id && leb id 0xFFF) (not (user_id id)) e)
+predefined_outside id e = go (user_id id) (and_right (leb 1 id && leb id 0xFFF) (not (user_id id)) e)
   where
     go : (b : Bool) → not b ≡ true → b ≡ false
     go true q = sym q
     go false q = refl
 
 -- an id in 0x100..0xEFF is a user's
-pub user-inside : (id : ℕ) → 0x100 ≤ id → id ≤ 0xEFF → user_id id ≡ true
+pub user_inside : (id : ℕ) → 0x100 ≤ id → id ≤ 0xEFF → user_id id ≡ true
 unfolding user_id
-user-inside id l h = rw (le-leb 0x100 id l, le-leb id 0xEFF h)
+user_inside id l h = rw (le-leb 0x100 id l, le-leb id 0xEFF h)
 
 -- a kind whose word is not 1 is not Predefined
-pub not-predefined : (k : StructKind) → eqb (kind_word k) 1 ≡ false → k ≡ Predefined → ⊥
-not-predefined k n e = true≢false (sym (ap (λ (x : StructKind). eqb (kind_word x) 1) e) ∙ n)
+pub not_predefined : (k : StructKind) → eqb (kind_word k) 1 ≡ false → k ≡ Predefined → ⊥
+not_predefined k n e = true≢false (sym (ap (λ (x : StructKind). eqb (kind_word x) 1) e) ∙ n)
 
 -- nor is that of a UDT or an AOI
-pub declared-kind : (aoi : Bool) → eqb (kind_word (laid_kind aoi)) 1 ≡ false
-declared-kind true = refl
-declared-kind false = refl
+pub declared_kind : (aoi : Bool) → eqb (kind_word (laid_kind aoi)) 1 ≡ false
+declared_kind true = refl
+declared_kind false = refl
 
 -- ---- a registry
 
@@ -81,53 +81,53 @@ abbrev pub AllProper : List Def → Type 0
 AllProper ds = (i : ℕ) → i < length ds → Proper i (get_or ds i no_def)
 
 -- each of no types is proper
-pub proper-none : AllProper []
-proper-none i l = absurd (let z : ⊥ = omega arith in z)
+pub proper_none : AllProper []
+proper_none i l = absurd (let z : ⊥ = omega arith in z)
 
 -- one proper type more leaves all of them proper
-pub proper-more : (ds : List Def) (d : Def) → AllProper ds → Proper (length ds) d → AllProper (ds ++ d ∷ [])
-proper-more = each_more Proper
+pub proper_more : (ds : List Def) (d : Def) → AllProper ds → Proper (length ds) d → AllProper (ds ++ d ∷ [])
+proper_more = each_more Proper
 
 -- ---- the predefined types
 
 module _ (i : ℕ) (few : i < 4) {d : Def} (id : predefined_id d.id ≡ true) where
-  early-proper : FirstFour i d.name d.kind → good_name d.name ≡ true → Every PartFormed d.parts → Proper i d
-  early-proper f g p =
+  early_proper : FirstFour i d.name d.kind → good_name d.name ≡ true → Every PartFormed d.parts → Proper i d
+  early_proper f g p =
       record {
         name = g;
         parts = p;
         first = λ l. f;
         early = λ l. id;
         late = λ l. absurd (let z : ⊥ = omega arith in z);
-        kind = λ u k. clash u (predefined-outside d.id id);
+        kind = λ u k. clash u (predefined_outside d.id id);
       }
 
 module _ (ids : PredefinedIds) (good : predefined_ids ids ≡ true) where
-  timer-proper : AllProper (with_timer ids)
+  timer_proper : AllProper (with_timer ids)
   unfolding with_timer new_def timer_parts every good_name name_bytes name_byte
-  timer-proper =
-      proper-more [] _ proper-none
-      (early-proper 0 (omega arith) (ids-allowed ids good).timer (record { name = refl; kind = refl }) refl
-      (control-formed _ _ _ refl))
+  timer_proper =
+      proper_more [] _ proper_none
+      (early_proper 0 (omega arith) (ids_allowed ids good).timer (record { name = refl; kind = refl }) refl
+      (control_formed _ _ _ refl))
 
-  counter-proper : AllProper (with_counter ids)
+  counter_proper : AllProper (with_counter ids)
   unfolding with_timer with_counter new_def counter_parts every good_name name_bytes name_byte
-  counter-proper =
-      proper-more (with_timer ids) _ timer-proper
-      (early-proper 1 (omega arith) (ids-allowed ids good).counter (record { name = refl; kind = refl }) refl
-      (control-formed _ _ _ refl))
+  counter_proper =
+      proper_more (with_timer ids) _ timer_proper
+      (early_proper 1 (omega arith) (ids_allowed ids good).counter (record { name = refl; kind = refl }) refl
+      (control_formed _ _ _ refl))
 
-  control-proper : AllProper (with_control ids)
+  control_proper : AllProper (with_control ids)
   unfolding with_timer with_counter with_control new_def control_type_parts every good_name name_bytes name_byte
-  control-proper =
-      proper-more (with_counter ids) _ counter-proper
-      (early-proper 2 (omega arith) (ids-allowed ids good).control (record { name = refl; kind = refl }) refl
-      (control-formed _ _ _ refl))
+  control_proper =
+      proper_more (with_counter ids) _ counter_proper
+      (early_proper 2 (omega arith) (ids_allowed ids good).control (record { name = refl; kind = refl }) refl
+      (control_formed _ _ _ refl))
 
   -- all four predefined types are proper
-  pub predefined-proper : AllProper (predefined ids)
+  pub predefined_proper : AllProper (predefined ids)
   unfolding with_timer with_counter with_control predefined new_def good_name name_bytes name_byte
-  predefined-proper =
-      proper-more (with_control ids) _ control-proper
-      (early-proper 3 (omega arith) (ids-allowed ids good).string (record { name = refl; kind = refl }) refl
-      (string-formed 82))
+  predefined_proper =
+      proper_more (with_control ids) _ control_proper
+      (early_proper 3 (omega arith) (ids_allowed ids good).string (record { name = refl; kind = refl }) refl
+      (string_formed 82))

@@ -9,7 +9,7 @@ use mathlib.Core.List.{List, [], ◌∷◌, ◌++◌, append_assoc, append-nil}
 use mathlib.Core.Logic.{inr}
 use lib.ListN.{length, get_or, length-append, length-replicate}
 use lib.Seq.{sets, length-sets}
-use Rattle.words.proofs.Lists.{sets-append, get_d_beside, zero-at}
+use Rattle.words.proofs.Lists.{sets_append, get_d_beside, zero_at}
 use Rattle.types.specs.adding.Add.{yes}
 use Rattle.types.specs.inside.adding.Add.{added, Took}
 use Rattle.types.specs.inside.tables.Registry.{used_by, used_more, Stands}
@@ -21,71 +21,71 @@ use Rattle.types.specs.tables.Registry.{own_names, members_of, name_bytes_of, he
 use Rattle.types.specs.tables.Registry.{no_members, no_names, types_table, members_table, names_table}
 use Rattle.types.specs.declared.adding.progress.Progress.TheVariants.{Added}
 use Rattle.types.specs.declared.adding.used.Used.{Used}
-use Rattle.types.proofs.layout.StoreLaws.{row-long}
+use Rattle.types.proofs.layout.StoreLaws.{row_long}
 
 -- ---- one type more: how many, and which rows
 
 -- with one type more the registry is longer by one
-pub length-snoc : (ds : List Def) (d : Def) → length (ds ++ d ∷ []) ≡ length ds + 1
-length-snoc ds d = length-append ds (d ∷ [])
+pub length_snoc : (ds : List Def) (d : Def) → length (ds ++ d ∷ []) ≡ length ds + 1
+length_snoc ds d = length-append ds (d ∷ [])
 
 -- with one type more there are as many more members as it has parts
-pub members-of-snoc : (ds : List Def) (d : Def) → members_of (ds ++ d ∷ []) ≡ members_of ds + length d.parts
+pub members_of_snoc : (ds : List Def) (d : Def) → members_of (ds ++ d ∷ []) ≡ members_of ds + length d.parts
 unfolding members_of
-members-of-snoc [] d = omega arith
-members-of-snoc (x ∷ ds) d = omega (arith, members-of-snoc ds d)
+members_of_snoc [] d = omega arith
+members_of_snoc (x ∷ ds) d = omega (arith, members_of_snoc ds d)
 
-pub bytes-of-snoc : (ds : List Def) (d : Def) → name_bytes_of (ds ++ d ∷ []) ≡ name_bytes_of ds ++ own_names d
+pub bytes_of_snoc : (ds : List Def) (d : Def) → name_bytes_of (ds ++ d ∷ []) ≡ name_bytes_of ds ++ own_names d
 unfolding name_bytes_of
-bytes-of-snoc [] d = append-nil (own_names d)
-bytes-of-snoc (x ∷ ds) d =
-    ap (λ (l : List ℕ). own_names x ++ l) (bytes-of-snoc ds d)
+bytes_of_snoc [] d = append-nil (own_names d)
+bytes_of_snoc (x ∷ ds) d =
+    ap (λ (l : List ℕ). own_names x ++ l) (bytes_of_snoc ds d)
     ∙ sym (append_assoc (own_names x) (name_bytes_of ds) (own_names d))
 
 -- with one type more there are as many more bytes of names as its own have
-pub long-snoc : (ds : List Def) (d : Def)
+pub long_snoc : (ds : List Def) (d : Def)
     → length (name_bytes_of (ds ++ d ∷ [])) ≡ length (name_bytes_of ds) + length (own_names d)
-long-snoc ds d = rw (bytes-of-snoc ds d) (length-append (name_bytes_of ds) (own_names d))
+long_snoc ds d = rw (bytes_of_snoc ds d) (length-append (name_bytes_of ds) (own_names d))
 
-type-rows-snoc : (at row : ℕ) (ds : List Def) (d : Def) → type_rows at row (ds ++ d ∷ [])
+type_rows_snoc : (at row : ℕ) (ds : List Def) (d : Def) → type_rows at row (ds ++ d ∷ [])
     ≡ type_rows at row ds ++ type_row (head_of (at + length (name_bytes_of ds)) (row + members_of ds) d)
 unfolding type_rows name_bytes_of members_of
-type-rows-snoc at row [] d = rw (add-zero at, add-zero row) (append-nil _)
-type-rows-snoc at row (x ∷ ds) d =
+type_rows_snoc at row [] d = rw (add-zero at, add-zero row) (append-nil _)
+type_rows_snoc at row (x ∷ ds) d =
     let e : at + length (own_names x) + length (name_bytes_of ds) ≡ at + length (own_names x ++ name_bytes_of ds) =
     omega (arith, length-append (own_names x) (name_bytes_of ds)) in
     let f : row + length x.parts + members_of ds ≡ row + (length x.parts + members_of ds) = omega arith in
     rw (append_assoc (type_row (head_of at row x)), ← e, ← f) (ap (λ (l : List ℕ). type_row (head_of at row x) ++ l)
-    (type-rows-snoc (at + length (own_names x)) (row + length x.parts) ds d))
+    (type_rows_snoc (at + length (own_names x)) (row + length x.parts) ds d))
 
-member-rows-snoc : (at : ℕ) (ds : List Def) (d : Def) → member_rows at (ds ++ d ∷ [])
+member_rows_snoc : (at : ℕ) (ds : List Def) (d : Def) → member_rows at (ds ++ d ∷ [])
     ≡ member_rows at ds ++ rows_of (at + length (name_bytes_of ds) + length d.name) d.parts
 unfolding member_rows name_bytes_of
-member-rows-snoc at [] d = rw add-zero (append-nil _)
-member-rows-snoc at (x ∷ ds) d =
+member_rows_snoc at [] d = rw add-zero (append-nil _)
+member_rows_snoc at (x ∷ ds) d =
     let e : at + length (own_names x) + length (name_bytes_of ds) ≡ at + length (own_names x ++ name_bytes_of ds) =
     omega (arith, length-append (own_names x) (name_bytes_of ds)) in
     let first = rows_of (at + length x.name) x.parts in
     rw (append_assoc first, ← e) (ap (λ (l : List ℕ). first ++ l)
-    (member-rows-snoc (at + length (own_names x)) ds d))
+    (member_rows_snoc (at + length (own_names x)) ds d))
 
-type-rows-long : (at row : ℕ) (ds : List Def) → length (type_rows at row ds) ≡ 8 * length ds
+type_rows_long : (at row : ℕ) (ds : List Def) → length (type_rows at row ds) ≡ 8 * length ds
 unfolding type_rows type_row
-type-rows-long at row [] = refl
-type-rows-long at row (d ∷ ds) =
-    omega (arith, type-rows-long (at + length (own_names d)) (row + length d.parts) ds)
+type_rows_long at row [] = refl
+type_rows_long at row (d ∷ ds) =
+    omega (arith, type_rows_long (at + length (own_names d)) (row + length d.parts) ds)
 
-member-rows-long : (at : ℕ) (ds : List Def) → length (member_rows at ds) ≡ 8 * members_of ds
+member_rows_long : (at : ℕ) (ds : List Def) → length (member_rows at ds) ≡ 8 * members_of ds
 unfolding member_rows members_of
-member-rows-long at [] = refl
-member-rows-long at (d ∷ ds) =
+member_rows_long at [] = refl
+member_rows_long at (d ∷ ds) =
     let own = rows_of (at + length d.name) d.parts in
     let rest = member_rows (at + length (own_names d)) ds in
     omega (
       arith,
       length-append own rest,
-      row-long (at + length d.name) d.parts,
-      member-rows-long (at + length (own_names d)) ds,
+      row_long (at + length d.name) d.parts,
+      member_rows_long (at + length (own_names d)) ds,
     )
 
 -- ---- one type more: the tables
@@ -95,17 +95,17 @@ pub types_more : (ds : List Def) (d : Def) → types_table (ds ++ d ∷ [])
     ≡ sets (types_table ds) (8 * length ds) (type_row (head_of (length (name_bytes_of ds)) (members_of ds) d))
 unfolding types_table
 types_more ds d =
-    let e : 0 + length (type_rows 0 0 ds) ≡ 8 * length ds = omega (arith, type-rows-long 0 0 ds) in
-    rw (type-rows-snoc 0 0 ds d, zero-add (length (name_bytes_of ds)), zero-add (members_of ds))
-    (rw (← e) (sets-append no_types 0 (type_rows 0 0 ds) _))
+    let e : 0 + length (type_rows 0 0 ds) ≡ 8 * length ds = omega (arith, type_rows_long 0 0 ds) in
+    rw (type_rows_snoc 0 0 ds d, zero-add (length (name_bytes_of ds)), zero-add (members_of ds))
+    (rw (← e) (sets_append no_types 0 (type_rows 0 0 ds) _))
 
 -- the members' table of one type more is the old one with its members' rows stored after the others
-pub members-more : (ds : List Def) (d : Def) → members_table (ds ++ d ∷ [])
+pub members_more : (ds : List Def) (d : Def) → members_table (ds ++ d ∷ [])
     ≡ sets (members_table ds) (8 * members_of ds) (rows_of (length (name_bytes_of ds) + length d.name) d.parts)
 unfolding members_table
-members-more ds d =
-    let e : 0 + length (member_rows 0 ds) ≡ 8 * members_of ds = omega (arith, member-rows-long 0 ds) in
-    rw (member-rows-snoc 0 ds d, zero-add) (rw (← e) (sets-append no_members 0 (member_rows 0 ds) _))
+members_more ds d =
+    let e : 0 + length (member_rows 0 ds) ≡ 8 * members_of ds = omega (arith, member_rows_long 0 ds) in
+    rw (member_rows_snoc 0 ds d, zero-add) (rw (← e) (sets_append no_members 0 (member_rows 0 ds) _))
 
 -- the names of one type more are the old ones with its own stored after them
 pub names_more : (ds : List Def) (d : Def)
@@ -113,66 +113,66 @@ pub names_more : (ds : List Def) (d : Def)
 unfolding names_table
 names_more ds d =
     let e : 0 + length (name_bytes_of ds) ≡ length (name_bytes_of ds) = omega arith in
-    rw (bytes-of-snoc ds d) (sets-append no_names 0 (name_bytes_of ds) (own_names d)
+    rw (bytes_of_snoc ds d) (sets_append no_names 0 (name_bytes_of ds) (own_names d)
     ∙ ap (λ (k : ℕ). sets (sets no_names 0 (name_bytes_of ds)) k (own_names d)) e)
 
 -- and how much of them is used
-pub used-more : (ds : List Def) (d : Def) → used_by (ds ++ d ∷ []) ≡ used_more (used_by ds) d
-used-more ds d = rw (length-snoc ds d, members-of-snoc ds d, long-snoc ds d)
+pub used_more_lem : (ds : List Def) (d : Def) → used_by (ds ++ d ∷ []) ≡ used_more (used_by ds) d
+used_more_lem ds d = rw (length_snoc ds d, members_of_snoc ds d, long_snoc ds d)
 
 -- ---- how long the tables are
 
-no-types-long : length no_types ≡ type_words
+no_types_long : length no_types ≡ type_words
 unfolding no_types
-no-types-long = length-replicate {A = ℕ} type_words 0
+no_types_long = length-replicate {A = ℕ} type_words 0
 
-no-members-long : length no_members ≡ member_words
+no_members_long : length no_members ≡ member_words
 unfolding no_members
-no-members-long = length-replicate {A = ℕ} member_words 0
+no_members_long = length-replicate {A = ℕ} member_words 0
 
-no-names-long : length no_names ≡ most_names
+no_names_long : length no_names ≡ most_names
 unfolding no_names
-no-names-long = length-replicate {A = ℕ} most_names 0
+no_names_long = length-replicate {A = ℕ} most_names 0
 
 -- the types' table has 1,600 words
 pub types_long : (ds : List Def) → length (types_table ds) ≡ type_words
 unfolding types_table
-types_long ds = length-sets no_types 0 (type_rows 0 0 ds) ∙ no-types-long
+types_long ds = length-sets no_types 0 (type_rows 0 0 ds) ∙ no_types_long
 
 -- the members' table has 16,000 words
-pub members-long : (ds : List Def) → length (members_table ds) ≡ member_words
+pub members_long : (ds : List Def) → length (members_table ds) ≡ member_words
 unfolding members_table
-members-long ds = length-sets no_members 0 (member_rows 0 ds) ∙ no-members-long
+members_long ds = length-sets no_members 0 (member_rows 0 ds) ∙ no_members_long
 
 -- the names have 32,768 bytes
-pub names-long : (ds : List Def) → length (names_table ds) ≡ most_names
+pub names_long : (ds : List Def) → length (names_table ds) ≡ most_names
 unfolding names_table
-names-long ds = length-sets no_names 0 (name_bytes_of ds) ∙ no-names-long
+names_long ds = length-sets no_names 0 (name_bytes_of ds) ∙ no_names_long
 
 -- ---- the words after the types' rows are zero
 
 no_word : (k : ℕ) → get_or no_types k 0 ≡ 0
 unfolding no_types
-no_word k = zero-at type_words k
+no_word k = zero_at type_words k
 
 -- a word of the types' table after the rows of all types is zero
 pub word_after : (ds : List Def) (k : ℕ) → 8 * length ds ≤ k → get_or (types_table ds) k 0 ≡ 0
 unfolding types_table
 word_after ds k l =
-    get_d_beside no_types 0 (type_rows 0 0 ds) k 0 (inr (omega (arith, type-rows-long 0 0 ds))) ∙ no_word k
+    get_d_beside no_types 0 (type_rows 0 0 ds) k 0 (inr (omega (arith, type_rows_long 0 0 ds))) ∙ no_word k
 
 -- ---- tables that stand for a registry, with one type more
 
-used-then : (u u' : Used) (d : Def) → added u' ≡ added (used_more u d) → u' ≡ used_more u d
-used-then u u' d e = cc
+used_then : (u u' : Used) (d : Def) → added u' ≡ added (used_more u d) → u' ≡ used_more u d
+used_then u u' d e = cc
 
 -- where a type was added, the tables are those of the registry with that type at its end
-pub stands-more : {ds : List Def} {t m n t' m' n' : List ℕ} {u u' : Used} (d : Def) → Stands ds t m n u
+pub stands_more : {ds : List Def} {t m n t' m' n' : List ℕ} {u u' : Used} (d : Def) → Stands ds t m n u
     → Took (yes d) u t m n t' m' n' (Added u') → Stands (ds ++ d ∷ []) t' m' n' u'
-stands-more {ds} {u = u} {u' = u'} d s k =
+stands_more {ds} {u = u} {u' = u'} d s k =
     record {
       types = k.types ∙ rw (s.types, s.used) (sym (types_more ds d));
-      members = k.members ∙ rw (s.members, s.used) (sym (members-more ds d));
+      members = k.members ∙ rw (s.members, s.used) (sym (members_more ds d));
       names = k.names ∙ rw (s.names, s.used) (sym (names_more ds d));
-      used = used-then u u' d k.is ∙ rw s.used (sym (used-more ds d));
+      used = used_then u u' d k.is ∙ rw s.used (sym (used_more_lem ds d));
     }

@@ -10,7 +10,7 @@ use mathlib.Core.Logic.{inl}
 use lib.ListN.{length, get_or, length-append, get_or-append}
 use lib.Seq.{sets, get_or-append_seam}
 use Rattle.words.specs.Words.{part}
-use Rattle.words.proofs.Lists.{get_d_sets, get_d_beside, part-beside}
+use Rattle.words.proofs.Lists.{get_d_sets, get_d_beside, part_beside}
 use Rattle.types.specs.adding.Ids.{id_word}
 use Rattle.types.specs.atomics.Lookup.{row_name}
 use Rattle.types.specs.book.Contents.{list_from}
@@ -27,11 +27,11 @@ use Rattle.types.specs.tables.Registry.{names_table, view_of}
 use Rattle.types.specs.tables.Sizes.{sizes_in}
 use Rattle.types.specs.declared.tables.member.StructDef.{StructDef}
 use Rattle.types.specs.declared.tables.member.StructKind.TheVariants.{Udt}
-use Rattle.types.proofs.tables.DefLaws.{PartFits, RowWithin, type-stays, member-stays, name-stays, parts-beside}
-use Rattle.types.proofs.tables.DefLaws.{def-back, rows-within, within-fits}
-use Rattle.types.proofs.tables.RegistryLaws.{length-snoc, members-of-snoc, long-snoc, types_more, members-more}
-use Rattle.types.proofs.tables.RegistryLaws.{names_more, types_long, members-long, names-long, word_after}
-use Rattle.types.proofs.tables.TableLaws.{type-back}
+use Rattle.types.proofs.tables.DefLaws.{PartFits, RowWithin, type_stays, member_stays, name_stays, parts_beside}
+use Rattle.types.proofs.tables.DefLaws.{def_back, rows_within, within_fits}
+use Rattle.types.proofs.tables.RegistryLaws.{length_snoc, members_of_snoc, long_snoc, types_more, members_more}
+use Rattle.types.proofs.tables.RegistryLaws.{names_more, types_long, members_long, names_long, word_after}
+use Rattle.types.proofs.tables.TableLaws.{type_back}
 
 -- ---- what a type that is added has, and what the tables show
 
@@ -71,7 +71,7 @@ each_more P ds d w n i l = go (dec_lt i (length ds))
     go : Dec (i < length ds) → P i (get_or (ds ++ d ∷ []) i no_def)
     go (yes o) = rw (get_or-append ds (d ∷ []) no_def i o) (w i o)
     go (no o) =
-        let q : i ≡ length ds = omega (arith, o, length-snoc ds d) in
+        let q : i ≡ length ds = omega (arith, o, length_snoc ds d) in
         let e : get_or (ds ++ d ∷ []) (length ds) no_def ≡ d = get_or-append_seam ds d [] no_def in
         rw (q, e) n
 
@@ -88,22 +88,22 @@ pub record TablesShow (ds : List Def) : Type 0 where
 word_none : (ds : List Def) (i : ℕ) → length ds ≤ i → id_word (types_table ds) i ≡ 0
 word_none ds i l = word_after ds (8 * i + 2) (omega arith)
 
-id-after : (ds : List Def) (i : ℕ) → length ds ≤ i → (type_at (types_table ds) i).id ≡ 0
+id_after : (ds : List Def) (i : ℕ) → length ds ≤ i → (type_at (types_table ds) i).id ≡ 0
 unfolding type_at
-id-after ds i l = rw (word_after ds (8 * i + 2) (omega arith))
+id_after ds i l = rw (word_after ds (8 * i + 2) (omega arith))
 
 -- ---- no type
 
 -- the tables of a registry of no types show it
-pub shown-none : TablesShow []
+pub shown_none : TablesShow []
 unfolding members_of name_bytes_of
-shown-none =
+shown_none =
     record {
       few = omega arith;
       members = omega arith;
       bytes = omega arith;
       rows = λ i l. absurd (omega arith);
-      unused = id-after [];
+      unused = id_after [];
       blank = word_none [];
     }
 
@@ -118,35 +118,35 @@ member_run ds d = rows_of (length (name_bytes_of ds) + length d.name) d.parts
 
 -- the rows before it stay
 module _ (ds : List Def) (d : Def) (i : ℕ) (x : Def) (h : i < length ds) (r : RowShown ds i x) where
-  stays-head : type_at (types_table (ds ++ d ∷ [])) i ≡ head_of r.at r.row x
-  stays-head =
+  stays_head : type_at (types_table (ds ++ d ∷ [])) i ≡ head_of r.at r.row x
+  stays_head =
       rw (types_more ds d)
-      (type-stays (types_table ds) (8 * length ds) (type_run ds d) i (inl (omega arith)) ∙ r.head)
+      (type_stays (types_table ds) (8 * length ds) (type_run ds d) i (inl (omega arith)) ∙ r.head)
 
-  stays-word : id_word (types_table (ds ++ d ∷ [])) i ≡ x.id
-  stays-word =
+  stays_word : id_word (types_table (ds ++ d ∷ [])) i ≡ x.id
+  stays_word =
       rw (types_more ds d)
       (get_d_beside (types_table ds) (8 * length ds) (type_run ds d) (8 * i + 2) 0 (inl (omega arith)) ∙ r.word)
 
-  stays-def : def_of (members_table (ds ++ d ∷ [])) (names_table (ds ++ d ∷ [])) (head_of r.at r.row x) ≡ x
+  stays_def : def_of (members_table (ds ++ d ∷ [])) (names_table (ds ++ d ∷ [])) (head_of r.at r.row x) ≡ x
   unfolding def_of
-  stays-def =
+  stays_def =
       let long = length-append x.name (names_of x.parts) in
       let edge = length (name_bytes_of ds) in
       let own : part (sets (names_table ds) edge (own_names d)) r.at (length x.name)
       ≡ part (names_table ds) r.at (length x.name) =
-      part-beside (names_table ds) edge (own_names d) r.at (length x.name) (inl (omega arith)) in
-      let parts = parts-beside (members_table ds) (names_table ds) r.row (length x.parts) (8 * members_of ds)
+      part_beside (names_table ds) edge (own_names d) r.at (length x.name) (inl (omega arith)) in
+      let parts = parts_beside (members_table ds) (names_table ds) r.row (length x.parts) (8 * members_of ds)
       (member_run ds d) edge (own_names d) (omega arith) (λ k l. omega (arith, (r.within k l).name)) in
-      rw (members-more ds d, names_more ds d) (rw (own, parts) r.def)
+      rw (members_more ds d, names_more ds d) (rw (own, parts) r.def)
 
   stays_within : (k : ℕ) → k < length x.parts
       → RowWithin (members_table (ds ++ d ∷ [])) i (r.at + length (own_names x)) (r.row + k)
   stays_within k l =
       let after = 8 * members_of ds in
-      let name = name-stays (members_table ds) after (member_run ds d) (r.row + k) (inl (omega arith)) in
-      let member = member-stays (members_table ds) after (member_run ds d) (r.row + k) (inl (omega arith)) in
-      rw (members-more ds d)
+      let name = name_stays (members_table ds) after (member_run ds d) (r.row + k) (inl (omega arith)) in
+      let member = member_stays (members_table ds) after (member_run ds d) (r.row + k) (inl (omega arith)) in
+      rw (members_more ds d)
       record { name = rw name (r.within k l).name; earlier = rw member (r.within k l).earlier }
 
   row_stays : RowShown (ds ++ d ∷ []) i x
@@ -154,11 +154,11 @@ module _ (ds : List Def) (d : Def) (i : ℕ) (x : Def) (h : i < length ds) (r : 
       record {
         at = r.at;
         row = r.row;
-        head = stays-head;
-        word = stays-word;
-        def = stays-def;
-        bytes = omega (arith, long-snoc ds d);
-        rows = omega (arith, members-of-snoc ds d);
+        head = stays_head;
+        word = stays_word;
+        def = stays_def;
+        bytes = omega (arith, long_snoc ds d);
+        rows = omega (arith, members_of_snoc ds d);
         within = stays_within;
         parts = r.parts;
         id = r.id;
@@ -167,77 +167,77 @@ module _ (ds : List Def) (d : Def) (i : ℕ) (x : Def) (h : i < length ds) (r : 
 
 -- its own row shows it
 module _ (ds : List Def) (d : Def) (f : FitsRegistry ds d) where
-  own-head : type_at (types_table (ds ++ d ∷ [])) (length ds) ≡ head_of (length (name_bytes_of ds)) (members_of ds) d
-  own-head =
+  own_head : type_at (types_table (ds ++ d ∷ [])) (length ds) ≡ head_of (length (name_bytes_of ds)) (members_of ds) d
+  own_head =
       rw (types_more ds d)
-      (type-back (types_table ds) (length ds) (omega (arith, types_long ds))
+      (type_back (types_table ds) (length ds) (omega (arith, types_long ds))
       record { id = omega (arith, f.id); handle = f.handle })
 
-  own-word : id_word (types_table (ds ++ d ∷ [])) (length ds) ≡ d.id
+  own_word : id_word (types_table (ds ++ d ∷ [])) (length ds) ≡ d.id
   unfolding type_row
-  own-word =
+  own_word =
       rw (types_more ds d)
       (get_d_sets (types_table ds) (8 * length ds) (type_run ds d) 2 0 (omega (arith, types_long ds)) (omega arith))
 
-  own-def : def_of (members_table (ds ++ d ∷ [])) (names_table (ds ++ d ∷ []))
+  own_def : def_of (members_table (ds ++ d ∷ [])) (names_table (ds ++ d ∷ []))
       (head_of (length (name_bytes_of ds)) (members_of ds) d)
       ≡ d
-  own-def =
-      rw (members-more ds d, names_more ds d)
-      (def-back (members_table ds) (names_table ds) (members_of ds) (length (name_bytes_of ds)) (length ds) d
-      (omega (arith, members-long ds)) (omega (arith, names-long ds)) f.parts)
+  own_def =
+      rw (members_more ds d, names_more ds d)
+      (def_back (members_table ds) (names_table ds) (members_of ds) (length (name_bytes_of ds)) (length ds) d
+      (omega (arith, members_long ds)) (omega (arith, names_long ds)) f.parts)
 
-  own-within : (k : ℕ) → k < length d.parts
+  own_within : (k : ℕ) → k < length d.parts
       → RowWithin (members_table (ds ++ d ∷ [])) (length ds)
       (length (name_bytes_of ds) + length (own_names d)) (members_of ds + k)
-  own-within k l =
+  own_within k l =
       let e : length (name_bytes_of ds) + length (own_names d)
       ≡ length (name_bytes_of ds) + length d.name + length (names_of d.parts) =
       omega (arith, length-append d.name (names_of d.parts)) in
-      rw (members-more ds d, e)
-      (rows-within (members_table ds) (members_of ds) (length (name_bytes_of ds) + length d.name) (length ds) d.parts
-      (omega (arith, members-long ds)) f.parts k l)
+      rw (members_more ds d, e)
+      (rows_within (members_table ds) (members_of ds) (length (name_bytes_of ds) + length d.name) (length ds) d.parts
+      (omega (arith, members_long ds)) f.parts k l)
 
   own_row : RowShown (ds ++ d ∷ []) (length ds) d
   own_row =
       record {
         at = length (name_bytes_of ds);
         row = members_of ds;
-        head = own-head;
-        word = own-word;
-        def = own-def;
-        bytes = omega (arith, long-snoc ds d);
-        rows = omega (arith, members-of-snoc ds d);
-        within = own-within;
+        head = own_head;
+        word = own_word;
+        def = own_def;
+        bytes = omega (arith, long_snoc ds d);
+        rows = omega (arith, members_of_snoc ds d);
+        within = own_within;
         parts = f.parts;
         id = f.id;
         used = f.used;
       }
 
 -- one type more is shown beside the others
-pub shown-more : (ds : List Def) (d : Def) → TablesShow ds → FitsRegistry ds d → TablesShow (ds ++ d ∷ [])
-shown-more ds d s f =
-    let long = length-snoc ds d in
+pub shown_more : (ds : List Def) (d : Def) → TablesShow ds → FitsRegistry ds d → TablesShow (ds ++ d ∷ [])
+shown_more ds d s f =
+    let long = length_snoc ds d in
     record {
       few = omega arith;
-      members = omega (arith, members-of-snoc ds d);
-      bytes = omega (arith, long-snoc ds d);
+      members = omega (arith, members_of_snoc ds d);
+      bytes = omega (arith, long_snoc ds d);
       rows = each_more (RowShown (ds ++ d ∷ [])) ds d (λ i h. row_stays ds d i (get_or ds i no_def) h (s.rows i h))
           (own_row ds d f);
-      unused = id-after (ds ++ d ∷ []);
+      unused = id_after (ds ++ d ∷ []);
       blank = word_none (ds ++ d ∷ []);
     }
 
 -- ---- what follows
 
 -- values by their numbers that are those of a list's elements
-list-map : {A B : Type 0} (f : ℕ → B) (g : A → B) (l : List A) (z : A) (i : ℕ)
+list_map : {A B : Type 0} (f : ℕ → B) (g : A → B) (l : List A) (z : A) (i : ℕ)
     → ((k : ℕ) → k < length l → f (i + k) ≡ g (get_or l k z)) → list_from f i (length l) ≡ map g l
 unfolding list_from
-list-map f g [] z i h = refl
-list-map {A} f g (x ∷ l) z i h =
+list_map f g [] z i h = refl
+list_map {A} f g (x ∷ l) z i h =
     let e : f i ≡ g x = rw add-zero at (h 0 (omega arith)) in
-    rw (e, list-map f g l z (i + 1) later)
+    rw (e, list_map f g l z (i + 1) later)
   where
     later : (k : ℕ) → k < length l → f (i + 1 + k) ≡ g (get_or l k z)
     later k o =
@@ -246,56 +246,56 @@ list-map {A} f g (x ∷ l) z i h =
 
 map_same : {B : Type 0} (f : ℕ → B) (g : Def → B) (ds : List Def)
     → ((k : ℕ) → k < length ds → f k ≡ g (get_or ds k no_def)) → list_from f 0 (length ds) ≡ map g ds
-map_same f g ds h = list-map f g ds no_def 0 (λ k l. rw zero-add (h k l))
+map_same f g ds h = list_map f g ds no_def 0 (λ k l. rw zero-add (h k l))
 
 -- the name in a row is the type's
-pub name-same : (ds : List Def) (i : ℕ) (d : Def) → RowShown ds i d
+pub name_same : (ds : List Def) (i : ℕ) (d : Def) → RowShown ds i d
     → row_name (types_table ds) (names_table ds) i ≡ d.name
 unfolding def_of
-name-same ds i d r = rw r.head (ap (λ (x : Def). x.name) r.def)
+name_same ds i d r = rw r.head (ap (λ (x : Def). x.name) r.def)
 
 -- the size in a row is the type's
-pub sizes-same : (ds : List Def) → TablesShow ds → (k : ℕ) → k < length ds
+pub sizes_same : (ds : List Def) → TablesShow ds → (k : ℕ) → k < length ds
     → sizes_in (types_table ds) k ≡ (get_or ds k no_def).size
-sizes-same ds s k l = ap (λ (h : StructDef). h.size) (s.rows k l).head
+sizes_same ds s k l = ap (λ (h : StructDef). h.size) (s.rows k l).head
 
 -- the view of the tables is the view of the registry that they show
-pub view-same : (ds : List Def) → TablesShow ds → view_in (types_table ds) (names_table ds) (used_by ds) ≡ view_of ds
+pub view_same : (ds : List Def) → TablesShow ds → view_in (types_table ds) (names_table ds) (used_by ds) ≡ view_of ds
 unfolding view_in view_of
-view-same ds s =
+view_same ds s =
     let names = map_same (row_name (types_table ds) (names_table ds)) (λ d. d.name) ds
-    (λ k l. name-same ds k (get_or ds k no_def) (s.rows k l)) in
+    (λ k l. name_same ds k (get_or ds k no_def) (s.rows k l)) in
     let ids = map_same (id_word (types_table ds)) (λ d. d.id) ds (λ k l. (s.rows k l).word) in
-    let sizes = map_same (sizes_in (types_table ds)) (λ d. d.size) ds (sizes-same ds s) in
+    let sizes = map_same (sizes_in (types_table ds)) (λ d. d.size) ds (sizes_same ds s) in
     rw (names, ids, sizes)
 
 -- the types' names lie among the names
-pub names-inside : (ds : List Def) → TablesShow ds → NamesInside (types_table ds) (names_table ds) (length ds)
-names-inside ds s = record { few = s.few; inside = inside }
+pub names_inside : (ds : List Def) → TablesShow ds → NamesInside (types_table ds) (names_table ds) (length ds)
+names_inside ds s = record { few = s.few; inside = inside }
   where
     inside : (i : ℕ) → i < length ds
         → (type_at (types_table ds) i).name.at + (type_at (types_table ds) i).name.long ≤ length (names_table ds)
     inside i l =
         let d = get_or ds i no_def in
         let r = s.rows i l in
-        rw (r.head, names-long ds) (omega (arith, r.bytes, s.bytes, length-append d.name (names_of d.parts)))
+        rw (r.head, names_long ds) (omega (arith, r.bytes, s.bytes, length-append d.name (names_of d.parts)))
 
 -- ids are small: of the types, as words, and of all rows
-pub ids-small : (ds : List Def) → TablesShow ds → (k : ℕ) → k < length ds → id_word (types_table ds) k < 65536
-ids-small ds s k l = rw (s.rows k l).word (omega (arith, (s.rows k l).id))
+pub ids_small : (ds : List Def) → TablesShow ds → (k : ℕ) → k < length ds → id_word (types_table ds) k < 65536
+ids_small ds s k l = rw (s.rows k l).word (omega (arith, (s.rows k l).id))
 
 -- the id in each of the 200 rows is below 0x1000
-pub ids-fit : (ds : List Def) → TablesShow ds → (n : ℕ) → n < most_types → (type_at (types_table ds) n).id < 0x1000
-ids-fit ds s n l = go (dec_lt n (length ds))
+pub ids_fit : (ds : List Def) → TablesShow ds → (n : ℕ) → n < most_types → (type_at (types_table ds) n).id < 0x1000
+ids_fit ds s n l = go (dec_lt n (length ds))
   where
     go : Dec (n < length ds) → (type_at (types_table ds) n).id < 0x1000
     go (yes h) = rw (s.rows n h).head (s.rows n h).id
     go (no h) = omega (arith, s.unused n (omega (arith, h)))
 
 -- the row of a type can be read
-pub row-readable : (ds : List Def) → TablesShow ds → (i : ℕ) → i < length ds
+pub row_readable : (ds : List Def) → TablesShow ds → (i : ℕ) → i < length ds
     → Readable (members_table ds) (type_at (types_table ds) i)
-row-readable ds s i l =
+row_readable ds s i l =
     let d = get_or ds i no_def in
     let r = s.rows i l in
     let long = length-append d.name (names_of d.parts) in
@@ -304,5 +304,5 @@ row-readable ds s i l =
       name = omega (arith, r.bytes, s.bytes);
       rows = omega (arith, r.rows, s.members);
       names = λ k o. omega (arith, (r.within k o).name, r.bytes, s.bytes);
-      types = λ k o. within-fits (omega (arith, s.few)) (r.within k o);
+      types = λ k o. within_fits (omega (arith, s.few)) (r.within k o);
     })

@@ -23,21 +23,21 @@ use Rattle.types.specs.declared.tables.member.StructKind.{StructKind}
 use Rattle.types.specs.declared.tables.member.StructKind.TheVariants.{Udt, Predefined, Str, Aoi}
 use Rattle.types.specs.declared.tables.member.Ty.{Ty}
 use Rattle.types.specs.declared.tables.member.Ty.TheVariants.{Atomic as atomic, Struct}
-use Rattle.types.proofs.atomics.AtomicLaws.{at-num, num-below}
+use Rattle.types.proofs.atomics.AtomicLaws.{at_num, num_below}
 
 -- ---- words
 
 -- a type is read back from its word
-pub ty-back : (t : Ty) → ty_of_word (ty_word t) ≡ t
+pub ty_back : (t : Ty) → ty_of_word (ty_word t) ≡ t
 unfolding ty_of_word
-ty-back (atomic a) = simp (lt-ltb (num_of a) 0x8000 (omega (arith, num-below a)), at-num a)
-ty-back (Struct n) =
+ty_back (atomic a) = simp (lt-ltb (num_of a) 0x8000 (omega (arith, num_below a)), at_num a)
+ty_back (Struct n) =
     let e : 0x8000 + n - 0x8000 ≡ n = omega arith in
     simp (le-ltb (0x8000 + n) 0x8000 (omega arith), e)
 
 -- the word of an atomic, or of a structure below 200, has 16 bits
 pub word_below : (t : Ty) → TyFits t → ty_word t < 65536
-word_below (atomic a) f = omega (arith, num-below a)
+word_below (atomic a) f = omega (arith, num_below a)
 word_below (Struct n) f = omega arith
 
 -- a bit is one of eight
@@ -45,19 +45,19 @@ abbrev pub BitFits : Bit → Type 0
 BitFits None = Unit {0}
 BitFits (At k) = k < 8
 
-pub bit-back : (b : Bit) → BitFits b → bit_of_word (bit_word b) ≡ b
+pub bit_back : (b : Bit) → BitFits b → bit_of_word (bit_word b) ≡ b
 unfolding bit_of_word
-bit-back None h = refl
-bit-back (At k) h =
+bit_back None h = refl
+bit_back (At k) h =
     let e : (k + 1 - 1) % 8 ≡ k = omega arith in
     simp (ne_eqb (k + 1) 0 (λ q. omega arith), e)
 
 -- whether a member is hidden is read back from its flags
-pub hidden-back : (h l : Bool) → eqb (flags_of h l % 2) 1 ≡ h
-hidden-back true true = refl
-hidden-back true false = refl
-hidden-back false true = refl
-hidden-back false false = refl
+pub hidden_back : (h l : Bool) → eqb (flags_of h l % 2) 1 ≡ h
+hidden_back true true = refl
+hidden_back true false = refl
+hidden_back false true = refl
+hidden_back false false = refl
 
 -- whether a member is local is read back from its flags
 pub local_back : (h l : Bool) → eqb (flags_of h l / 2 % 2) 1 ≡ l
@@ -67,12 +67,12 @@ local_back false true = refl
 local_back false false = refl
 
 -- a structure's kind is read back from its word
-pub kind-back : (k : StructKind) → kind_of_word (kind_word k) ≡ k
+pub kind_back : (k : StructKind) → kind_of_word (kind_word k) ≡ k
 unfolding kind_of_word
-kind-back Udt = refl
-kind-back Predefined = refl
-kind-back Str = refl
-kind-back Aoi = refl
+kind_back Udt = refl
+kind_back Predefined = refl
+kind_back Str = refl
+kind_back Aoi = refl
 
 -- ---- rows of eight words
 
@@ -112,19 +112,19 @@ pub record RowStorable (m : Member) : Type 0 where
   pub bit : BitFits m.bit
   pub access : m.access < 256
 
-member-words : (t : List ℕ) (i : ℕ) (n : Span) (m : Member) → 8 * i + 8 ≤ length t
+member_words : (t : List ℕ) (i : ℕ) (n : Span) (m : Member) → 8 * i + 8 ≤ length t
     → Eight (sets t (8 * i) (member_row n m)) i n.at n.long (ty_word m.ty) m.count m.offset
     (bit_word m.bit)
     (flags_of m.hidden m.local) m.access
 unfolding member_row
-member-words t i n m h = stored t i h
+member_words t i n m h = stored t i h
 
 -- a stored member is read back
 pub member_back : (t : List ℕ) (i : ℕ) (n : Span) (m : Member) → 8 * i + 8 ≤ length t → RowStorable m
     → member_at (sets t (8 * i) (member_row n m)) i ≡ m
 unfolding member_at
 member_back t i n m h s =
-    let w = member-words t i n m h in
+    let w = member_words t i n m h in
     let a : m.access % 256 ≡ m.access = omega (arith, s.access) in
     simp (
       w.w0,
@@ -135,9 +135,9 @@ member_back t i n m h s =
       w.w5,
       w.w6,
       w.w7,
-      ty-back,
-      bit-back m.bit s.bit,
-      hidden-back,
+      ty_back,
+      bit_back m.bit s.bit,
+      hidden_back,
       local_back,
       a,
     )
@@ -147,7 +147,7 @@ pub name_back : (t : List ℕ) (i : ℕ) {n : Span} (m : Member) → 8 * i + 8 �
     → name_at (sets t (8 * i) (member_row n m)) i ≡ n
 unfolding name_at
 name_back t i {n} m h =
-    let w = member-words t i n m h in
+    let w = member_words t i n m h in
     simp (w.w0, w.w1)
 
 -- ---- structures
@@ -157,18 +157,18 @@ pub record TypeStorable (d : StructDef) : Type 0 where
   pub id : d.id < 65536
   pub handle : d.handle < 65536
 
-type-words : (t : List ℕ) (i : ℕ) (d : StructDef) → 8 * i + 8 ≤ length t
+type_words : (t : List ℕ) (i : ℕ) (d : StructDef) → 8 * i + 8 ≤ length t
     → Eight (sets t (8 * i) (type_row d)) i d.name.at d.name.long d.id d.handle d.size
     (kind_word d.kind) d.first d.count
 unfolding type_row
-type-words t i d h = stored t i h
+type_words t i d h = stored t i h
 
 -- a stored structure is read back
-pub type-back : (t : List ℕ) (i : ℕ) {d : StructDef} → 8 * i + 8 ≤ length t → TypeStorable d
+pub type_back : (t : List ℕ) (i : ℕ) {d : StructDef} → 8 * i + 8 ≤ length t → TypeStorable d
     → type_at (sets t (8 * i) (type_row d)) i ≡ d
 unfolding type_at
-type-back t i {d} h s =
-    let w = type-words t i d h in
+type_back t i {d} h s =
+    let w = type_words t i d h in
     let a : d.id % 65536 ≡ d.id = omega (arith, s.id) in
     let b : d.handle % 65536 ≡ d.handle = omega (arith, s.handle) in
-    simp (w.w0, w.w1, w.w2, w.w3, w.w4, w.w5, w.w6, w.w7, kind-back, a, b)
+    simp (w.w0, w.w1, w.w2, w.w3, w.w4, w.w5, w.w6, w.w7, kind_back, a, b)

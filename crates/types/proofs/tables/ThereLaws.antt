@@ -13,24 +13,24 @@ use Rattle.types.specs.tables.Lent.{type_at}
 use Rattle.types.specs.tables.Limits.{most_types}
 use Rattle.types.specs.templates.Template.{has_template}
 use Rattle.types.specs.declared.tables.member.Ty.TheVariants.{Struct}
-use Rattle.types.proofs.tables.KeptLaws.{TypeRow, kept-used}
+use Rattle.types.proofs.tables.KeptLaws.{TypeRow, kept_used}
 
 -- a structure that is there is a row of the table
-pub there-below : (types : List ℕ) {n : ℕ} → has_template types (Struct n) ≡ true → n < most_types
-there-below types {n} e = ltb-true _ _ (and_left (ltb n most_types) (not (eqb (type_at types n).id 0)) e)
+pub there_below : (types : List ℕ) {n : ℕ} → has_template types (Struct n) ≡ true → n < most_types
+there_below types {n} e = ltb-true _ _ (and_left (ltb n most_types) (not (eqb (type_at types n).id 0)) e)
 
 -- in kept tables a structure that is there is a type, with all that is known of one
 pub kept_there : {types members names : List ℕ} → Kept types members names → (n : ℕ)
     → has_template types (Struct n) ≡ true → TypeRow types members names n
 kept_there {types} k n e =
     let used = and_right (ltb n most_types) (not (eqb (type_at types n).id 0)) e in
-    kept-used k n (λ z. true≢false (sym used ∙ ap not (eq-eqb _ _ z)))
+    kept_used k n (λ z. true≢false (sym used ∙ ap not (eq-eqb _ _ z)))
 
 -- a member that is there is one of its type's
-pub member-there : (types : List ℕ) (i : ℕ) {k : ℕ} → has_member types i k ≡ true
+pub member_there : (types : List ℕ) (i : ℕ) {k : ℕ} → has_member types i k ≡ true
     → (has_template types (Struct i) ≡ true) × (k < (type_at types i).count)
 unfolding has_member
-member-there types i {k} e = (
+member_there types i {k} e = (
   and_left (has_template types (Struct i)) (ltb k (type_at types i).count) e,
   ltb-true _ _ (and_right (has_template types (Struct i)) (ltb k (type_at types i).count) e),
 )

@@ -28,10 +28,10 @@ use Rattle.types.specs.declared.atomics.lookup.FoundTy.{FoundTy}
 use Rattle.types.specs.declared.atomics.lookup.FoundTy.TheVariants.{Is}
 use Rattle.types.specs.declared.layout.predefined.PredefinedIds.{PredefinedIds}
 use Rattle.types.specs.declared.tables.member.Ty.TheVariants.{Struct}
-use Rattle.types.proofs.adding.AddLaws.{every-nth}
-use Rattle.types.proofs.layout.PredefinedIds.{same-1, same-2, same-3, same-4, same-5, same-6, ids-differ}
-use Rattle.types.proofs.layout.PredefinedIds.{ids-allowed}
-use Rattle.types.proofs.tables.RegistryLaws.{length-snoc}
+use Rattle.types.proofs.adding.AddLaws.{every_nth}
+use Rattle.types.proofs.layout.PredefinedIds.{same_1, same_2, same_3, same_4, same_5, same_6, ids_differ}
+use Rattle.types.proofs.layout.PredefinedIds.{ids_allowed}
+use Rattle.types.proofs.tables.RegistryLaws.{length_snoc}
 use Rattle.types.proofs.tables.ShownLaws.{no_def}
 
 -- a type holds another id and has another name than an earlier one
@@ -44,22 +44,22 @@ abbrev pub Unlike : List Def → Type 0
 Unlike ds = (i j : ℕ) → i < j → j < length ds → Differs (get_or ds j no_def) (get_or ds i no_def)
 
 -- in a registry of no types it is so
-pub unlike-none : Unlike []
-unlike-none i j l h = absurd (let z : ⊥ = omega arith in z)
+pub unlike_none : Unlike []
+unlike_none i j l h = absurd (let z : ⊥ = omega arith in z)
 
 -- it stays so with one type more that differs from each of them
-pub unlike-more : (ds : List Def) (d : Def) → Unlike ds → Every (Differs d) ds → Unlike (ds ++ d ∷ [])
-unlike-more ds d u n i j l h = go (dec_lt j (length ds))
+pub unlike_more : (ds : List Def) (d : Def) → Unlike ds → Every (Differs d) ds → Unlike (ds ++ d ∷ [])
+unlike_more ds d u n i j l h = go (dec_lt j (length ds))
   where
     go : Dec (j < length ds) → Differs (get_or (ds ++ d ∷ []) j no_def) (get_or (ds ++ d ∷ []) i no_def)
     go (yes o) =
         let e = get_or-append ds (d ∷ []) no_def i (omega arith) in
         rw (e, get_or-append ds (d ∷ []) no_def j o) (u i j l o)
     go (no o) =
-        let q : j ≡ length ds = omega (arith, o, length-snoc ds d) in
+        let q : j ≡ length ds = omega (arith, o, length_snoc ds d) in
         let k : i < length ds = omega arith in
         let e : get_or (ds ++ d ∷ []) (length ds) no_def ≡ d = get_or-append_seam ds d [] no_def in
-        rw (q, e, get_or-append ds (d ∷ []) no_def i k) (every-nth (Differs d) no_def ds i n k)
+        rw (q, e, get_or-append ds (d ∷ []) no_def i k) (every_nth (Differs d) no_def ds i n k)
 
 -- ---- a new id and a new name
 
@@ -70,11 +70,11 @@ module _ (d : Def) where
   abbrev named : List Def → ℕ → FoundTy
   named ds i = named_among (map (λ (x : Def). x.name) ds) d.name i
 
-  each-differs : (ds : List Def) (i : ℕ) → held ds ≡ false → is_found (named ds i) ≡ false → Every (Differs d) ds
+  each_differs : (ds : List Def) (i : ℕ) → held ds ≡ false → is_found (named ds i) ≡ false → Every (Differs d) ds
   unfolding Every in_use named_among
-  each-differs [] i u n = tt
-  each-differs (x ∷ ds) i u n =
-      go (eqb x.id d.id) (same_name x.name d.name) refl refl u n (each-differs ds (i + 1))
+  each_differs [] i u n = tt
+  each_differs (x ∷ ds) i u n =
+      go (eqb x.id d.id) (same_name x.name d.name) refl refl u n (each_differs ds (i + 1))
     where
       go : (p q : Bool) → eqb x.id d.id ≡ p → same_name x.name d.name ≡ q → (p || held ds) ≡ false
           → is_found (cond q (Is (Struct i)) (named ds (i + 1))) ≡ false
@@ -84,64 +84,64 @@ module _ (d : Def) where
       go false true a b u n rest = absurd (true≢false n)
       go false false a b u n rest = (record { id = eqb-false _ _ a; name = b }, rest u n)
 
-not-atomic : (a : FoundAtomic) (f : FoundTy) → is_found (atomic_or a f) ≡ false → is_found f ≡ false
-not-atomic (found a) f e = absurd (true≢false e)
-not-atomic none f e = e
+not_atomic : (a : FoundAtomic) (f : FoundTy) → is_found (atomic_or a f) ≡ false → is_found f ≡ false
+not_atomic (found a) f e = absurd (true≢false e)
+not_atomic none f e = e
 
 -- what is not in use and not known is new
-pub new-differs : (ds : List Def) (d : Def) → in_use d.id (view_of ds).ids ≡ false
+pub new_differs : (ds : List Def) (d : Def) → in_use d.id (view_of ds).ids ≡ false
     → is_found (type_among (view_of ds).names d.name) ≡ false → Every (Differs d) ds
 unfolding view_of type_among
-new-differs ds d u n = each-differs d ds 0 u (not-atomic (atomic_named d.name) _ n)
+new_differs ds d u n = each_differs d ds 0 u (not_atomic (atomic_named d.name) _ n)
 
 -- ---- the predefined types
 
 module _ (ids : PredefinedIds) (good : predefined_ids ids ≡ true) where
   apart : false ≡ distinct ids → ⊥
   apart e =
-      let i = ids-allowed ids good in
-      true≢false (sym (e ∙ ids-differ ids i.timer i.counter i.control i.string ∙ good))
+      let i = ids_allowed ids good in
+      true≢false (sym (e ∙ ids_differ ids i.timer i.counter i.control i.string ∙ good))
 
-  timer-counter : ids.timer ≡ ids.counter → ⊥
-  timer-counter e = apart (same-1 ids e)
+  timer_counter : ids.timer ≡ ids.counter → ⊥
+  timer_counter e = apart (same_1 ids e)
 
-  timer-control : ids.timer ≡ ids.control → ⊥
-  timer-control e = apart (same-2 ids timer-counter e)
+  timer_control : ids.timer ≡ ids.control → ⊥
+  timer_control e = apart (same_2 ids timer_counter e)
 
-  timer-string : ids.timer ≡ ids.string → ⊥
-  timer-string e = apart (same-3 ids timer-counter timer-control e)
+  timer_string : ids.timer ≡ ids.string → ⊥
+  timer_string e = apart (same_3 ids timer_counter timer_control e)
 
-  counter-control : ids.counter ≡ ids.control → ⊥
-  counter-control e = apart (same-4 ids timer-counter timer-control timer-string e)
+  counter_control : ids.counter ≡ ids.control → ⊥
+  counter_control e = apart (same_4 ids timer_counter timer_control timer_string e)
 
-  counter-string : ids.counter ≡ ids.string → ⊥
-  counter-string e = apart (same-5 ids timer-counter timer-control timer-string counter-control e)
+  counter_string : ids.counter ≡ ids.string → ⊥
+  counter_string e = apart (same_5 ids timer_counter timer_control timer_string counter_control e)
 
-  control-string : ids.control ≡ ids.string → ⊥
-  control-string e =
+  control_string : ids.control ≡ ids.string → ⊥
+  control_string e =
       apart
       (sym (ap not (eq-eqb ids.control ids.string e))
-      ∙ same-6 ids timer-counter timer-control timer-string counter-control counter-string)
+      ∙ same_6 ids timer_counter timer_control timer_string counter_control counter_string)
 
-  timer-unlike : Unlike (with_timer ids)
+  timer_unlike : Unlike (with_timer ids)
   unfolding with_timer Every
-  timer-unlike = unlike-more [] _ unlike-none tt
+  timer_unlike = unlike_more [] _ unlike_none tt
 
-  counter-unlike : Unlike (with_counter ids)
+  counter_unlike : Unlike (with_counter ids)
   unfolding with_timer with_counter new_def Every same_name lower_of
-  counter-unlike = unlike-more (with_timer ids) _ timer-unlike (record { id = timer-counter; name = refl }, tt)
+  counter_unlike = unlike_more (with_timer ids) _ timer_unlike (record { id = timer_counter; name = refl }, tt)
 
-  control-unlike : Unlike (with_control ids)
+  control_unlike : Unlike (with_control ids)
   unfolding with_timer with_counter with_control new_def Every same_name lower_of
-  control-unlike =
-      unlike-more (with_counter ids) _ counter-unlike
-      (record { id = timer-control; name = refl }, (record { id = counter-control; name = refl }, tt))
+  control_unlike =
+      unlike_more (with_counter ids) _ counter_unlike
+      (record { id = timer_control; name = refl }, (record { id = counter_control; name = refl }, tt))
 
   -- under good ids no two predefined types hold the same id or have the same name
-  pub predefined-unlike : Unlike (predefined ids)
+  pub predefined_unlike : Unlike (predefined ids)
   unfolding with_timer with_counter with_control predefined new_def Every same_name lower_of
-  predefined-unlike =
-      unlike-more (with_control ids) _ control-unlike (
-        record { id = timer-string; name = refl },
-        (record { id = counter-string; name = refl }, (record { id = control-string; name = refl }, tt)),
+  predefined_unlike =
+      unlike_more (with_control ids) _ control_unlike (
+        record { id = timer_string; name = refl },
+        (record { id = counter_string; name = refl }, (record { id = control_string; name = refl }, tt)),
       )

@@ -23,31 +23,31 @@ use Rattle.types.proofs.tables.ShownLaws.{no_def, each_more}
 abbrev Before : ℕ → Part → Type 0
 Before i p = Earlier i p.member.ty
 
-all-before : (sizes : ℕ → ℕ) (i size : ℕ) (ps : List Part) → Laid sizes i size ps → Every (Before i) ps
+all_before : (sizes : ℕ → ℕ) (i size : ℕ) (ps : List Part) → Laid sizes i size ps → Every (Before i) ps
 unfolding Laid Every
-all-before sizes i size [] l = tt
-all-before sizes i size (p ∷ ps) (l, ls) = (l.earlier, all-before sizes i size ps ls)
+all_before sizes i size [] l = tt
+all_before sizes i size (p ∷ ps) (l, ls) = (l.earlier, all_before sizes i size ps ls)
 
 module _ (f g : ℕ → ℕ) (i : ℕ) (same : (k : ℕ) → k < i → f k ≡ g k) where
-  bits-same : (m : Member) (b : Bit) → Earlier i m.ty → bits_of f b m ≡ bits_of g b m
-  bits-same m None e = ap (λ (s : ℕ). 8 * (s * times m.count)) (size_same f g i same m.ty e)
-  bits-same m (At k) e = refl
+  bits_same : (m : Member) (b : Bit) → Earlier i m.ty → bits_of f b m ≡ bits_of g b m
+  bits_same m None e = ap (λ (s : ℕ). 8 * (s * times m.count)) (size_same f g i same m.ty e)
+  bits_same m (At k) e = refl
 
-  apart-same : (m n : Member) → Earlier i m.ty → Earlier i n.ty → Apart f m n → Apart g m n
-  apart-same m n a b =
-      ⊎_elim (λ h. inl (omega (arith, h, bits-same m m.bit a))) (λ h. inr (omega (arith, h, bits-same n n.bit b)))
+  apart_same : (m n : Member) → Earlier i m.ty → Earlier i n.ty → Apart f m n → Apart g m n
+  apart_same m n a b =
+      ⊎_elim (λ h. inl (omega (arith, h, bits_same m m.bit a))) (λ h. inr (omega (arith, h, bits_same n n.bit b)))
 
-  clear-same : (m : Member) (ps : List Part) → Earlier i m.ty → Every (Before i) ps → Clear f m ps → Clear g m ps
+  clear_same : (m : Member) (ps : List Part) → Earlier i m.ty → Every (Before i) ps → Clear f m ps → Clear g m ps
   unfolding Clear Every
-  clear-same m [] e b c = tt
-  clear-same m (p ∷ ps) e (b, bs) (c, cs) =
-      (λ h k. apart-same m p.member e b (c h k), clear-same m ps e bs cs)
+  clear_same m [] e b c = tt
+  clear_same m (p ∷ ps) e (b, bs) (c, cs) =
+      (λ h k. apart_same m p.member e b (c h k), clear_same m ps e bs cs)
 
-  rising-same : (m : Member) (ps : List Part) → Earlier i m.ty → Rising f m ps → Rising g m ps
+  rising_same : (m : Member) (ps : List Part) → Earlier i m.ty → Rising f m ps → Rising g m ps
   unfolding Rising
-  rising-same m [] e r = tt
-  rising-same m (p ∷ ps) e (r, rs) =
-      (λ v w. omega (arith, r v w, bits-same m m.bit e), rising-same m ps e rs)
+  rising_same m [] e r = tt
+  rising_same m (p ∷ ps) e (r, rs) =
+      (λ v w. omega (arith, r v w, bits_same m m.bit e), rising_same m ps e rs)
 
   -- parts laid out well by some sizes are so by any that agree with them for the earlier types
   pub laid_same : (size : ℕ) (ps : List Part) → Laid f i size ps → Laid g i size ps
@@ -56,9 +56,9 @@ module _ (f g : ℕ → ℕ) (i : ℕ) (same : (k : ℕ) → k < i → f k ≡ g
   laid_same size (p ∷ ps) (l, ls) = (
     record {
       earlier = l.earlier;
-      inside = omega (arith, l.inside, bits-same p.member p.member.bit l.earlier);
-      clear = clear-same p.member ps l.earlier (all-before f i size ps ls) l.clear;
-      rising = rising-same p.member ps l.earlier l.rising;
+      inside = omega (arith, l.inside, bits_same p.member p.member.bit l.earlier);
+      clear = clear_same p.member ps l.earlier (all_before f i size ps ls) l.clear;
+      rising = rising_same p.member ps l.earlier l.rising;
     },
     laid_same size ps ls,
   )
@@ -79,22 +79,22 @@ sizes_of ds n = get_or (map (λ (x : Def). x.size) ds) n 0
 abbrev pub Well : List Def → Type 0
 Well ds = (i : ℕ) → i < length ds → WellMade (sizes_of ds) i (get_or ds i no_def)
 
-sizes-stay : (ds : List Def) (d : Def) (k : ℕ) → k < length ds → sizes_of ds k ≡ sizes_of (ds ++ d ∷ []) k
-sizes-stay ds d k l =
+sizes_stay : (ds : List Def) (d : Def) (k : ℕ) → k < length ds → sizes_of ds k ≡ sizes_of (ds ++ d ∷ []) k
+sizes_stay ds d k l =
     let n = length-map ds (λ (x : Def). x.size) in
     sym (ap (λ (s : List ℕ). get_or s k 0) (map-append (λ (x : Def). x.size) ds (d ∷ []))
     ∙ get_or-append (map (λ (x : Def). x.size) ds) _ 0 k (omega (arith, n)))
 
 -- each of no types is well made
-pub well-none : Well []
-well-none i l = absurd (let z : ⊥ = omega arith in z)
+pub well_none : Well []
+well_none i l = absurd (let z : ⊥ = omega arith in z)
 
 -- one well-made type more leaves all of them well made
-pub well-more : (ds : List Def) (d : Def) → Well ds → WellMade (sizes_of ds) (length ds) d → Well (ds ++ d ∷ [])
-well-more ds d w n =
+pub well_more : (ds : List Def) (d : Def) → Well ds → WellMade (sizes_of ds) (length ds) d → Well (ds ++ d ∷ [])
+well_more ds d w n =
     each_more (WellMade (sizes_of (ds ++ d ∷ []))) ds d
-    (λ i o. stays i (λ k h. sizes-stay ds d k (omega arith)) (w i o))
-    (stays (length ds) (sizes-stay ds d) n)
+    (λ i o. stays i (λ k h. sizes_stay ds d k (omega arith)) (w i o))
+    (stays (length ds) (sizes_stay ds d) n)
   where
     stays : {x : Def} (i : ℕ) → ((k : ℕ) → k < i → sizes_of ds k ≡ sizes_of (ds ++ d ∷ []) k)
         → WellMade (sizes_of ds) i x → WellMade (sizes_of (ds ++ d ∷ [])) i x

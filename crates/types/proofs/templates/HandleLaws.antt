@@ -23,10 +23,10 @@ unfolding fold_from
 fold_done h i s l = rw (drop_of_length-le s l)
 
 -- the fold of two pieces is that of the second from the fold of the first on
-pub fold-append : (h : ℕ) (a b : List ℕ) → fold_from h (a ++ b) ≡ fold_from (fold_from h a) b
+pub fold_append : (h : ℕ) (a b : List ℕ) → fold_from h (a ++ b) ≡ fold_from (fold_from h a) b
 unfolding fold_from
-fold-append h [] b = refl
-fold-append h (x ∷ a) b = fold-append (fold_byte h x) a b
+fold_append h [] b = refl
+fold_append h (x ∷ a) b = fold_append (fold_byte h x) a b
 
 -- a handle of 0 becomes 1
 pub zero_one : (h : ℕ) → h ≡ 0 → 1 ≡ not_zero h
@@ -34,9 +34,9 @@ unfolding not_zero
 zero_one h e = simp (eq-eqb h 0 e)
 
 -- any handle but 0 stays as it is
-pub other-same : (h : ℕ) → (h ≡ 0 → ⊥) → h ≡ not_zero h
+pub other_same : (h : ℕ) → (h ≡ 0 → ⊥) → h ≡ not_zero h
 unfolding not_zero
-other-same h e = simp (ne_eqb h 0 e)
+other_same h e = simp (ne_eqb h 0 e)
 
 -- it fits 16 bits
 fold_small : (h : ℕ) (s : List ℕ) → h < 65536 → fold_from h s < 65536
@@ -44,14 +44,14 @@ unfolding fold_from
 fold_small h [] l = l
 fold_small h (b ∷ bs) l = fold_small (fold_byte h b) bs (omega arith)
 
-not-zero-small : (h : ℕ) → h < 65536 → not_zero h < 65536
-not-zero-small h l = go (dec_lt 0 h)
+not_zero_small : (h : ℕ) → h < 65536 → not_zero h < 65536
+not_zero_small h l = go (dec_lt 0 h)
   where
     go : Dec (0 < h) → not_zero h < 65536
-    go (yes o) = rw (← other-same h (λ e. omega arith)) l
+    go (yes o) = rw (← other_same h (λ e. omega arith)) l
     go (no o) = rw (← zero_one h (omega (arith, o))) (omega arith)
 
 -- a handle fits 16 bits
-pub handle-small : (s : List ℕ) → handle_of s < 65536
+pub handle_small : (s : List ℕ) → handle_of s < 65536
 unfolding handle_of
-handle-small s = not-zero-small (fold_from 0x1D0F s) (fold_small 0x1D0F s (omega arith))
+handle_small s = not_zero_small (fold_from 0x1D0F s) (fold_small 0x1D0F s (omega arith))

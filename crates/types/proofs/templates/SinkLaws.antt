@@ -7,11 +7,11 @@ use mathlib.Core.Bool.{Bool, true, false, cond}
 use mathlib.Core.List.{List, [], ◌++◌}
 use lib.ListN.{length, length-append}
 use lib.Seq.{sets, length-sets}
-use Rattle.words.proofs.Lists.{cond-sets}
+use Rattle.words.proofs.Lists.{cond_sets}
 use Rattle.types.specs.inside.templates.Sink.{SinkRoom, Emitted}
 use Rattle.types.specs.templates.Handle.{fold_from}
 use Rattle.types.specs.declared.templates.sink.Sink.{Sink}
-use Rattle.types.proofs.templates.HandleLaws.{fold-append}
+use Rattle.types.proofs.templates.HandleLaws.{fold_append}
 
 -- a sink that writes took the bytes that were stored at its place and folded
 pub wrote : (s : List ℕ) (k : Sink) (out : List ℕ) (fold : ℕ) → k.writes ≡ true → fold ≡ fold_from k.fold s
@@ -27,14 +27,14 @@ none_came k out = record { at = omega arith; fold = refl; writes = refl; bytes =
     same false o = refl
 
 -- two pieces that came one after the other came as one
-pub came-both : {s t : List ℕ} {k m r : Sink} {out left last : List ℕ}
+pub came_both : {s t : List ℕ} {k m r : Sink} {out left last : List ℕ}
     → Emitted s k out m left → Emitted t m left r last → Emitted (s ++ t) k out r last
-came-both {s} {t} {k} {m} {r} {out} {left} {last} a b =
+came_both {s} {t} {k} {m} {r} {out} {left} {last} a b =
     record {
       at = omega (arith, a.at, b.at, length-append s t);
-      fold = b.fold ∙ rw a.fold (sym (fold-append k.fold s t));
+      fold = b.fold ∙ rw a.fold (sym (fold_append k.fold s t));
       writes = b.writes ∙ a.writes;
-      bytes = cond-sets k.writes m.writes k.at m.at s t out left last
+      bytes = cond_sets k.writes m.writes k.at m.at s t out left last
           a.writes a.at a.bytes b.bytes;
     }
 
@@ -54,20 +54,20 @@ pub record PiecesLeft (whole : List ℕ) (k : Sink) (out rest : List ℕ) (m : S
   pub then : (r : Sink) (last : List ℕ) → Emitted rest m left r last → Emitted whole k out r last
 
 -- before the first piece comes the whole is left
-pub left-all : {s : List ℕ} {k : Sink} {out : List ℕ} → SinkRoom s k out → PiecesLeft s k out s k out
-left-all h = record { long = refl; room = h; then = λ r last e. e }
+pub left_all : {s : List ℕ} {k : Sink} {out : List ℕ} → SinkRoom s k out → PiecesLeft s k out s k out
+left_all h = record { long = refl; room = h; then = λ r last e. e }
 
 -- the next piece of what is left fits
-pub left-room : {whole rest : List ℕ} {k m : Sink} {out left : List ℕ} (s t : List ℕ) → rest ≡ s ++ t
+pub left_room : {whole rest : List ℕ} {k m : Sink} {out left : List ℕ} (s t : List ℕ) → rest ≡ s ++ t
     → PiecesLeft whole k out rest m left → SinkRoom s m left
-left-room {whole} {rest} {k} {m} {out} {left} s t e l =
+left_room {whole} {rest} {k} {m} {out} {left} s t e l =
     let n : length rest ≡ length s + length t = ap length e ∙ length-append s t in
     record { small = omega (arith, l.room.small, n); room = λ w. omega (arith, l.room.room w, n) }
 
 -- where the next piece came, the pieces after it are left
-pub left-on : {whole rest s : List ℕ} {k m r : Sink} {out left last : List ℕ} (t : List ℕ) → rest ≡ s ++ t
+pub left_on : {whole rest s : List ℕ} {k m r : Sink} {out left last : List ℕ} (t : List ℕ) → rest ≡ s ++ t
     → PiecesLeft whole k out rest m left → Emitted s m left r last → PiecesLeft whole k out t r last
-left-on {whole} {rest} {s} {k} {m} {r} {out} {left} {last} t e l h =
+left_on {whole} {rest} {s} {k} {m} {r} {out} {left} {last} t e l h =
     let n : length rest ≡ length s + length t = ap length e ∙ length-append s t in
     record {
       long = long_kept h ∙ l.long;
@@ -75,13 +75,13 @@ left-on {whole} {rest} {s} {k} {m} {r} {out} {left} {last} t e l h =
         small = omega (arith, l.room.small, n, h.at);
         room = λ w. omega (arith, l.room.room (sym h.writes ∙ w), n, h.at, long_kept h);
       };
-      then = λ x y f. l.then x y (rw e (came-both h f));
+      then = λ x y f. l.then x y (rw e (came_both h f));
     }
 
 -- where nothing is left, the whole came
-pub left-none : {whole rest : List ℕ} {k m : Sink} {out left : List ℕ} → rest ≡ [] → PiecesLeft whole k out rest m left
+pub left_none : {whole rest : List ℕ} {k m : Sink} {out left : List ℕ} → rest ≡ [] → PiecesLeft whole k out rest m left
     → Emitted whole k out m left
-left-none {whole} {rest} {k} {m} {out} {left} e l = l.then m left (rw e (none_came m left))
+left_none {whole} {rest} {k} {m} {out} {left} e l = l.then m left (rw e (none_came m left))
 
 -- ---- a loop over the pieces
 
@@ -92,6 +92,6 @@ pub record PiecesAt (whole : List ℕ) (rests : ℕ → List ℕ) (n : ℕ) (k :
   pub rest : PiecesLeft whole k out (rests i) m left
 
 -- before the first turn the whole is left
-pub turn-first : {whole : List ℕ} {k : Sink} {out : List ℕ} (rests : ℕ → List ℕ) (n : ℕ) → whole ≡ rests 0
+pub turn_first : {whole : List ℕ} {k : Sink} {out : List ℕ} (rests : ℕ → List ℕ) (n : ℕ) → whole ≡ rests 0
     → SinkRoom whole k out → PiecesAt whole rests n k out 0 k out
-turn-first {whole} {k} {out} rests n e h = record { inside = omega arith; rest = rw (← e) (left-all h) }
+turn_first {whole} {k} {out} rests n e h = record { inside = omega arith; rest = rw (← e) (left_all h) }

@@ -11,8 +11,8 @@ use lib.Dec.{leb}
 use lib.ListN.{length, replicate, take, length-append, length-replicate}
 use lib.Seq.{sets}
 use Rattle.words.specs.Words.{bytes_of}
-use Rattle.words.proofs.WordLaws.{length-bytes, bytes_low, two-stored}
-use Rattle.words.proofs.Lists.{part-most, take-replicate}
+use Rattle.words.proofs.WordLaws.{length_bytes, bytes_low}
+use Rattle.words.proofs.Lists.{part_most, take_replicate}
 use Rattle.types.specs.inside.tables.Defs.{Readable}
 use Rattle.types.specs.inside.tables.Lent.{TyFits}
 use Rattle.types.specs.inside.templates.Pieces.{shown_in}
@@ -29,15 +29,15 @@ use Rattle.types.specs.declared.tables.member.StructDef.{StructDef}
 use Rattle.types.specs.declared.tables.member.StructKind.{StructKind}
 use Rattle.types.specs.declared.tables.member.StructKind.TheVariants.{Udt, Predefined, Str, Aoi}
 use Rattle.types.specs.declared.templates.sink.Sink.{Sink}
-use Rattle.types.proofs.templates.SinkLaws.{PiecesLeft, left-on}
+use Rattle.types.proofs.templates.SinkLaws.{PiecesLeft, left_on}
 
 -- ---- one member
 
 -- three stores in eight bytes are a member's info
-pub info-bytes : (ids : ℕ → ℕ) (m : Member) {x y : ℕ} → x ≡ info_of m.bit m.count → y ≡ type_in ids m.ty % 65536
+pub info_bytes_lem : (ids : ℕ → ℕ) (m : Member) {x y : ℕ} → x ≡ info_of m.bit m.count → y ≡ type_in ids m.ty % 65536
     → sets (sets (sets (replicate 8 0) 0 (bytes_of 2 x)) 2 (bytes_of 2 y)) 4 (bytes_of 4 m.offset) ≡ info_bytes ids m
 unfolding info_bytes
-info-bytes ids m p q =
+info_bytes_lem ids m p q =
     rw (p, q, bytes_low 2 (type_in ids m.ty)) (whole (info_of m.bit m.count) (type_in ids m.ty) m.offset)
   where
     whole : (a b c : ℕ) → sets (sets (sets (replicate 8 0) 0 (bytes_of 2 a)) 2 (bytes_of 2 b)) 4 (bytes_of 4 c)
@@ -54,9 +54,9 @@ module _ {members : List ℕ} {d : StructDef} {first n i : ℕ} (p : first ≡ d
   row_inside = omega (arith, r.rows)
 
   -- the name in row i lies inside the names
-  pub row-name : (names : List ℕ) → length names ≡ most_names
+  pub row_name : (names : List ℕ) → length names ≡ most_names
       → (name_at members (first + i)).at + (name_at members (first + i)).long ≤ length names
-  row-name names e = rw (p, e) (r.names i (omega arith))
+  row_name names e = rw (p, e) (r.names i (omega arith))
 
   -- the type in row i is an atomic or a structure with a number below 200
   pub row_type : TyFits (member_at members (first + i)).ty
@@ -66,117 +66,120 @@ module _ {members : List ℕ} {d : StructDef} {first n i : ℕ} (p : first ≡ d
 
 module _ (members names : List ℕ) (first n i : ℕ) (h : i < n) where
   -- the parts of the rows that are left are that of the next row, then those of the rows after it
-  pub parts-on : parts_at members names (first + i) (n - i)
+  pub parts_on : parts_at members names (first + i) (n - i)
       ≡ part_at members names (first + i) ∷ parts_at members names (first + (i + 1)) (n - (i + 1))
   unfolding parts_at
-  parts-on =
+  parts_on =
       let e : n - i ≡ suc (n - (i + 1)) = omega arith in
       let f : first + i + 1 ≡ first + (i + 1) = omega arith in
       rw (e, f)
 
   -- the infos of the rows that are left are that of the next row, then those of the rows after it
-  pub infos-on : (ids : ℕ → ℕ) → infos ids (parts_at members names (first + i) (n - i))
+  pub infos_on : (ids : ℕ → ℕ) → infos ids (parts_at members names (first + i) (n - i))
       ≡ info_bytes ids (member_at members (first + i))
       ++ infos ids (parts_at members names (first + (i + 1)) (n - (i + 1)))
   unfolding infos part_at
-  infos-on ids = rw parts-on
+  infos_on ids = rw parts_on
 
   -- the names of the rows that are left are that of the next row with its 0, then those of the rows after it
-  pub names-on : member_names (parts_at members names (first + i) (n - i))
+  pub names_on : member_names (parts_at members names (first + i) (n - i))
       ≡ name_in names (name_at members (first + i))
       ++ (0 ∷ member_names (parts_at members names (first + (i + 1)) (n - (i + 1))))
   unfolding member_names part_at
-  names-on = rw parts-on
+  names_on = rw parts_on
 
   -- after a name its 0 is left
-  pub name-came : {whole out left last : List ℕ} {k m r : Sink} {s : Span} → s ≡ name_at members (first + i)
+  pub name_came : {whole out left last : List ℕ} {k m r : Sink} {s : Span} → s ≡ name_at members (first + i)
       → PiecesLeft whole k out (member_names (parts_at members names (first + i) (n - i))) m left
       → Emitted (name_in names s) m left r last
       → PiecesLeft whole k out (0 ∷ member_names (parts_at members names (first + (i + 1)) (n - (i + 1)))) r last
-  name-came e l c = left-on _ names-on l (rw e at c)
+  name_came e l c = left_on _ names_on l (rw e at c)
 
 -- the member ids that are left are that of the next member, then those of the members after it
-pub ids-on : (n i : ℕ) → i < n → member_ids i (n - i) ≡ bytes_of 2 (0xE000 + i) ++ member_ids (i + 1) (n - (i + 1))
+pub ids_on : (n i : ℕ) → i < n → member_ids i (n - i) ≡ bytes_of 2 (0xE000 + i) ++ member_ids (i + 1) (n - (i + 1))
 unfolding member_ids
-ids-on n i h =
+ids_on n i h =
     let e : n - i ≡ suc (n - (i + 1)) = omega arith in
     rw e
 
 -- ---- nothing is left
 
 -- where no row is left there are no parts
-pub parts-off : (members names : List ℕ) (row n i : ℕ) → n ≤ i → parts_at members names row (n - i) ≡ []
+pub parts_off : (members names : List ℕ) (row n i : ℕ) → n ≤ i → parts_at members names row (n - i) ≡ []
 unfolding parts_at
-parts-off members names row n i h =
+parts_off members names row n i h =
     let e : n - i ≡ 0 = omega arith in
     rw e
 
 -- where no row is left there are no infos
-pub infos-off : (ids : ℕ → ℕ) (members names : List ℕ) (row n i : ℕ) → n ≤ i
+pub infos_off : (ids : ℕ → ℕ) (members names : List ℕ) (row n i : ℕ) → n ≤ i
     → infos ids (parts_at members names row (n - i)) ≡ []
 unfolding infos
-infos-off ids members names row n i h = rw (parts-off members names row n i h)
+infos_off ids members names row n i h = rw (parts_off members names row n i h)
 
 -- where no row is left there are no member names
-pub names-off : (members names : List ℕ) (row n i : ℕ) → n ≤ i → member_names (parts_at members names row (n - i)) ≡ []
+pub names_off : (members names : List ℕ) (row n i : ℕ) → n ≤ i → member_names (parts_at members names row (n - i)) ≡ []
 unfolding member_names
-names-off members names row n i h = rw (parts-off members names row n i h)
+names_off members names row n i h = rw (parts_off members names row n i h)
 
 -- where no member is left there are no member ids
-pub ids-off : (n i : ℕ) → n ≤ i → member_ids i (n - i) ≡ []
+pub ids_off : (n i : ℕ) → n ≤ i → member_ids i (n - i) ≡ []
 unfolding member_ids
-ids-off n i h =
+ids_off n i h =
     let e : n - i ≡ 0 = omega arith in
     rw e
 
 -- ---- what a structure's rows give
 
 -- the infos are the same whatever the names are
-pub infos-any : (ids : ℕ → ℕ) (members names other : List ℕ) (row n : ℕ)
+pub infos_any : (ids : ℕ → ℕ) (members names other : List ℕ) (row n : ℕ)
     → infos ids (parts_at members names row n) ≡ infos ids (parts_at members other row n)
 unfolding infos parts_at part_at
-infos-any ids members names other row zero = refl
-infos-any ids members names other row (suc n) =
-    ap (λ (l : List ℕ). info_bytes ids (member_at members row) ++ l) (infos-any ids members names other (row + 1) n)
+infos_any ids members names other row zero = refl
+infos_any ids members names other row (suc n) =
+    ap (λ (l : List ℕ). info_bytes ids (member_at members row) ++ l) (infos_any ids members names other (row + 1) n)
 
 -- the padding is as many of three zeros as a length lacks to a multiple of 4
-pub zeros-padding : (n : ℕ) → take {A = ℕ} ((n + 3) / 4 * 4 - n) (replicate 3 0) ≡ padding n
+pub zeros_padding : (n : ℕ) → take {A = ℕ} ((n + 3) / 4 * 4 - n) (replicate 3 0) ≡ padding n
 unfolding padding
-zeros-padding n = take-replicate ((n + 3) / 4 * 4 - n) 3 0 (omega arith)
+zeros_padding n = take_replicate ((n + 3) / 4 * 4 - n) 3 0 (omega arith)
 
 -- the padding is as long as what a length lacks to a multiple of 4
-pub padding-count : (n : ℕ) → length (padding n) ≡ (n + 3) / 4 * 4 - n
+pub padding_count : (n : ℕ) → length (padding n) ≡ (n + 3) / 4 * 4 - n
 unfolding padding
-padding-count n = length-replicate ((n + 3) / 4 * 4 - n) 0
+padding_count n = length-replicate ((n + 3) / 4 * 4 - n) 0
 
 -- ---- the shown name
 
 module _ (names : List ℕ) (d : StructDef) where
   -- a UDT is shown by its name and `;n`
-  pub shown-udt : d.kind ≡ Udt → shown_in names d ≡ name_in names d.name ++ semicolon_n
+  pub shown_udt : d.kind ≡ Udt → shown_in names d ≡ name_in names d.name ++ semicolon_n
   unfolding shown_name
-  shown-udt e = rw e
+  shown_udt e = rw e
 
   -- a predefined type is shown by its bare name
-  pub shown-bare : d.kind ≡ Predefined → shown_in names d ≡ name_in names d.name
+  pub shown_bare : d.kind ≡ Predefined → shown_in names d ≡ name_in names d.name
   unfolding shown_name
-  shown-bare e = rw e
+  shown_bare e = rw e
 
   -- an AOI is shown by its name and `;n`
-  pub shown-aoi : d.kind ≡ Aoi → shown_in names d ≡ name_in names d.name ++ semicolon_n
+  pub shown_aoi : d.kind ≡ Aoi → shown_in names d ≡ name_in names d.name ++ semicolon_n
   unfolding shown_name
-  shown-aoi e = rw e
+  shown_aoi e = rw e
 
   module _ (e : d.kind ≡ Str) {user : Bool} (p : user ≡ user_id d.id) where
     -- a string with a user's id is shown by its name and `;n`
-    pub shown-string : user ≡ true → shown_in names d ≡ name_in names d.name ++ semicolon_n
+    pub shown_string : user ≡ true → shown_in names d ≡ name_in names d.name ++ semicolon_n
     unfolding shown_name
-    shown-string q = rw (e, ← p, q)
+    shown_string q = rw (e, ← p, q)
 
     -- a string without a user's id is shown as `ASCIISTRING82`
-    pub shown-ascii : user ≡ false → shown_in names d ≡ ascii_string82
+    pub shown_ascii : user ≡ false → shown_in names d ≡ ascii_string82
     unfolding shown_name
-    shown-ascii q = rw (e, ← p, q)
+    shown_ascii q = rw (e, ← p, q)
+
+-- the name of each kind
+pub ruleset shown = (shown_udt, shown_bare, shown_aoi, shown_string, shown_ascii)
 
 -- ---- ids of a book's types
 
@@ -186,56 +189,57 @@ unfolding user_id
 id_below id h = simp (lt-leb 0x100 id h)
 
 -- an id of 0x100 or above is a user's just where it is at most 0xEFF
-pub id-within : (id : ℕ) → 0x100 ≤ id → leb id 0xEFF ≡ user_id id
+pub id_within : (id : ℕ) → 0x100 ≤ id → leb id 0xEFF ≡ user_id id
 unfolding user_id
-id-within id h = simp (le-leb 0x100 id h)
+id_within id h = simp (le-leb 0x100 id h)
 
 -- ---- how long a template can be
 
 -- n rows have n parts
-pub parts-long : (members names : List ℕ) (row n : ℕ) → length (parts_at members names row n) ≡ n
+pub parts_long : (members names : List ℕ) (row n : ℕ) → length (parts_at members names row n) ≡ n
 unfolding parts_at
-parts-long members names row zero = refl
-parts-long members names row (suc n) = ap suc (parts-long members names (row + 1) n)
+parts_long members names row zero = refl
+parts_long members names row (suc n) = ap suc (parts_long members names (row + 1) n)
 
 -- the infos have eight bytes for each part
-pub infos-long : (ids : ℕ → ℕ) (ps : List Part) → length (infos ids ps) ≡ 8 * length ps
+pub infos_long : (ids : ℕ → ℕ) (ps : List Part) → length (infos ids ps) ≡ 8 * length ps
 unfolding infos info_bytes
-infos-long ids [] = refl
-infos-long ids (p ∷ ps) = simp (length-append, length-bytes) (omega (arith, infos-long ids ps))
+infos_long ids [] = refl
+infos_long ids (p ∷ ps) = simp (length-append, length_bytes) (omega (arith, infos_long ids ps))
 
 -- the member ids have two bytes for each member
-pub ids-long : (i n : ℕ) → length (member_ids i n) ≡ 2 * n
+pub ids_long : (i n : ℕ) → length (member_ids i n) ≡ 2 * n
 unfolding member_ids
-ids-long i zero = refl
-ids-long i (suc n) = simp (length-append, length-bytes) (omega (arith, ids-long (i + 1) n))
+ids_long i zero = refl
+ids_long i (suc n) = simp (length-append, length_bytes) (omega (arith, ids_long (i + 1) n))
 
 -- the padding has at most three bytes
-pub padding-long : (n : ℕ) → length (padding n) ≤ 3
-padding-long n = omega (arith, padding-count n)
+pub padding_long : (n : ℕ) → length (padding n) ≤ 3
+padding_long n = omega (arith, padding_count n)
 
 -- a type is shown by at most 13 bytes more than its name has
-pub shown-long : (k : StructKind) (id : ℕ) (s : List ℕ) → length (shown_name k id s) ≤ length s + 13
+pub shown_long : (k : StructKind) (id : ℕ) (s : List ℕ) → length (shown_name k id s) ≤ length s + 13
 unfolding shown_name
-shown-long Udt id s = simp length-append (omega arith)
-shown-long Predefined id s = omega arith
-shown-long Str id s = by-id (user_id id)
+shown_long Udt id s = simp length-append (omega arith)
+shown_long Predefined id s = omega arith
+shown_long Str id s = by_id (user_id id)
   where
-    by-id : (b : Bool) → length (cond b (s ++ semicolon_n) ascii_string82) ≤ length s + 13
-    by-id true = simp length-append (omega arith)
-    by-id false = omega arith
-shown-long Aoi id s = simp length-append (omega arith)
+    by_id : (b : Bool) → length (cond b (s ++ semicolon_n) ascii_string82) ≤ length s + 13
+    by_id true = simp length-append (omega arith)
+    by_id false = omega arith
+shown_long Aoi id s = simp length-append (omega arith)
 
 -- the names of n rows of at most 32,768 bytes each have, with their zeros, at most 32,769 bytes a row
-pub names-long : (members names : List ℕ) (row n : ℕ) → ((k : ℕ) → k < n → (name_at members (row + k)).long ≤ most_names)
+pub names_long : (members names : List ℕ) (row n : ℕ)
+    → ((k : ℕ) → k < n → (name_at members (row + k)).long ≤ most_names)
     → length (member_names (parts_at members names row n)) ≤ 32769 * n
 unfolding member_names parts_at part_at
-names-long members names row zero h = omega arith
-names-long members names row (suc n) h =
+names_long members names row zero h = omega arith
+names_long members names row (suc n) h =
     let here : (name_at members row).long ≤ most_names = rw add-zero at (h 0 (omega arith)) in
     let rest : length (member_names (parts_at members names (row + 1) n)) ≤ 32769 * n =
-    names-long members names (row + 1) n
+    names_long members names (row + 1) n
     (λ k l.
     let e : row + 1 + k ≡ row + (k + 1) = omega arith in
     rw e (h (k + 1) (omega arith))) in
-    simp length-append (omega (arith, here, rest, part-most names (name_at members row).at (name_at members row).long))
+    simp length-append (omega (arith, here, rest, part_most names (name_at members row).at (name_at members row).long))

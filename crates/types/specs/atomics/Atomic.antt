@@ -1,6 +1,7 @@
 -- The atomic types (document 01, "Atomic types"): codes, sizes and names in the document's order, and the atomic of a
 -- name or of a code.
-use Rattle.std.specs.Prelude.{ℕ, ◌-◌, ◌<◌, Bool, cond, not, ◌&&◌, List, [], ◌∷◌, ◌++◌, ◌≡◌, eqb, leb, length, get_or, replicate}
+use Rattle.std.specs.Prelude.{ℕ, ◌-◌, ◌<◌, Bool, cond, not, ◌&&◌, List, [], ◌∷◌, ◌++◌, ◌≡◌, eqb, leb, length, get_or}
+use Rattle.std.specs.Prelude.{replicate}
 use Rattle.types.specs.book.Names.{same_name}
 use Rattle.types.specs.refusals.Said.{Said, done, refused}
 use Rattle.types.specs.declared.atomics.atomic.Atomic.{Atomic}

@@ -44,7 +44,8 @@ bool_dim dim = declared_as BOOL dim
 
 -- what a case opens to compute one step
 unfoldable pub step : Cursor → Decl → Placed
-unfolding placed access_ok is_bool place_bool place_other opened next_bit closed start_of member_end align_up times declared_as
+unfolding placed access_ok is_bool place_bool place_other opened next_bit closed start_of member_end align_up times
+    declared_as
 step c d = placed c d
 
 unfoldable pub udt : List Decl → LaidOut
@@ -82,83 +83,83 @@ visible l = visible_of (parts_if l)
 
 -- ---- UDT
 
-pub no-members : size_if (udt []) ≡ some 0
+pub no_members : size_if (udt []) ≡ some 0
 unfolding udt
-no-members = refl
+no_members = refl
 
 -- eight BOOLs: one host
-pub eight-bools : hosts_at (udt (replicate 8 bool)) ≡ 0 ∷ []
+pub eight_bools : hosts_at (udt (replicate 8 bool)) ≡ 0 ∷ []
 unfolding udt hosts_of
-eight-bools = refl
+eight_bools = refl
 
 -- nine: hosts at 0 and 1, 11 members, size 4
-pub nine-bools : hosts_at (udt (replicate 9 bool)) ≡ 0 ∷ 1 ∷ []
+pub nine_bools : hosts_at (udt (replicate 9 bool)) ≡ 0 ∷ 1 ∷ []
 unfolding udt hosts_of
-nine-bools = refl
+nine_bools = refl
 
-pub nine-members : length (parts_if (udt (replicate 9 bool))) ≡ 11
+pub nine_members : length (parts_if (udt (replicate 9 bool))) ≡ 11
 unfolding udt
-nine-members = refl
+nine_members = refl
 
-pub nine-size : size_if (udt (replicate 9 bool)) ≡ some 4
+pub nine_size : size_if (udt (replicate 9 bool)) ≡ some 4
 unfolding udt
-nine-size = refl
+nine_size = refl
 
 -- BOOL, SINT, BOOL: hosts at 0 and 2, SINT at 1
-pub between-hosts : hosts_at (udt (bool ∷ sint ∷ bool ∷ [])) ≡ 0 ∷ 2 ∷ []
+pub between_hosts : hosts_at (udt (bool ∷ sint ∷ bool ∷ [])) ≡ 0 ∷ 2 ∷ []
 unfolding udt hosts_of
-between-hosts = refl
+between_hosts = refl
 
 pub between : visible (udt (bool ∷ sint ∷ bool ∷ [])) ≡ bool_at bool 0 0 ∷ other_at sint 1 ∷ bool_at bool 2 0 ∷ []
 unfolding udt visible_of
 between = refl
 
 -- BOOL dim 32: one DWORD
-pub dim-32 : visible (udt (bool_dim 32 ∷ [])) ≡ other_at (declared_as DWord 1) 0 ∷ []
+pub dim_32 : visible (udt (bool_dim 32 ∷ [])) ≡ other_at (declared_as DWord 1) 0 ∷ []
 unfolding udt visible_of
-dim-32 = refl
+dim_32 = refl
 
 -- dim 33: two, size 8
-pub dim-33 : visible (udt (bool_dim 33 ∷ [])) ≡ other_at (declared_as DWord 2) 0 ∷ []
+pub dim_33 : visible (udt (bool_dim 33 ∷ [])) ≡ other_at (declared_as DWord 2) 0 ∷ []
 unfolding udt visible_of
-dim-33 = refl
+dim_33 = refl
 
-pub dim-33-size : size_if (udt (bool_dim 33 ∷ [])) ≡ some 8
+pub dim_33_size : size_if (udt (bool_dim 33 ∷ [])) ≡ some 8
 unfolding udt
-dim-33-size = refl
+dim_33_size = refl
 
 -- ---- AOI
 
 -- 30 BOOLs: one host, last at byte 3 bit 7
-pub thirty-bools : hosts_at (aoi (replicate 30 bool)) ≡ 0 ∷ []
+pub thirty_bools : hosts_at (aoi (replicate 30 bool)) ≡ 0 ∷ []
 unfolding aoi hosts_of
-thirty-bools = refl
+thirty_bools = refl
 
-pub thirty-last : get_last? (visible (aoi (replicate 30 bool))) ≡ some (bool_at bool 3 7)
+pub thirty_last : get_last? (visible (aoi (replicate 30 bool))) ≡ some (bool_at bool 3 7)
 unfolding aoi visible_of
-thirty-last = refl
+thirty_last = refl
 
 -- 31: two, last at byte 4 bit 0
-pub thirty-one-bools : hosts_at (aoi (replicate 31 bool)) ≡ 0 ∷ 4 ∷ []
+pub thirty_one_bools : hosts_at (aoi (replicate 31 bool)) ≡ 0 ∷ 4 ∷ []
 unfolding aoi hosts_of
-thirty-one-bools = refl
+thirty_one_bools = refl
 
-pub thirty-one-last : get_last? (visible (aoi (replicate 31 bool))) ≡ some (bool_at bool 4 0)
+pub thirty_one_last : get_last? (visible (aoi (replicate 31 bool))) ≡ some (bool_at bool 4 0)
 unfolding aoi visible_of
-thirty-one-last = refl
+thirty_one_last = refl
 
 -- ---- strings
 
 -- capacity 82
-pub string-size : string_size 82 ≡ 88
+pub string_size_lem : string_size 82 ≡ 88
 unfolding string_size align_up
-string-size = refl
+string_size_lem = refl
 
 -- ---- fold of one zero byte
 
-pub zero-byte : fold_from 0x1D0F (0 ∷ []) ≡ 0xE1C5
+pub zero_byte : fold_from 0x1D0F (0 ∷ []) ≡ 0xE1C5
 unfolding fold_from
-zero-byte = refl
+zero_byte = refl
 
 -- ---- the structure Chan (Good BOOL, Live BOOL, Level INT) of the program's example
 
@@ -174,7 +175,8 @@ chan =
       handle = 0;
       size = 4;
       kind = Udt;
-      parts = record { name = replicate 10 90 ++ (67 ∷ 104 ∷ 97 ∷ 110 ∷ 48 ∷ []); member = chan_member SInt 0 None true }
+      parts =
+          record { name = replicate 10 90 ++ (67 ∷ 104 ∷ 97 ∷ 110 ∷ 48 ∷ []); member = chan_member SInt 0 None true }
           ∷ record { name = 71 ∷ 111 ∷ 111 ∷ 100 ∷ []; member = chan_member BOOL 0 (At 0) false }
           ∷ record { name = 76 ∷ 105 ∷ 118 ∷ 101 ∷ []; member = chan_member BOOL 0 (At 1) false }
           ∷ record { name = 76 ∷ 101 ∷ 118 ∷ 101 ∷ 108 ∷ []; member = chan_member Int 2 None false }
@@ -182,10 +184,10 @@ chan =
     }
 
 -- no structure is embedded, so no id and no size matters
-pub chan-template : (ids : ℕ → ℕ) → length (template_of ids chan) ≡ 80
+pub chan_template : (ids : ℕ → ℕ) → length (template_of ids chan) ≡ 80
 unfolding template_of front_of infos info_bytes bytes_of user_id shown_name member_names padding member_ids code_of
-chan-template ids = refl
+chan_template ids = refl
 
-pub chan-waste : (sizes : ℕ → ℕ) → waste_of sizes chan ≡ 14
+pub chan_waste : (sizes : ℕ → ℕ) → waste_of sizes chan ≡ 14
 unfolding waste_of visible_bits size_of times
-chan-waste sizes = refl
+chan_waste sizes = refl

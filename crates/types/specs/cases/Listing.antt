@@ -34,51 +34,51 @@ unfolding member_line line digits digits_in name_of
 shown structs number m name = member_line number (printed_type structs m.ty) m name
 
 -- `type Chan 256 4 4 80 14`
-pub chan-type : type_line chan 256 4 4 80 14
+pub chan_type : type_line chan 256 4 4 80 14
     ≡
     116 ∷ 121 ∷ 112 ∷ 101 ∷ 32 ∷ 67 ∷ 104 ∷ 97 ∷ 110 ∷ 32
     ∷ 50 ∷ 53 ∷ 54 ∷ 32 ∷ 52 ∷ 32 ∷ 52 ∷ 32 ∷ 56 ∷ 48 ∷ 32 ∷ 49 ∷ 52 ∷ 10 ∷ []
 unfolding type_line line digits digits_in
-chan-type = refl
+chan_type = refl
 
 -- `0 h SINT 0 0 - ZZZZZZZZZZChan0`
-pub chan-host : (structs : ℕ → List ℕ) → shown structs 0 (member SInt 0 None true) (host_name chan 0)
+pub chan_host : (structs : ℕ → List ℕ) → shown structs 0 (member SInt 0 None true) (host_name chan 0)
     ≡
     48 ∷ 32 ∷ 104 ∷ 32 ∷ 83 ∷ 73 ∷ 78 ∷ 84 ∷ 32 ∷ 48 ∷ 32 ∷ 48 ∷ 32 ∷ 45 ∷ 32
     ∷ 90 ∷ 90 ∷ 90 ∷ 90 ∷ 90 ∷ 90 ∷ 90 ∷ 90 ∷ 90 ∷ 90 ∷ 67 ∷ 104 ∷ 97 ∷ 110 ∷ 48 ∷ 10 ∷ []
 unfolding shown host_name digits digits_in
-chan-host structs = refl
+chan_host structs = refl
 
 -- `1 v BOOL 0 0 0 Good`
-pub chan-good : (structs : ℕ → List ℕ) → shown structs 1 (member BOOL 0 (At 0) false) good
+pub chan_good : (structs : ℕ → List ℕ) → shown structs 1 (member BOOL 0 (At 0) false) good
     ≡
     49 ∷ 32 ∷ 118 ∷ 32 ∷ 66 ∷ 79 ∷ 79 ∷ 76 ∷ 32 ∷ 48 ∷ 32 ∷ 48 ∷ 32 ∷ 48 ∷ 32
     ∷ 71 ∷ 111 ∷ 111 ∷ 100 ∷ 10 ∷ []
 unfolding shown
-chan-good structs = refl
+chan_good structs = refl
 
 -- `2 v BOOL 0 0 1 Live`
-pub chan-live : (structs : ℕ → List ℕ) → shown structs 2 (member BOOL 0 (At 1) false) live
+pub chan_live : (structs : ℕ → List ℕ) → shown structs 2 (member BOOL 0 (At 1) false) live
     ≡
     50 ∷ 32 ∷ 118 ∷ 32 ∷ 66 ∷ 79 ∷ 79 ∷ 76 ∷ 32 ∷ 48 ∷ 32 ∷ 48 ∷ 32 ∷ 49 ∷ 32
     ∷ 76 ∷ 105 ∷ 118 ∷ 101 ∷ 10 ∷ []
 unfolding shown
-chan-live structs = refl
+chan_live structs = refl
 
 -- `3 v INT 0 2 - Level`
-pub chan-level : (structs : ℕ → List ℕ) → shown structs 3 (member Int 2 None false) level
+pub chan_level : (structs : ℕ → List ℕ) → shown structs 3 (member Int 2 None false) level
     ≡
     51 ∷ 32 ∷ 118 ∷ 32 ∷ 73 ∷ 78 ∷ 84 ∷ 32 ∷ 48 ∷ 32 ∷ 50 ∷ 32 ∷ 45 ∷ 32
     ∷ 76 ∷ 101 ∷ 118 ∷ 101 ∷ 108 ∷ 10 ∷ []
 unfolding shown
-chan-level structs = refl
+chan_level structs = refl
 
 -- `refused 10 0`
-pub refused-10 : refused_line 10 0
+pub refused_10 : refused_line 10 0
     ≡
     114 ∷ 101 ∷ 102 ∷ 117 ∷ 115 ∷ 101 ∷ 100 ∷ 32 ∷ 49 ∷ 48 ∷ 32 ∷ 48 ∷ 10 ∷ []
 unfolding refused_line line digits digits_in
-refused-10 = refl
+refused_10 = refl
 
 -- the largest number of 64 bits
 pub most : digits 18446744073709551615

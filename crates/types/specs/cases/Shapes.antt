@@ -11,27 +11,28 @@ use Rattle.types.specs.declared.tables.member.Ty.TheVariants.{Atomic}
 
 -- what a case opens to compute a shape
 unfoldable pub shaped : List ℕ → AtomicType → List ℕ → ShapeSaid
-unfolding shape_of plain_shape bool_shape bool_tag within product lengths_ok none_zero most_lengths is_bool align_up size_of
+unfolding shape_of plain_shape bool_shape bool_tag within product lengths_ok none_zero most_lengths is_bool align_up
+    size_of
 shaped types a ns = shape_of types (Atomic a) ns
 
 -- BOOL with length 33: 64 BOOLs in 2 DWORDs
-pub bools-33 : (types : List ℕ) → shaped types BOOL (33 ∷ [])
+pub bools_33 : (types : List ℕ) → shaped types BOOL (33 ∷ [])
     ≡ given (record { ty = Atomic DWord; lengths = 64 ∷ 0 ∷ 0 ∷ []; used = 1; elements = 2; bytes = 8 })
 unfolding shaped
-bools-33 types = refl
+bools_33 types = refl
 
 -- DINT[2, 3]
-pub dints-2-3 : (types : List ℕ) → shaped types DInt (2 ∷ 3 ∷ [])
+pub dints_2_3 : (types : List ℕ) → shaped types DInt (2 ∷ 3 ∷ [])
     ≡ given (record { ty = Atomic DInt; lengths = 2 ∷ 3 ∷ 0 ∷ []; used = 2; elements = 6; bytes = 24 })
 unfolding shaped
-dints-2-3 types = refl
+dints_2_3 types = refl
 
 -- SINT with length 2^26 + 1
-pub sints-over : (types : List ℕ) → shaped types SInt ((2 ^ 26 + 1) ∷ []) ≡ refused_shape 24 0
+pub sints_over : (types : List ℕ) → shaped types SInt ((2 ^ 26 + 1) ∷ []) ≡ refused_shape 24 0
 unfolding shaped
-sints-over types = refl
+sints_over types = refl
 
 -- the symbol type of that DINT[2, 3]
-pub symbol-2-3 : (ids : ℕ → ℕ) → symbol_of ids (Atomic DInt) 2 ≡ 0x40C4
+pub symbol_2_3 : (ids : ℕ → ℕ) → symbol_of ids (Atomic DInt) 2 ≡ 0x40C4
 unfolding code_of
-symbol-2-3 ids = refl
+symbol_2_3 ids = refl

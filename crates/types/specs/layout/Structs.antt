@@ -1,6 +1,7 @@
 -- Whole layouts (document 01, "Layout"): a UDT's and an AOI's parts from their declared members, a string's and the
 -- predefined types' parts, and their sizes.
-use Rattle.std.specs.Prelude.{ℕ, zero, suc, ◌+◌, ◌-◌, ◌*◌, ◌/◌, ◌%◌, Bool, true, false, cond, List, [], ◌∷◌, ◌++◌, length}
+use Rattle.std.specs.Prelude.{ℕ, zero, suc, ◌+◌, ◌-◌, ◌*◌, ◌/◌, ◌%◌, Bool, true, false, cond, List, [], ◌∷◌, ◌++◌}
+use Rattle.std.specs.Prelude.{length}
 use Rattle.types.specs.layout.HostNames.{host_name, bit_host_name}
 use Rattle.types.specs.layout.Placing.{placed, is_bool, align_up}
 use Rattle.types.specs.tables.Defs.{Part, name_in}

@@ -1,6 +1,7 @@
 -- Tag shapes (document 01, "Tag shape"): up to three lengths, none 0; BOOL with a length has one only, rounded up to
 -- 32s, stored as DWORDs; and the refusals 15, 23 and 24, in this order.
-use Rattle.std.specs.Prelude.{ℕ, ◌+◌, ◌-◌, ◌*◌, ◌/◌, ◌^◌, Bool, true, cond, not, ◌&&◌, List, [], ◌∷◌, eqb, leb, ltb, length, get_or}
+use Rattle.std.specs.Prelude.{ℕ, ◌+◌, ◌-◌, ◌*◌, ◌/◌, ◌^◌, Bool, true, cond, not, ◌&&◌, List, [], ◌∷◌, eqb, leb, ltb}
+use Rattle.std.specs.Prelude.{length, get_or}
 use Rattle.types.specs.layout.Placing.{most_size, is_bool, align_up}
 use Rattle.types.specs.refusals.Fit.{fit_says}
 use Rattle.types.specs.refusals.Said.{Said, done, why}
@@ -9,7 +10,6 @@ use Rattle.types.specs.tables.Sizes.{size_in, sizes_in}
 use Rattle.types.specs.tables.There.{is_there}
 use Rattle.types.specs.tables.TypeWord.{type_in, ids_in}
 use Rattle.types.specs.declared.atomics.atomic.Atomic.TheVariants.{Bool as BOOL, DWord}
-use Rattle.types.specs.declared.refusals.fit.Fit.TheVariants.{Refused}
 use Rattle.types.specs.declared.shape.tags.Shape.{Shape}
 use Rattle.types.specs.declared.shape.tags.Shaped.{Shaped}
 use Rattle.types.specs.declared.shape.tags.Symbol.{Symbol}

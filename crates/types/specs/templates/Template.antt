@@ -1,6 +1,7 @@
 -- Templates (document 01, "Template and handle"): a template's bytes, its length, also in a controller's words, and
 -- which types have one.
-use Rattle.std.specs.Prelude.{ℕ, zero, suc, ◌+◌, ◌-◌, ◌*◌, ◌/◌, ◌%◌, Bool, false, cond, not, ◌&&◌, List, [], ◌∷◌, ◌++◌, eqb, leb, ltb, length, replicate}
+use Rattle.std.specs.Prelude.{ℕ, zero, suc, ◌+◌, ◌-◌, ◌*◌, ◌/◌, ◌%◌, Bool, false, cond, not, ◌&&◌, List, [], ◌∷◌, ◌++◌}
+use Rattle.std.specs.Prelude.{eqb, leb, ltb, length, replicate}
 use Rattle.words.specs.Words.{bytes_of}
 use Rattle.types.specs.refusals.Said.{Said, done, refused}
 use Rattle.types.specs.tables.Defs.{Part, Def, def_of}

@@ -39,7 +39,7 @@ fn string_ok(e: TypeEntry) -> bool
 
 // A type of the book whose turn it is: its number there, its entry, and where its members' entries begin; so much of
 // the tables is used.
-#[derive(Drop)]
+#[derive(Clone, Copy)]
 pub struct Waiting {
     pub number: u32,
     pub entry: TypeEntry,

@@ -10,7 +10,7 @@ use crate::book::names::{good_name, lower, same_name};
 use words::{wide, wide8};
 
 // A type's members are good, or the first that is not: name outside the rule, name twice, local outside an AOI.
-#[derive(Drop)]
+#[derive(Clone, Copy)]
 pub enum Checked {
     Good,
     NameWrong,

@@ -10,7 +10,7 @@ use crate::tables::lent::{TYPE_WORDS, TypeTable};
 use words::wide16;
 
 // An id for a type, or why there is none.
-#[derive(Drop)]
+#[derive(Clone, Copy)]
 pub enum Picked {
     Free(u16),
     OutsideRange,

@@ -26,7 +26,7 @@ use words::wide;
 
 // A type of the book that is added: its number there, where its members' entries begin, how many there are, whether it
 // is an AOI, and its id; so much of the tables is used before it.
-#[derive(Drop)]
+#[derive(Clone, Copy)]
 pub struct NewType {
     pub number: u32,
     pub at: usize,

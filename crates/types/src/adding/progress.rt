@@ -3,7 +3,7 @@ use crate::adding::used::Used;
 use crate::refusals::refusal::Refusal;
 
 // A type waits, is refused, or was added, and so much is used then.
-#[derive(Drop)]
+#[derive(Clone, Copy)]
 pub enum Progress {
     Waits,
     Refused(Refusal),

@@ -7,7 +7,7 @@ ghost use Rattle.types.specs.tables.Limits.{most_types, most_members, most_names
 use crate::tables::lent::{MEMBERS, NAME_BYTES, TYPES};
 
 // So many types, members and bytes of names stand in the tables.
-#[derive(Drop)]
+#[derive(Clone, Copy)]
 pub struct Used {
     pub types: usize,
     pub members: usize,

@@ -7,7 +7,7 @@ ghost use Rattle.types.specs.inside.atomics.Atomic.{table_rows};
 
 use crate::book::names::same_name;
 
-#[derive(Drop)]
+#[derive(Clone, Copy)]
 pub enum Atomic {
     Bool,
     SInt,
@@ -27,11 +27,11 @@ pub enum Atomic {
 }
 
 // A row of the table: code, size, the name's length, and the name with zeros after it.
-#[derive(Drop)]
+#[derive(Clone, Copy)]
 pub struct AtomicRow(pub u8, pub u8, pub u8, pub [u8; 5]);
 
 // An atomic, where one was found.
-#[derive(Drop)]
+#[derive(Clone, Copy)]
 pub enum FoundAtomic {
     Is(Atomic),
     Nothing,
@@ -86,6 +86,7 @@ impl Atomic {
     }
 
     // The atomic at a place; BOOL past the last.
+    #[tactic(auto, unfolding(crate::specs::atomics::Atomic::code_at, crate::specs::atomics::Atomic::code_of))]
     pub fn at(i: usize) -> Atomic
         ensures { code_of result ≡ code_at i }
     {
@@ -190,6 +191,7 @@ impl Atomic {
 }
 
 // An atomic's bytes, and whether it is a bit string, by a match: values ask at every leaf, where the table is dearer.
+#[tactic(auto, unfolding(crate::specs::atomics::Atomic::size_of))]
 pub fn size_of(a: Atomic) -> usize
     ensures { result ≡ size_of a }
 {
@@ -212,6 +214,7 @@ pub fn size_of(a: Atomic) -> usize
     }
 }
 
+#[tactic(auto, unfolding(crate::specs::atomics::Atomic::bit_string))]
 pub fn is_bits(a: Atomic) -> bool
     ensures { result ≡ bit_string a }
 {

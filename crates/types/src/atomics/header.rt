@@ -11,14 +11,14 @@ use crate::tables::there::is_there;
 use words::{high8, low8};
 
 // The first `long` of these bytes; those after them are 0.
-#[derive(Drop)]
+#[derive(Clone, Copy)]
 pub struct Header {
     pub bytes: [u8; 4],
     pub long: usize,
 }
 
 // A type's header, or why there is none; then it has no bytes.
-#[derive(Drop)]
+#[derive(Clone, Copy)]
 pub struct Headed {
     pub fit: Fit,
     pub header: Header,

@@ -18,7 +18,7 @@ use crate::tables::member::Ty;
 use words::wide;
 
 // A type, where one was found.
-#[derive(Drop)]
+#[derive(Clone, Copy)]
 pub enum FoundTy {
     Is(Ty),
     Nothing,

@@ -9,7 +9,7 @@ use crate::tables::member::Span;
 use words::{load8, load16, load32, wide, wide8};
 
 // A type's entry. Its fields stand as the book has them.
-#[derive(Drop)]
+#[derive(Clone, Copy)]
 pub struct TypeEntry {
     pub name: Span,
     pub flags: u8,
@@ -20,7 +20,7 @@ pub struct TypeEntry {
 }
 
 // A member's entry, with where its name and its type's name stand.
-#[derive(Drop)]
+#[derive(Clone, Copy)]
 pub struct MemberEntry {
     pub name: Span,
     pub ty: Span,

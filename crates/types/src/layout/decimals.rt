@@ -7,7 +7,7 @@ ghost use Rattle.types.specs.inside.layout.Decimals.{Spelt, TwoDigits};
 pub const DIGITS: usize = 20;
 
 // A number's digits: these bytes from `from` on.
-#[derive(Drop)]
+#[derive(Clone, Copy)]
 pub struct Decimal {
     pub bytes: [u8; 20],
     pub from: usize,

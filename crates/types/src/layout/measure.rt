@@ -11,7 +11,7 @@ use crate::layout::placing::{Cursor, Decl, Placed, place};
 use crate::tables::lent::TypeTable;
 
 // How far a layout came, and how many bytes its names have; or which of the two refusals it meets first.
-#[derive(Drop)]
+#[derive(Clone, Copy)]
 pub enum Measured {
     Came(Cursor, u32),
     AccessWrong,

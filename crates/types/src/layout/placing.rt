@@ -12,7 +12,7 @@ use words::wide64;
 // The most bytes of a member's end.
 pub const MOST_SIZE: u64 = 67108864;
 
-#[derive(Drop)]
+#[derive(Clone, Copy)]
 pub enum End {
     At(u32),
     Over,
@@ -20,7 +20,7 @@ pub enum End {
 
 // Where the next BOOL goes: no host is open; bit `1` of the host at byte `0` is the next; or, in an AOI,
 // all BOOLs share the hosts at its start, and so many have come before.
-#[derive(Drop)]
+#[derive(Clone, Copy)]
 pub enum Host {
     Closed,
     Open(u32, u8),
@@ -29,7 +29,7 @@ pub enum Host {
 
 // A declared member whose type was found: the type's size and alignment, its count (a BOOL with a dim is
 // DWORDs by now), and where its name stands in the book.
-#[derive(Drop)]
+#[derive(Clone, Copy)]
 pub struct Decl {
     pub name: Span,
     pub ty: Ty,
@@ -41,7 +41,7 @@ pub struct Decl {
 }
 
 // How far a layout has come: the current offset, the host, and the count of members so far.
-#[derive(Drop)]
+#[derive(Clone, Copy)]
 pub struct Cursor {
     pub offset: u32,
     pub host: Host,
@@ -50,7 +50,7 @@ pub struct Cursor {
 
 // What placing a member gives: a new hidden host and the member, or the member alone, and how far the
 // layout has then come; or that it cannot be placed.
-#[derive(Drop)]
+#[derive(Clone, Copy)]
 pub enum Placed {
     Hosted(Member, Member, Cursor),
     One(Member, Cursor),
@@ -92,6 +92,7 @@ fn access_ok(access: u8) -> bool
     access == 3
 }
 
+#[tactic(auto, unfolding(crate::specs::layout::Placing::is_bool))]
 pub fn is_bool(ty: Ty) -> bool
     ensures { result ≡ is_bool ty }
 {
@@ -166,6 +167,7 @@ fn next_bit(c: Cursor, d: Decl, byte: u32, bit: u8, host: Host) -> Placed
 }
 
 // A BOOL takes the next bit of the open host; with no host, or eight bits used, one opens.
+#[tactic(auto, unfolding(crate::specs::layout::Placing::place_bool))]
 fn place_bool(c: Cursor, d: Decl) -> Placed
     requires { Able c d }
     ensures { result ≡ place_bool c.host c d }
@@ -188,6 +190,7 @@ fn place_bool(c: Cursor, d: Decl) -> Placed
 }
 
 // The host after any other member: none is open. An AOI's hosts are shared to the end.
+#[tactic(auto, unfolding(crate::specs::layout::Placing::closed))]
 fn close(host: Host) -> Host
     ensures { result ≡ closed host }
 {

@@ -19,7 +19,7 @@ use crate::tables::lent::{MemberTable, NameTable, TypeTable, put_bytes};
 use crate::tables::member::StructKind;
 
 // The ids that the caller gives for the four predefined types.
-#[derive(Drop)]
+#[derive(Clone, Copy)]
 pub struct PredefinedIds {
     pub timer: u16,
     pub counter: u16,
@@ -120,8 +120,8 @@ pub fn put_predefined(
     names: &mut NameTable,
     ids: PredefinedIds,
 ) -> Used
-    requires types_value { (types.old ≡ no_types) × ((members.old ≡ no_members) × (names.old ≡ no_names)) }
-    requires ids_value { predefined_ids ids ≡ true }
+    requires zeroed { (types.old ≡ no_types) × ((members.old ≡ no_members) × (names.old ≡ no_names)) }
+    requires apart { predefined_ids ids ≡ true }
     ensures { Stands (predefined ids)
         types.new members.new names.new result }
 {

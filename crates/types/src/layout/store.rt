@@ -77,7 +77,7 @@ fn put_host(
 
 // Where the next member goes: the cursor, the row, and the place of its name. Nothing is left to store
 // where the layout was refused.
-#[derive(Drop)]
+#[derive(Clone, Copy)]
 pub enum StoreNext {
     Next(Cursor, usize, usize),
     Stop,

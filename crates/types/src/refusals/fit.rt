@@ -2,7 +2,7 @@
 use crate::refusals::refusal::Refusal;
 
 // Whether there is what was asked for.
-#[derive(Drop)]
+#[derive(Clone, Copy)]
 pub enum Fit {
     Fits,
     Refused(Refusal),

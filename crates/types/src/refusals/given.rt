@@ -6,7 +6,7 @@ use crate::refusals::refusal::Refusal;
 use words::copy;
 
 // So many bytes, or why there are none.
-#[derive(Drop)]
+#[derive(Clone, Copy)]
 pub enum Wrote {
     Length(u32),
     Refused(Refusal),

@@ -16,7 +16,7 @@ use crate::tables::lent::{
 use words::load16;
 
 // So many types stand in the tables, or the book was refused.
-#[derive(Drop)]
+#[derive(Clone, Copy)]
 pub enum Built {
     Types(u32),
     Refused(Refusal),

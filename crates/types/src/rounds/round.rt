@@ -9,7 +9,7 @@ use crate::rounds::turn::take_turn;
 use crate::tables::lent::{MemberTable, NameTable, TypeTable};
 
 // A type was refused, or so much of the tables is used after the round, and so many types still wait.
-#[derive(Drop)]
+#[derive(Clone, Copy)]
 pub enum Round {
     Refused(Refusal),
     Went(Used, usize),

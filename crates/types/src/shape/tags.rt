@@ -29,7 +29,7 @@ const MOST_LENGTHS: usize = 3;
 
 // The stored type, the lengths in use and zeros after them, how many of them are in use, the stored elements
 // and their bytes. A BOOL array has its BOOLs as the length, and DWORDs as elements.
-#[derive(Drop)]
+#[derive(Clone, Copy)]
 pub struct Shape {
     pub ty: Ty,
     pub lengths: [u32; 3],
@@ -38,23 +38,22 @@ pub struct Shape {
     pub bytes: u64,
 }
 
-// A tag's shape, or why there is none; then the shape has zeros. (The array stands beside the enum: one that
-// holds an array is not covered.)
-#[derive(Drop)]
+// A tag's shape, or why there is none; then the shape has zeros. (The array stands beside the enum.)
+#[derive(Clone, Copy)]
 pub struct Shaped {
     pub fit: Fit,
     pub shape: Shape,
 }
 
 // A symbol type, or why there is none.
-#[derive(Drop)]
+#[derive(Clone, Copy)]
 pub enum Symbol {
     Type(u16),
     Refused(Refusal),
 }
 
 // A product, where 64 bits hold it.
-#[derive(Drop)]
+#[derive(Clone, Copy)]
 enum Product {
     Is(u64),
     Over,

@@ -4,7 +4,8 @@
 ghost use Rattle.std.specs.Prelude.{◌≡◌, ◌+◌, ◌<◌, ◌≤◌, ◌%◌, ◌*◌, length};
 ghost use Rattle.std.proofs.lemmas.List.Edits.{sets};
 ghost use Rattle.types.specs.inside.tables.Lent.{TyFits};
-ghost use Rattle.types.specs.tables.Lent.{ty_word, ty_of_word, bit_word, bit_of_word, flags_of, kind_word, kind_of_word};
+ghost use Rattle.types.specs.tables.Lent.{ty_word, ty_of_word, bit_word, bit_of_word, flags_of, kind_word};
+ghost use Rattle.types.specs.tables.Lent.{kind_of_word};
 ghost use Rattle.types.specs.tables.Lent.{member_row, member_at, name_at, type_row, type_at};
 ghost use Rattle.types.specs.tables.Limits.{most_types, most_members, most_names};
 ghost use Rattle.types.specs.tables.Registry.{no_types, no_members, no_names};
@@ -126,6 +127,7 @@ fn kind_word(kind: StructKind) -> u32
     }
 }
 
+#[tactic(auto, unfolding(crate::specs::tables::Lent::kind_of_word))]
 fn kind_of(w: u32) -> StructKind
     ensures { result ≡ kind_of_word w }
 {

@@ -2,28 +2,28 @@
 use crate::atomics::atomic::Atomic;
 
 // A member's type: an atomic, or the number of an earlier structure.
-#[derive(Drop)]
+#[derive(Clone, Copy)]
 pub enum Ty {
     Atomic(Atomic),
     Struct(usize),
 }
 
 // A BOOL member's bit in the byte at its offset.
-#[derive(Drop)]
+#[derive(Clone, Copy)]
 pub enum Bit {
     None,
     At(u8),
 }
 
 // Where a name stands: `long` bytes from `at` on.
-#[derive(Drop)]
+#[derive(Clone, Copy)]
 pub struct Span {
     pub at: u32,
     pub long: u32,
 }
 
 // A member of a structure, but for its name. A count of 0 is one element.
-#[derive(Drop)]
+#[derive(Clone, Copy)]
 pub struct Member {
     pub ty: Ty,
     pub count: u32,
@@ -34,7 +34,7 @@ pub struct Member {
     pub access: u8,
 }
 
-#[derive(Drop)]
+#[derive(Clone, Copy)]
 pub enum StructKind {
     Udt,
     Predefined,
@@ -43,7 +43,7 @@ pub enum StructKind {
 }
 
 // A structure: its name, id, handle and size, and which rows of the members are its own.
-#[derive(Drop)]
+#[derive(Clone, Copy)]
 pub struct StructDef {
     pub name: Span,
     pub id: u16,

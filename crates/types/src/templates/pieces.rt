@@ -98,6 +98,7 @@ pub fn user_id(id: u16) -> bool
 }
 
 // The type's name as a template has it.
+#[tactic(auto, using(crate::proofs::templates::TemplateLaws::shown))]
 pub fn emit_shown(names: &[u8], d: StructDef, sink: Sink, out: &mut [u8]) -> Sink
     requires { (d.name.at + d.name.long ≤ length names.now)
         × SinkRoom (shown_in names.now d) sink out.old }
@@ -124,8 +125,7 @@ pub fn emit_shown(names: &[u8], d: StructDef, sink: Sink, out: &mut [u8]) -> Sin
     }
 }
 
-// Each member's name and 0. The loop begins as that of `emit_infos`: there are no function values to hand one loop what
-// it does at a row.
+// Each member's name and 0. The loop begins as that of `emit_infos`.
 pub fn emit_names(
     members: &MemberTable,
     names: &[u8],

@@ -7,7 +7,7 @@ use crate::templates::handle::fold_handle;
 use words::copy;
 
 // How many bytes came, the fold over them, and whether they are stored.
-#[derive(Drop)]
+#[derive(Clone, Copy)]
 pub struct Sink {
     pub at: usize,
     pub fold: u16,

@@ -14,7 +14,7 @@ use crate::tables::there::is_there;
 use words::{wide, wide64};
 
 // So many bits are waste, or why there is no saying.
-#[derive(Drop)]
+#[derive(Clone, Copy)]
 pub enum Wasted {
     Bits(u64),
     Refused(Refusal),

@@ -12,7 +12,7 @@ use Rattle.values.specs.normal_image.Normal.{norm, held, normal}
 use Rattle.values.specs.reading.Leaf.{Leaf, width, emit}
 use Rattle.values.specs.reading.Tree.{Item, say, at, read}
 use Rattle.values.specs.stream.Stream.{Token}
-use Rattle.values.proofs.normal_image.NormalLaws.{emit-norm, emit-tells}
+use Rattle.values.proofs.normal_image.NormalLaws.{emit_norm, emit_tells}
 
 -- no bit of n bits from p on is held
 abbrev pub HeldNowhere : ℕ → ℕ → List Item → Type 0
@@ -32,10 +32,10 @@ AllGood (at p l ∷ is) = GoodLeaf l × AllGood is
 
 -- ---- a reading sees nothing but the normal bits
 
-first-normal : (p : ℕ) (l : Leaf) (is : List Item) (x y : Bits)
+first_normal : (p : ℕ) (l : Leaf) (is : List Item) (x y : Bits)
     → ((k : ℕ) → held (at p l ∷ is) k ≡ true → y k ≡ normal (at p l ∷ is) x k) → emit l (from p y) ≡ emit l (from p x)
 unfolding held normal
-first-normal p l is x y h = emit-norm l (from p x) (from p y) (λ k b. go k b (lies p (width l) (p + k)))
+first_normal p l is x y h = emit_norm l (from p x) (from p y) (λ k b. go k b (lies p (width l) (p + k)))
   where
     go : (k : ℕ) → k < width l → BitLies p (width l) (p + k) → y (p + k) ≡ norm l (from p x) k
     go k b (among u v e) =
@@ -43,30 +43,30 @@ first-normal p l is x y h = emit-norm l (from p x) (from p y) (λ k b. go k b (l
         h (p + k) (rw e refl) ∙ rw (e, q) refl
     go k b (beside f e) = absurd (f (omega arith) (omega arith))
 
-rest-normal : (p : ℕ) (l : Leaf) (is : List Item) (x y : Bits) → HeldNowhere p (width l) is
+rest_normal : (p : ℕ) (l : Leaf) (is : List Item) (x y : Bits) → HeldNowhere p (width l) is
     → ((k : ℕ) → held (at p l ∷ is) k ≡ true → y k ≡ normal (at p l ∷ is) x k)
     → (k : ℕ) → held is k ≡ true → y k ≡ normal is x k
 unfolding held normal
-rest-normal p l is x y a h k t = go (lies p (width l) k)
+rest_normal p l is x y a h k t = go (lies p (width l) k)
   where
     go : BitLies p (width l) k → y k ≡ normal is x k
     go (among u v e) = absurd (true≢false (sym t ∙ a k u v))
     go (beside f e) = h k (rw e t) ∙ rw e refl
 
-read-normal : (is : List Item) (x y : Bits) → HeldApart is → ((k : ℕ) → held is k ≡ true → y k ≡ normal is x k)
+read_normal : (is : List Item) (x y : Bits) → HeldApart is → ((k : ℕ) → held is k ≡ true → y k ≡ normal is x k)
     → read is y ≡ read is x
 unfolding read held normal
-read-normal [] x y a h = refl
-read-normal (say e ∷ is) x y a h = ap (e ∷◌) (read-normal is x y a h)
-read-normal (at p l ∷ is) x y (a, more) h =
-    ap₂ ◌∷◌ (first-normal p l is x y h) (read-normal is x y more (rest-normal p l is x y a h))
+read_normal [] x y a h = refl
+read_normal (say e ∷ is) x y a h = ap (e ∷◌) (read_normal is x y a h)
+read_normal (at p l ∷ is) x y (a, more) h =
+    ap₂ ◌∷◌ (first_normal p l is x y h) (read_normal is x y more (rest_normal p l is x y a h))
 
 -- every bit that is not held is zero
-pub normal-unheld : (is : List Item) (x : Bits) (k : ℕ) → held is k ≡ false → normal is x k ≡ false
+pub normal_unheld : (is : List Item) (x : Bits) (k : ℕ) → held is k ≡ false → normal is x k ≡ false
 unfolding held normal
-normal-unheld [] x k e = refl
-normal-unheld (say d ∷ is) x k e = normal-unheld is x k e
-normal-unheld (at p l ∷ is) x k e = go (inside p (width l) k) (normal-unheld is x k) e
+normal_unheld [] x k e = refl
+normal_unheld (say d ∷ is) x k e = normal_unheld is x k e
+normal_unheld (at p l ∷ is) x k e = go (inside p (width l) k) (normal_unheld is x k) e
   where
     go : (t : Bool) → (held is k ≡ false → normal is x k ≡ false) → (t || held is k) ≡ false
         → cond t (norm l (from p x) (k - p)) (normal is x k) ≡ false
@@ -75,39 +75,39 @@ normal-unheld (at p l ∷ is) x k e = go (inside p (width l) k) (normal-unheld i
 
 -- ---- and tells them all
 
-head-same : {t u : Token} {ts us : List Token} → t ∷ ts ≡ u ∷ us → t ≡ u
-head-same e = cc
+head_same : {t u : Token} {ts us : List Token} → t ∷ ts ≡ u ∷ us → t ≡ u
+head_same e = cc
 
-tail-same : {t u : Token} {ts us : List Token} → t ∷ ts ≡ u ∷ us → ts ≡ us
-tail-same e = cc
+tail_same : {t u : Token} {ts us : List Token} → t ∷ ts ≡ u ∷ us → ts ≡ us
+tail_same e = cc
 
-read-tells : (is : List Item) → AllGood is → (x y : Bits) → read is x ≡ read is y
+read_tells : (is : List Item) → AllGood is → (x y : Bits) → read is x ≡ read is y
     → (k : ℕ) → normal is x k ≡ normal is y k
 unfolding read normal
-read-tells [] g x y e k = refl
-read-tells (say d ∷ is) g x y e k = read-tells is g x y (tail-same e) k
-read-tells (at p l ∷ is) (g, more) x y e k =
-    go (lies p (width l) k) (read-tells is more x y (tail-same e) k)
+read_tells [] g x y e k = refl
+read_tells (say d ∷ is) g x y e k = read_tells is g x y (tail_same e) k
+read_tells (at p l ∷ is) (g, more) x y e k =
+    go (lies p (width l) k) (read_tells is more x y (tail_same e) k)
   where
     go : BitLies p (width l) k → normal is x k ≡ normal is y k
         → cond (inside p (width l) k) (norm l (from p x) (k - p)) (normal is x k)
         ≡ cond (inside p (width l) k) (norm l (from p y) (k - p)) (normal is y k)
     go (among u v q) ih =
-        rw (q) (emit-tells l g (from p x) (from p y) (head-same e) (k - p) (omega arith))
+        rw (q) (emit_tells l g (from p x) (from p y) (head_same e) (k - p) (omega arith))
     go (beside f q) ih = rw (q) ih
 
 module _ (is : List Item) (apart : HeldApart is) (good : AllGood is) where
-  read-of-normal : (x : Bits) → read is (normal is x) ≡ read is x
-  read-of-normal x = read-normal is x (normal is x) apart (λ k h. refl)
+  read_of_normal : (x : Bits) → read is (normal is x) ≡ read is x
+  read_of_normal x = read_normal is x (normal is x) apart (λ k h. refl)
 
   -- two readings are the same exactly when the normal bits are
-  pub same-normal : (x y : Bits) → read is x ≡ read is y → normal is x ≡ normal is y
-  same-normal x y e = fun_ext (λ k. read-tells is good x y e k)
+  pub same_normal : (x y : Bits) → read is x ≡ read is y → normal is x ≡ normal is y
+  same_normal x y e = fun_ext (λ k. read_tells is good x y e k)
 
   -- the same normal bits give the same reading
   pub same_read : (x y : Bits) → normal is x ≡ normal is y → read is x ≡ read is y
-  same_read x y e = sym (read-of-normal x) ∙ ap (read is) e ∙ read-of-normal y
+  same_read x y e = sym (read_of_normal x) ∙ ap (read is) e ∙ read_of_normal y
 
   -- normalising again changes nothing
-  pub normal-twice : (x : Bits) → normal is (normal is x) ≡ normal is x
-  normal-twice x = same-normal (normal is x) x (read-of-normal x)
+  pub normal_twice : (x : Bits) → normal is (normal is x) ≡ normal is x
+  normal_twice x = same_normal (normal is x) x (read_of_normal x)

@@ -5,7 +5,7 @@ use native.Mathlib.Omega.{arith}
 use mathlib.Core.Path.{◌≡◌, refl}
 use mathlib.Core.Bool.{Bool, true, false, cond}
 use mathlib.Core.List.{List, [], ◌∷◌}
-use mathlib.Core.Logic.{◌⊎◌, inl, inr, ⊎_elim}
+use mathlib.Core.Logic.{inl, inr, ⊎_elim}
 use Rattle.types.specs.layout.Laid.{Earlier, first_bit, Laid, Clear as ClearOf}
 use Rattle.types.specs.tables.Defs.{part_at, parts_at}
 use Rattle.types.specs.tables.Kept.{Kept}
@@ -18,11 +18,12 @@ use Rattle.values.specs.inside.normal_image.Placed.{BranchesPlaced, ClearOfBranc
 use Rattle.values.specs.inside.normal_image.Placed.{TreePlaced}
 use Rattle.values.specs.reading.Leaf.{str}
 use Rattle.values.specs.reading.Tree.{Tree, leaf, struct, span}
-use Rattle.values.specs.reading.Trees.{bit_tree, branches_from, is_string_kind, known_in, members_at, second_count, seen}
+use Rattle.values.specs.reading.Trees.{bit_tree, branches_from, is_string_kind, known_in, members_at, second_count}
+use Rattle.values.specs.reading.Trees.{seen}
 use Rattle.values.specs.reading.Trees.{struct_tree, tree_of, tree_within, value_tree}
-use Rattle.values.proofs.normal_image.DisjointLaws.{member-placed}
-use Rattle.values.proofs.reading.KeptWalkable.{kept-walkable}
-use Rattle.values.proofs.reading.SpanLaws.{TreesSized, sound-below, sound-within, bit-span}
+use Rattle.values.proofs.normal_image.DisjointLaws.{member_placed}
+use Rattle.values.proofs.reading.KeptWalkable.{kept_walkable}
+use Rattle.values.proofs.reading.SpanLaws.{TreesSized, sound_below, sound_within, bit_span}
 
 -- ---- a structure whose earlier ones are placed
 
@@ -32,21 +33,21 @@ module _ (types members names : List ℕ) (trees : ℕ → Tree) (i : ℕ) (soun
   tree m = bit_tree m.bit (value_tree trees m.ty m.count)
 
   -- a visible member shares no bit with the visible ones after it
-  rows-clear : (m : Member) → m.hidden ≡ false → Earlier i m.ty → (size j row n : ℕ)
+  rows_clear : (m : Member) → m.hidden ≡ false → Earlier i m.ty → (size j row n : ℕ)
       → ClearOf (sizes_in types) m (parts_at members names row n)
       → Laid (sizes_in types) i size (parts_at members names row n)
       → ClearOfBranches (first_bit m) (span (tree m)) (branches_from trees j (members_at members row n))
   unfolding ClearOf Laid parts_at part_at branches_from members_at
-  rows-clear m v e size j row zero c d = tt
-  rows-clear m v e size j row (suc n) (c, cs) (d, ds) =
-      go (member_at members row).hidden refl (rows-clear m v e size (suc j) (row + 1) n cs ds)
+  rows_clear m v e size j row zero c d = tt
+  rows_clear m v e size j row (suc n) (c, cs) (d, ds) =
+      go (member_at members row).hidden refl (rows_clear m v e size (suc j) (row + 1) n cs ds)
     where
       mine : span (tree m) ≡ bits_of (sizes_in types) m.bit m
-      mine = bit-span types members trees i sound m.bit m e
+      mine = bit_span types members trees i sound m.bit m e
 
       theirs : span (tree (member_at members row))
           ≡ bits_of (sizes_in types) (member_at members row).bit (member_at members row)
-      theirs = bit-span types members trees i sound (member_at members row).bit (member_at members row) d.earlier
+      theirs = bit_span types members trees i sound (member_at members row).bit (member_at members row) d.earlier
 
       go : (h : Bool) → (member_at members row).hidden ≡ h
           → ClearOfBranches (first_bit m) (span (tree m)) (branches_from trees (suc j) (members_at members (row + 1) n))
@@ -57,12 +58,12 @@ module _ (types members names : List ℕ) (trees : ℕ → Tree) (i : ℕ) (soun
       go false h rest =
           (⊎_elim (λ p. inl (omega (arith, p, mine))) (λ p. inr (omega (arith, p, theirs))) (c v h), rest)
 
-  rows-placed : (size j row n : ℕ) → Laid (sizes_in types) i size (parts_at members names row n)
+  rows_placed : (size j row n : ℕ) → Laid (sizes_in types) i size (parts_at members names row n)
       → BranchesPlaced (8 * size) (branches_from trees j (members_at members row n))
   unfolding Laid parts_at part_at branches_from members_at TreePlaced
-  rows-placed size j row zero d = tt
-  rows-placed size j row (suc n) (d, ds) =
-      go (member_at members row).hidden refl (rows-placed size (suc j) (row + 1) n ds)
+  rows_placed size j row zero d = tt
+  rows_placed size j row (suc n) (d, ds) =
+      go (member_at members row).hidden refl (rows_placed size (suc j) (row + 1) n ds)
     where
       m : Member
       m = member_at members row
@@ -74,25 +75,25 @@ module _ (types members names : List ℕ) (trees : ℕ → Tree) (i : ℕ) (soun
           (branches_from trees (suc j) (members_at members (row + 1) n)))
       go true h rest = rest
       go false h rest = (
-        member-placed trees i placed (member_at members row).bit (member_at members row).ty
+        member_placed trees i placed (member_at members row).bit (member_at members row).ty
             (member_at members row).count d.earlier,
         (
           omega (
             arith,
             d.inside,
-            bit-span types members trees i sound (member_at members row).bit
+            bit_span types members trees i sound (member_at members row).bit
                 (member_at members row) d.earlier,
           ),
-          (rows-clear (member_at members row) h d.earlier size (suc j) (row + 1) n d.clear ds, rest),
+          (rows_clear (member_at members row) h d.earlier size (suc j) (row + 1) n d.clear ds, rest),
         ),
       )
 
   -- members are numbered in their order
-  rows-numbered : (low j : ℕ) (ms : List Member) → low ≤ j → Ascending low (branches_from trees j ms)
+  rows_numbered : (low j : ℕ) (ms : List Member) → low ≤ j → Ascending low (branches_from trees j ms)
   unfolding branches_from
-  rows-numbered low j [] l = tt
-  rows-numbered low j (m ∷ ms) l =
-      go m.hidden (rows-numbered low (suc j) ms (omega arith)) (rows-numbered (suc j) (suc j) ms (omega arith))
+  rows_numbered low j [] l = tt
+  rows_numbered low j (m ∷ ms) l =
+      go m.hidden (rows_numbered low (suc j) ms (omega arith)) (rows_numbered (suc j) (suc j) ms (omega arith))
     where
       go : (h : Bool) → Ascending low (branches_from trees (suc j) ms)
           → Ascending (suc j) (branches_from trees (suc j) ms)
@@ -113,32 +114,32 @@ module _ (types members names : List ℕ) (trees : ℕ → Tree) (i : ℕ) (soun
           (branches_from trees 0 (members_at members (type_at types i).first (type_at types i).count))))
       go true = tt
       go false = (
-        rows-placed (type_at types i).size 0 (type_at types i).first (type_at types i).count d,
-        rows-numbered 0 0 (members_at members (type_at types i).first (type_at types i).count) (omega arith),
+        rows_placed (type_at types i).size 0 (type_at types i).first (type_at types i).count d,
+        rows_numbered 0 0 (members_at members (type_at types i).first (type_at types i).count) (omega arith),
       )
 
 -- ---- tables as our own calls left them
 
 module _ {types members names : List ℕ} (k : Kept types members names) where
   -- the rows of every type are laid out as a layout promises
-  pub laid-all : (i : ℕ) → Laid (sizes_in types) i (type_at types i).size
+  pub laid_all : (i : ℕ) → Laid (sizes_in types) i (type_at types i).size
       (parts_at members names (type_at types i).first (type_at types i).count)
-  laid-all i = go (kept_row k i)
+  laid_all i = go (kept_row k i)
     where
       go : RowIs types members names i → Laid (sizes_in types) i (type_at types i).size
           (parts_at members names (type_at types i).first (type_at types i).count)
       go (holds r) = r.laid
       go (empty e) = rw e (unfold parts_at Laid in tt)
 
-  within-placed : (f i : ℕ) → f ≤ most_types → i < f → TreePlaced (tree_within (known_in types members) f i)
+  within_placed : (f i : ℕ) → f ≤ most_types → i < f → TreePlaced (tree_within (known_in types members) f i)
   unfolding tree_within
-  within-placed zero i h l = absurd (let z : ⊥ = omega arith in z)
-  within-placed (suc f) i h l =
+  within_placed zero i h l = absurd (let z : ⊥ = omega arith in z)
+  within_placed (suc f) i h l =
       struct_placed types members names (tree_within (known_in types members) f) i
-      (sound-below i (omega arith) (sound-within types members (kept-walkable k) f (omega arith)))
-      (λ s q. within-placed f s (omega arith) (omega arith)) (laid-all i)
+      (sound_below i (omega arith) (sound_within types members (kept_walkable k) f (omega arith)))
+      (λ s q. within_placed f s (omega arith) (omega arith)) (laid_all i)
 
   -- tables as our own calls left them have members that share no bit
-  pub kept-disjoint : Disjoint types members
+  pub kept_disjoint : Disjoint types members
   unfolding tree_of
-  kept-disjoint = record { walkable = kept-walkable k; placed = λ i l. within-placed most_types i (omega arith) l }
+  kept_disjoint = record { walkable = kept_walkable k; placed = λ i l. within_placed most_types i (omega arith) l }

@@ -12,15 +12,15 @@ use lib.Pow.{high_ones, pow_mono}
 use borrow.Author.Tests.{eq-eqb, ne_eqb, le-leb, lt-leb, lt-ltb, le-ltb, ltb-true, ltb-false}
 use Rattle.words.specs.Bits.{Bits, from, bit_of, digit, flat, val}
 use Rattle.words.specs.Words.{bytes_of}
-use Rattle.words.proofs.BitLaws.{bit_val, val-below, append-first, append-second, digit-bit}
-use Rattle.words.proofs.StampLaws.{flat-bytes, low_bit}
-use Rattle.words.proofs.WordLaws.{length-bytes}
+use Rattle.words.proofs.BitLaws.{bit_val, val_below, append_first, append_second, digit_bit}
+use Rattle.words.proofs.StampLaws.{flat_bytes, low_bit}
+use Rattle.words.proofs.WordLaws.{length_bytes}
 use Rattle.values.specs.inside.normal_image.Placed.{GoodLeaf}
 use Rattle.values.specs.normal_image.Normal.{norm}
 use Rattle.values.specs.reading.Leaf.{Leaf, flag, byte, int, word, str, width, chars, clipped, emit, signed}
 use Rattle.values.specs.stream.Stream.{number, text, kind_of}
 use Rattle.values.specs.writing.Effects.{put, of_kind, in_range, whole, text_bits, as_text, taken}
-use Rattle.values.proofs.normal_image.CharLaws.{chars-ext, flat-chars, length-chars}
+use Rattle.values.proofs.normal_image.CharLaws.{chars_ext, flat_chars, length_chars}
 
 -- a leaf takes the entry that it gives, and the bits set are its normal bits
 pub record PutBack (l : Leaf) (b : Bits) : Type 0 where
@@ -29,19 +29,19 @@ pub record PutBack (l : Leaf) (b : Bits) : Type 0 where
   pub normal : (k : ℕ) → k < width l → bits k ≡ norm l b k
 
 -- its entry is a value: no null, no member number, no bracket
-pub emit-value : (l : Leaf) → GoodLeaf l → (b : Bits) → (1 ≤ kind_of (emit l b)) × (kind_of (emit l b) ≤ 6)
-emit-value flag g b = (omega arith, omega arith)
-emit-value byte g b = (omega arith, omega arith)
-emit-value (int n) g b = (omega arith, omega arith)
-emit-value (word kind n) g b = (omega arith, omega arith)
-emit-value (str c) g b = (omega arith, omega arith)
+pub emit_value : (l : Leaf) → GoodLeaf l → (b : Bits) → (1 ≤ kind_of (emit l b)) × (kind_of (emit l b) ≤ 6)
+emit_value flag g b = (omega arith, omega arith)
+emit_value byte g b = (omega arith, omega arith)
+emit_value (int n) g b = (omega arith, omega arith)
+emit_value (word kind n) g b = (omega arith, omega arith)
+emit_value (str c) g b = (omega arith, omega arith)
 
 -- ---- a signed number
 
 module _ (n v : ℕ) (some : 1 ≤ n) (most : n ≤ 64) where
-  signed-bit : (k : ℕ) → k < n → bit_of (signed n v) k ≡ bit_of v k
+  signed_bit : (k : ℕ) → k < n → bit_of (signed n v) k ≡ bit_of v k
   unfolding signed
-  signed-bit k l = go (ltb v (2 ^ (n - 1)))
+  signed_bit k l = go (ltb v (2 ^ (n - 1)))
     where
       ones : 2 ^ 64 - 2 ^ n ≡ (2 ^ (64 - n) - 1) * 2 ^ n
       ones = (let e : 64 ≡ 64 - n + n = omega arith in ap (λ (j : ℕ). 2 ^ j - 2 ^ n) e) ∙ high_ones (64 - n) n
@@ -78,36 +78,36 @@ module _ (n v : ℕ) (some : 1 ≤ n) (most : n ≤ 64) where
           (le-leb (2 ^ 63) (v + (2 ^ 64 - 2 ^ n)) (omega (arith, top, half, low)))
           (le-leb (2 ^ 64 - (v + (2 ^ 64 - 2 ^ n))) (2 ^ (n - 1)) (omega (arith, top, half, low)))
 
-  signed-takes : v < 2 ^ n → taken (int n) (number 2 (signed n v)) ≡ put (bit_of (signed n v))
+  signed_takes : v < 2 ^ n → taken (int n) (number 2 (signed n v)) ≡ put (bit_of (signed n v))
   unfolding whole
-  signed-takes h = rw (signed_range h) refl
+  signed_takes h = rw (signed_range h) refl
 
 -- ---- any other number
 
-word-takes : (kind n x : ℕ) → 3 ≤ kind → x < 2 ^ n → taken (word kind n) (number kind x) ≡ put (bit_of x)
+word_takes : (kind n x : ℕ) → 3 ≤ kind → x < 2 ^ n → taken (word kind n) (number kind x) ≡ put (bit_of x)
 unfolding whole in_range of_kind
-word-takes kind n x a l = go (eqb kind 3) refl
+word_takes kind n x a l = go (eqb kind 3) refl
   where
-    not-two : eqb kind 2 ≡ false
-    not-two = ne_eqb kind 2 (λ e. omega arith)
+    not_two : eqb kind 2 ≡ false
+    not_two = ne_eqb kind 2 (λ e. omega arith)
 
     go : (t : Bool) → eqb kind 3 ≡ t
         → cond t (whole 0 (2 ^ n) (number kind x)) (of_kind kind (number kind x)) ≡ put (bit_of x)
-    go true e = rw (not-two, e, lt-ltb x (2 ^ n) l) refl
+    go true e = rw (not_two, e, lt-ltb x (2 ^ n) l) refl
     go false e = rw (eq-eqb kind kind refl) refl
 
 -- ---- a text
 
-text-takes : (c : ℕ) (s : List ℕ) → length s ≤ c → taken (str c) (text s) ≡ put (text_bits s)
+text_takes : (c : ℕ) (s : List ℕ) → length s ≤ c → taken (str c) (text s) ≡ put (text_bits s)
 unfolding as_text
-text-takes c s h = rw (le-leb (length s) c h) refl
+text_takes c s h = rw (le-leb (length s) c h) refl
 
 -- bits made into n bytes and seen as bits again are the first 8 n of them
-pub flat-clip : (n : ℕ) (b : Bits) (k : ℕ) → flat (chars n b) k ≡ (ltb k (8 * n) && b k)
-flat-clip n b k =
+pub flat_clip : (n : ℕ) (b : Bits) (k : ℕ) → flat (chars n b) k ≡ (ltb k (8 * n) && b k)
+flat_clip n b k =
     let c : Bits = λ j. ltb j (8 * n) && b j in
-    ap (λ (s : List ℕ). flat s k) (chars-ext n b c (λ j l. rw (lt-ltb j (8 * n) l) refl))
-    ∙ ap (λ (f : Bits). f k) (flat-chars n c (λ j l. rw (le-ltb j (8 * n) l) refl))
+    ap (λ (s : List ℕ). flat s k) (chars_ext n b c (λ j l. rw (lt-ltb j (8 * n) l) refl))
+    ∙ ap (λ (f : Bits). f k) (flat_chars n c (λ j l. rw (le-ltb j (8 * n) l) refl))
 
 module _ (c : ℕ) (b : Bits) where
   abbrev body : List ℕ
@@ -116,26 +116,26 @@ module _ (c : ℕ) (b : Bits) where
   abbrev len : List ℕ
   len = bytes_of 4 (length body)
 
-  text-normal : (k : ℕ) → text_bits body k ≡ norm (str c) b k
-  text-normal k = go (ltb k 32) refl
+  text_normal : (k : ℕ) → text_bits body k ≡ norm (str c) b k
+  text_normal k = go (ltb k 32) refl
     where
       four : length len ≡ 4
-      four = length-bytes 4 (length body)
+      four = length_bytes 4 (length body)
 
       go : (t : Bool) → ltb k 32 ≡ t
           → text_bits body k ≡ cond t (bit_of (clipped c b) k) (ltb (k - 32) (8 * clipped c b) && b k)
       go true e =
           let l = ltb-true k 32 e in
-          append-first len body k (omega (arith, four))
-          ∙ flat-bytes 4 (length body) k (omega arith)
-          ∙ ap (λ (x : ℕ). bit_of x k) (length-chars (clipped c b) (from 32 b))
+          append_first len body k (omega (arith, four))
+          ∙ flat_bytes 4 (length body) k (omega arith)
+          ∙ ap (λ (x : ℕ). bit_of x k) (length_chars (clipped c b) (from 32 b))
       go false e =
           let l = ltb-false k 32 e in
           let i : k ≡ 8 * length len + (k - 32) = omega (arith, four) in
           let j : 32 + (k - 32) ≡ k = omega arith in
           ap (flat (len ++ body)) i
-          ∙ append-second len body (k - 32)
-          ∙ flat-clip (clipped c b) (from 32 b) (k - 32)
+          ∙ append_second len body (k - 32)
+          ∙ flat_clip (clipped c b) (from 32 b) (k - 32)
           ∙ ap (λ (m : ℕ). ltb (k - 32) (8 * clipped c b) && b m) j
 
 -- ---- each leaf
@@ -147,24 +147,24 @@ put_back flag g b =
     record {
       bits = bit_of (digit (b 0));
       takes = refl;
-      normal = λ k l. let z : k ≡ 0 = omega arith in rw z (digit-bit (b 0));
+      normal = λ k l. let z : k ≡ 0 = omega arith in rw z (digit_bit (b 0));
     }
 put_back byte g b = record { bits = norm byte b; takes = refl; normal = λ k l. refl }
 put_back (int n) (u, v) b =
     record {
       bits = bit_of (signed n (val n b));
-      takes = signed-takes n (val n b) u v (val-below n b);
-      normal = λ k l. signed-bit n (val n b) u v k l ∙ bit_val n b k l;
+      takes = signed_takes n (val n b) u v (val_below n b);
+      normal = λ k l. signed_bit n (val n b) u v k l ∙ bit_val n b k l;
     }
 put_back (word kind n) (u, v) b =
     record {
       bits = bit_of (val n b);
-      takes = word-takes kind n (val n b) u (val-below n b);
+      takes = word_takes kind n (val n b) u (val_below n b);
       normal = λ k l. bit_val n b k l;
     }
 put_back (str c) g b =
     record {
       bits = text_bits (body c b);
-      takes = text-takes c (body c b) (omega (arith, length-chars (clipped c b) (from 32 b)));
-      normal = λ k l. text-normal c b k;
+      takes = text_takes c (body c b) (omega (arith, length_chars (clipped c b) (from 32 b)));
+      normal = λ k l. text_normal c b k;
     }

@@ -17,12 +17,12 @@ use Rattle.values.specs.inside.normal_image.Placed.{BranchesPlaced, TreePlaced, 
 use Rattle.values.specs.inside.reading.Walkable.{Walkable}
 use Rattle.values.specs.inside.writing.Rows.{Here, branches_in}
 use Rattle.values.specs.reading.Trees.{is_string_kind}
-use Rattle.values.proofs.writing.BranchLaws.{members-tree}
+use Rattle.values.proofs.writing.BranchLaws.{members_tree}
 
 -- a member is plain where the test says so
-pub plain-is : (m : Member) → is_plain m ≡ true → Plain m
+pub plain_is : (m : Member) → is_plain m ≡ true → Plain m
 unfolding is_plain
-plain-is m e = go m.hidden m.bit refl refl e
+plain_is m e = go m.hidden m.bit refl refl e
   where
     go : (h : Bool) (b : Bit) → m.hidden ≡ h → m.bit ≡ b → cond h false (not (has_bit b)) ≡ true → Plain m
     go true b f g q = absurd (true≢false (sym q))
@@ -31,22 +31,22 @@ plain-is m e = go m.hidden m.bit refl refl e
 
 module _ {types members : List ℕ} (s : Sweepable types members) where
   -- tables that can be swept can be walked
-  pub sweepable-walkable : Walkable types members
-  sweepable-walkable = s.disjoint.walkable
+  pub sweepable_walkable : Walkable types members
+  sweepable_walkable = s.disjoint.walkable
 
   module _ (i : ℕ) (low : i < most_types) where
     -- a structure that is no string has branches that share no bit
-    pub sweepable-branches : is_string_kind (type_at types i).kind ≡ false
+    pub sweepable_branches : is_string_kind (type_at types i).kind ≡ false
         → BranchesPlaced (8 * sizes_in types i) (branches_in types members i)
     unfolding TreePlaced
-    sweepable-branches e =
-        (subst TreePlaced (members-tree types members sweepable-walkable i low e) (s.disjoint.placed i low)).0
+    sweepable_branches e =
+        (subst TreePlaced (members_tree types members sweepable_walkable i low e) (s.disjoint.placed i low)).0
 
     -- its rows lie in the image
-    pub sweepable-rows : (base : ℕ) (image : List ℕ) → Here types i base image
+    pub sweepable_rows : (base : ℕ) (image : List ℕ) → Here types i base image
         → RowsHere members (type_at types i).first (type_at types i).count base image
-    sweepable-rows base image h =
-        let w = sweepable-walkable.each i low in
+    sweepable_rows base image h =
+        let w = sweepable_walkable.each i low in
         record {
           rows = w.rows;
           sizes = sizes_in types;

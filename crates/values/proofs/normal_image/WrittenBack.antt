@@ -25,13 +25,13 @@ use Rattle.values.specs.stream.Form.{count_in}
 use Rattle.values.specs.stream.Stream.{Token, most_bytes}
 use Rattle.values.specs.writing.Writing.{Outcome, ok, ended, write, written}
 use Rattle.values.specs.writing.Written.{Result, taking, value_written, write_result}
-use Rattle.values.proofs.normal_image.CharLaws.{length-chars}
-use Rattle.values.proofs.normal_image.DisjointLaws.{disjoint-value}
-use Rattle.values.proofs.normal_image.OverLaws.{over, over-bit}
+use Rattle.values.proofs.normal_image.CharLaws.{length_chars}
+use Rattle.values.proofs.normal_image.DisjointLaws.{disjoint_value}
+use Rattle.values.proofs.normal_image.OverLaws.{over, over_bit}
 use Rattle.values.proofs.normal_image.PlacedLaws.{tree_apart}
-use Rattle.values.proofs.normal_image.SameStream.{stream-ok, tokens-are, normal-bits}
-use Rattle.values.proofs.normal_image.WriteBack.{tree-back}
-use Rattle.values.proofs.writing.WrittenHeld.{bytes-bit}
+use Rattle.values.proofs.normal_image.SameStream.{stream_ok_lem, tokens_are, normal_bits}
+use Rattle.values.proofs.normal_image.WriteBack.{tree_back}
+use Rattle.values.proofs.writing.WrittenHeld.{bytes_bit}
 
 -- what a write of the stream of x over z answers and leaves
 pub record WrittenBack (tree : Tree) (x z : List ℕ) (r : Result) : Type 0 where
@@ -46,7 +46,7 @@ whole_back : (tree : Tree) (x z : Bits) → TreePlaced tree
 unfolding written
 whole_back tree x z a =
     ap ended (ap (λ (ts : List Token). write tree 0 ts z) (sym (append-nil (read (items tree 0) x)))
-    ∙ tree-back tree 0 x a z [])
+    ∙ tree_back tree 0 x a z [])
 
 module _ {types members : List ℕ} (d : Disjoint types members) (t : Ty) (n : ℕ)
     (there : is_there types t ≡ true) (x z : List ℕ) (v : ValueImage types t n x) (u : ValueImage types t n z)
@@ -61,12 +61,12 @@ module _ {types members : List ℕ} (d : Disjoint types members) (t : Ty) (n : �
   stream = value_stream types members t n x
 
   placed : TreePlaced tree
-  placed = disjoint-value d t n v.fits
+  placed = disjoint_value d t n v.fits
 
   outcome : value_written types members t n stream z ≡ ok [] (over is (flat x) (flat z))
   unfolding value_written
   outcome =
-      ap (λ (ts : List Token). written tree ts (flat z)) (tokens-are d t n v.fits x v b room)
+      ap (λ (ts : List Token). written tree ts (flat z)) (tokens_are d t n v.fits x v b room)
       ∙ whole_back tree (flat x) (flat z) placed
 
   result : write_result types members t n stream z ≡ taking (count_in stream) (ok [] (over is (flat x) (flat z))) z
@@ -75,19 +75,19 @@ module _ {types members : List ℕ} (d : Disjoint types members) (t : Ty) (n : �
       rw (
         there,
         eq-eqb (length z) (size_in (sizes_in types) t * times n) u.long,
-        stream-ok d t n v.fits x v b room,
+        stream_ok_lem d t n v.fits x v b room,
       )
       (ap (λ (w : Outcome). taking (count_in stream) w z) outcome)
 
-  left-bit : (k : ℕ) → k < 8 * length z
+  left_bit : (k : ℕ) → k < 8 * length z
       → flat (chars (length z) (over is (flat x) (flat z))) k
       ≡ cond (held is k) (flat (normal_image tree x) k) (flat z k)
-  left-bit k l =
-      bytes-bit (length z) (over is (flat x) (flat z)) k l
-      ∙ over-bit is (flat x) (flat z) (tree_apart tree 0 placed) k
-      ∙ ap (λ (y : Bits). cond (held is k) (y k) (flat z k)) (sym (normal-bits d t n v.fits x v b))
+  left_bit k l =
+      bytes_bit (length z) (over is (flat x) (flat z)) k l
+      ∙ over_bit is (flat x) (flat z) (tree_apart tree 0 placed) k
+      ∙ ap (λ (y : Bits). cond (held is k) (y k) (flat z k)) (sym (normal_bits d t n v.fits x v b))
 
   pub written_back : WrittenBack tree x z (write_result types members t n stream z)
   written_back =
-      let long = length-chars (length z) (over is (flat x) (flat z)) in
-      rw result (record { accepted = refl; long = long; bits = left-bit })
+      let long = length_chars (length z) (over is (flat x) (flat z)) in
+      rw result (record { accepted = refl; long = long; bits = left_bit })

@@ -15,7 +15,7 @@ use Rattle.types.specs.tables.There.{is_there}
 use Rattle.types.specs.declared.refusals.refusal.Refusal.{Refusal}
 use Rattle.types.specs.declared.refusals.refusal.Refusal.TheVariants.{ImageLength, NoSuchType}
 use Rattle.types.specs.declared.tables.member.Ty.{Ty}
-use Rattle.types.proofs.Face.{there-fits, why-same}
+use Rattle.types.proofs.Face.{there_fits, why_same}
 use Rattle.values.specs.inside.reading.Images.{said_of_image}
 use Rattle.values.specs.inside.reading.Walkable.{ValueImage}
 use Rattle.values.specs.reading.Read.{image_fits}
@@ -29,56 +29,57 @@ both_first : (a b : Bool) → done tt ≡ tested a b → a ≡ true
 both_first true b e = refl
 both_first false b e = cc
 
-both-second : (a b : Bool) → done tt ≡ tested a b → b ≡ true
-both-second true true e = refl
-both-second true false e = cc
-both-second false b e = cc
+both_second : (a b : Bool) → done tt ≡ tested a b → b ≡ true
+both_second true true e = refl
+both_second true false e = cc
+both_second false b e = cc
 
 -- a refusal of the two tests is that of the first that is failed
 failed : (P : Refusal → Type 0) (a b : Bool) → (a ≡ false → P NoSuchType) → (a ≡ true → b ≡ false → P ImageLength)
     → (w : Refusal) → why w ≡ tested a b → P w
 failed P true true p q w e = clash {b = true} refl cc
-failed P true false p q w e = rw (why-same w ImageLength e) (q refl refl)
-failed P false b p q w e = rw (why-same w NoSuchType e) (p refl)
+failed P true false p q w e = rw (why_same w ImageLength e) (q refl refl)
+failed P false b p q w e = rw (why_same w NoSuchType e) (p refl)
 
 -- ---- what is said of a length
 
 module _ (types : List ℕ) (t : Ty) (n long : ℕ) where
   -- where there is no such type, 15 is said
-  pub fit-absent : is_there types t ≡ false → refused 15 0 ≡ said_of_image types t n long
+  pub fit_absent : is_there types t ≡ false → refused 15 0 ≡ said_of_image types t n long
   unfolding said_of_image
-  fit-absent e = rw e refl
+  fit_absent e = rw e refl
 
   module _ (there : is_there types t ≡ true) where
     -- where the length is not that of a value, 14 is said
-    pub fit-wrong : eqb long (size_in (sizes_in types) t * times n) ≡ false → refused 14 0 ≡ said_of_image types t n long
+    pub fit_wrong : eqb long (size_in (sizes_in types) t * times n) ≡ false
+        → refused 14 0 ≡ said_of_image types t n long
     unfolding said_of_image
-    fit-wrong e = rw (there, e) refl
+    fit_wrong e = rw (there, e) refl
 
     -- where type and length are right, nothing is refused
-    pub fit-done : eqb long (size_in (sizes_in types) t * times n) ≡ true → done tt ≡ said_of_image types t n long
+    pub fit_done : eqb long (size_in (sizes_in types) t * times n) ≡ true → done tt ≡ said_of_image types t n long
     unfolding said_of_image
-    fit-done e = rw (there, e) refl
+    fit_done e = rw (there, e) refl
 
 -- ---- an image of a value
 
 module _ (types : List ℕ) (t : Ty) (n : ℕ) (image : List ℕ) where
   -- where the image fits, its type is there
-  pub fit-there : done tt ≡ said_of_image types t n (length image) → is_there types t ≡ true
+  pub fit_there : done tt ≡ said_of_image types t n (length image) → is_there types t ≡ true
   unfolding said_of_image
-  fit-there e = both_first (is_there types t) (image_fits types t n image) e
+  fit_there e = both_first (is_there types t) (image_fits types t n image) e
 
   -- where the image fits, its length is right
-  pub fit-long : done tt ≡ said_of_image types t n (length image) → image_fits types t n image ≡ true
+  pub fit_long : done tt ≡ said_of_image types t n (length image) → image_fits types t n image ≡ true
   unfolding said_of_image
-  fit-long e = both-second (is_there types t) (image_fits types t n image) e
+  fit_long e = both_second (is_there types t) (image_fits types t n image) e
 
   -- where the image fits, it is one of the value
-  pub fit-image : done tt ≡ said_of_image types t n (length image) → ValueImage types t n image
-  fit-image e =
+  pub fit_image : done tt ≡ said_of_image types t n (length image) → ValueImage types t n image
+  fit_image e =
       record {
-        fits = there-fits types t (fit-there e);
-        long = eqb-true (length image) (size_in (sizes_in types) t * times n) (fit-long e);
+        fits = there_fits types t (fit_there e);
+        long = eqb-true (length image) (size_in (sizes_in types) t * times n) (fit_long e);
       }
 
   -- what holds of both refusals of an image, each where it is due, holds of the one that the image gets

@@ -17,22 +17,22 @@ use Rattle.types.proofs.Face.{row_lies, TypeRow, RowIs, holds, empty, kept_row, 
 use Rattle.values.specs.inside.reading.Walkable.{MemberWithin, IsString, WalkableType, Walkable}
 use Rattle.values.specs.reading.Trees.{is_string_kind}
 
-string-kind : (k : StructKind) → is_string_kind k ≡ true → k ≡ Str
-string-kind Str e = refl
-string-kind Udt e = cc
-string-kind Predefined e = cc
-string-kind Aoi e = cc
+string_kind : (k : StructKind) → is_string_kind k ≡ true → k ≡ Str
+string_kind Str e = refl
+string_kind Udt e = cc
+string_kind Predefined e = cc
+string_kind Aoi e = cc
 
-string-row : {members : List ℕ} {d : StructDef} → StringRow members d → IsString members d
-string-row s =
+string_row : {members : List ℕ} {d : StructDef} → StringRow members d → IsString members d
+string_row s =
     record {
       rows = s.count;
       size = s.size ∙ ap (λ (m : Member). 4 + 4 * ((m.count + 3) / 4)) (sym s.chars);
     }
 
 -- a row after the types
-unused-walkable : {types members : List ℕ} (i : ℕ) → type_at types i ≡ no_type → WalkableType types members i
-unused-walkable i e =
+unused_walkable : {types members : List ℕ} (i : ℕ) → type_at types i ≡ no_type → WalkableType types members i
+unused_walkable i e =
     record {
       rows = rw e (omega arith);
       most = rw e (omega arith);
@@ -42,12 +42,12 @@ unused-walkable i e =
 
 module _ {types members names : List ℕ} where
   -- a type
-  used-walkable : (i : ℕ) → TypeRow types members names i → WalkableType types members i
-  used-walkable i r =
+  used_walkable : (i : ℕ) → TypeRow types members names i → WalkableType types members i
+  used_walkable i r =
       record {
         rows = r.listable.rows.rows.rows;
         most = r.most;
-        string = λ e. string-row (r.string (string-kind (type_at types i).kind e));
+        string = λ e. string_row (r.string (string_kind (type_at types i).kind e));
         each = within;
       }
     where
@@ -58,10 +58,10 @@ module _ {types members names : List ℕ} where
           (type_at types i).count j r.laid h in
           record { earlier = w.earlier; inside = w.inside }
 
-  row-walkable : (i : ℕ) → RowIs types members names i → WalkableType types members i
-  row-walkable i (holds r) = used-walkable i r
-  row-walkable i (empty e) = unused-walkable i e
+  row_walkable : (i : ℕ) → RowIs types members names i → WalkableType types members i
+  row_walkable i (holds r) = used_walkable i r
+  row_walkable i (empty e) = unused_walkable i e
 
 -- tables as our own calls left them are walkable
-pub kept-walkable : {types members names : List ℕ} → Kept types members names → Walkable types members
-kept-walkable k = record { each = λ i l. row-walkable i (kept_row k i) }
+pub kept_walkable : {types members names : List ℕ} → Kept types members names → Walkable types members
+kept_walkable k = record { each = λ i l. row_walkable i (kept_row k i) }

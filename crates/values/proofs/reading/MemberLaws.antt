@@ -26,55 +26,55 @@ use Rattle.values.specs.declared.reading.rows.Nested.{Nested}
 
 -- ---- which rows are structures
 
-nested-parts : (h : Bool) (b : Bit) (t : Ty) → cond h false (bit_nested b t) ≡ true
+nested_parts : (h : Bool) (b : Bit) (t : Ty) → cond h false (bit_nested b t) ≡ true
     → (h ≡ false) × ((b ≡ None) × (bit_nested None t ≡ true))
-nested-parts true b t e = clash e refl
-nested-parts false None t e = (refl, (refl, e))
-nested-parts false (At k) t e = clash e refl
+nested_parts true b t e = clash e refl
+nested_parts false None t e = (refl, (refl, e))
+nested_parts false (At k) t e = clash e refl
 
 module _ (m : Member) (nested : is_nested m ≡ true) where
   parts : (m.hidden ≡ false) × ((m.bit ≡ None) × (bit_nested None m.ty ≡ true))
   unfolding is_nested
-  parts = nested-parts m.hidden m.bit m.ty nested
+  parts = nested_parts m.hidden m.bit m.ty nested
 
   -- a member that is a nested structure is visible
-  pub nested-shown : m.hidden ≡ false
-  nested-shown = parts.0
+  pub nested_shown : m.hidden ≡ false
+  nested_shown = parts.0
 
   -- a member that is a nested structure has no bit
-  pub nested-whole : m.bit ≡ None
-  nested-whole = parts.1.0
+  pub nested_whole : m.bit ≡ None
+  nested_whole = parts.1.0
 
   -- a member that is a nested structure is no atomic
-  pub never-atomic : {a : Atomic} → m.ty ≡ ty.Atomic a → ⊥
-  never-atomic e = clash parts.1.1 (rw e)
+  pub never_atomic : {a : Atomic} → m.ty ≡ ty.Atomic a → ⊥
+  never_atomic e = clash parts.1.1 (rw e)
 
 -- ---- what a row gives
 
 module _ (types members : List ℕ) (rec : ℕ → List ℕ → List Token) (j : ℕ) (m : Member) (image : List ℕ) where
-  leaf-parts : (h : Bool) (b : Bit) (t : Ty) (n at : ℕ) (f : ℕ → List Token) → cond h false (bit_nested b t) ≡ false
+  leaf_parts : (h : Bool) (b : Bit) (t : Ty) (n at : ℕ) (f : ℕ → List Token) → cond h false (bit_nested b t) ≡ false
       → cond h [] (member j ∷ bit_out b f
       (value_by types members rec t n (part image at (size_in (sizes_in types) t * times n))))
       ≡ cond h [] (member j ∷ bit_out b f (leaf_value t n (part image at)))
-  leaf-parts true b t n at f e = refl
-  leaf-parts false (At k) t n at f e = refl
-  leaf-parts false None (ty.Atomic a) n at f e = refl
-  leaf-parts false None (ty.Struct s) n at f e = clash refl e
+  leaf_parts true b t n at f e = refl
+  leaf_parts false (At k) t n at f e = refl
+  leaf_parts false None (ty.Atomic a) n at f e = refl
+  leaf_parts false None (ty.Struct s) n at f e = clash refl e
 
   -- a member that is no structure
-  pub member-leaf : is_nested m ≡ false → member_by types members rec j m image ≡ leaf_out j m image
+  pub member_leaf : is_nested m ≡ false → member_by types members rec j m image ≡ leaf_out j m image
   unfolding is_nested member_by leaf_out
-  member-leaf e =
-      leaf-parts m.hidden m.bit m.ty m.count m.offset
+  member_leaf e =
+      leaf_parts m.hidden m.bit m.ty m.count m.offset
       (λ k. bool (flat image (8 * m.offset + k)) ∷ []) e
 
   -- a nested structure, or an array of them, gives its number and what its own part of the image gives
-  pub member-nested : (s : ℕ) → is_nested m ≡ true → m.ty ≡ ty.Struct s
+  pub member_nested : (s : ℕ) → is_nested m ≡ true → m.ty ≡ ty.Struct s
       → member_by types members rec j m image
       ≡ member j
       ∷ structs_by types members rec s m.count (part image m.offset (sizes_in types s * times m.count))
   unfolding member_by
-  member-nested s e q = rw (nested-shown m e, nested-whole m e, q)
+  member_nested s e q = rw (nested_shown m e, nested_whole m e, q)
 
 -- ---- what the tables say of a row
 
@@ -90,24 +90,24 @@ module _ {types members : List ℕ} where
       })
 
   -- a row of structure i whose member is a nested structure is a nested row
-  pub nested-row : {i row : ℕ} → RowOf types members i row → is_nested (member_at members row) ≡ true
+  pub nested_row : {i row : ℕ} → RowOf types members i row → is_nested (member_at members row) ≡ true
       → NestedRow types members i row
-  nested-row r e = record { row_of = r; nested = e }
+  nested_row r e = record { row_of = r; nested = e }
 
   module _ {i row : ℕ} {r : Nested} (nested : NestedRow types members i row) (held : HeldIn (member_at members row) r)
     where
       -- the structure that a nested row holds is an earlier one
-      pub held-earlier : r.structure < i
-      held-earlier = rw held.struct at nested.row_of.within.earlier
+      pub held_earlier : r.structure < i
+      held_earlier = rw held.struct at nested.row_of.within.earlier
 
       -- it has a number of the table
       pub held_low : r.structure < most_types
-      held_low = omega (arith, held-earlier, nested.row_of.low)
+      held_low = omega (arith, held_earlier, nested.row_of.low)
 
       -- what a nested row holds lies inside its structure
-      pub held-within : r.start + sizes_in types r.structure * times r.count ≤ sizes_in types i
-      held-within =
+      pub held_within : r.start + sizes_in types r.structure * times r.count ≤ sizes_in types i
+      held_within =
           let m = member_at members row in
           let h : 8 * m.offset + 8 * (sizes_in types r.structure * times m.count) ≤ 8 * sizes_in types i =
-          rw (nested-whole m nested.nested, held.struct) at nested.row_of.within.inside in
+          rw (nested_whole m nested.nested, held.struct) at nested.row_of.within.inside in
           rw held.count (omega (arith, held.at))

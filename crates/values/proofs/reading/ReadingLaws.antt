@@ -10,7 +10,7 @@ use lib.Seq.{sets}
 use borrow.Author.Tests.{ne_eqb, eqb-true, le-leb, lt-leb, leb-true}
 use Rattle.words.specs.Bits.{flat}
 use Rattle.words.specs.Words.{Bytes, bytes_of, part}
-use Rattle.words.proofs.Lists.{part-run}
+use Rattle.words.proofs.Lists.{part_run}
 use Rattle.types.specs.layout.Placing.{times}
 use Rattle.types.specs.refusals.Said.{done, refused, why}
 use Rattle.types.specs.tables.Sizes.{size_in, sizes_in}
@@ -20,7 +20,7 @@ use Rattle.types.specs.declared.refusals.refusal.Refusal.{Refusal}
 use Rattle.types.specs.declared.refusals.refusal.Refusal.TheVariants.{ImageLength, NoSuchType, NoRoom}
 use Rattle.types.specs.declared.tables.member.Ty.{Ty}
 use Rattle.types.specs.declared.tables.member.Ty.TheVariants as ty
-use Rattle.types.proofs.Face.{times-one, times-same, there-fits}
+use Rattle.types.proofs.Face.{times_one, times_same, there_fits}
 use Rattle.values.specs.inside.reading.Images.{said_of_image}
 use Rattle.values.specs.inside.reading.Read.{StreamWritten}
 use Rattle.values.specs.inside.reading.Walk.{atomics_out, elements_by, struct_out, structs_by, value_out}
@@ -35,35 +35,35 @@ use Rattle.values.specs.stream.Stream.{Token, bodies, most_bytes, stream_bytes}
 use Rattle.values.specs.declared.reading.read.Streamed.{Streamed}
 use Rattle.values.specs.declared.reading.read.Streamed.TheVariants.{Length, Refused}
 use Rattle.values.specs.declared.stream.place.Place.{Place}
-use Rattle.values.proofs.reading.ImageLaws.{fit-long, fit-there, unfit}
+use Rattle.values.proofs.reading.ImageLaws.{fit_long, fit_there, unfit}
 use Rattle.values.proofs.reading.Meaning.{meaning}
-use Rattle.values.proofs.stream.StreamLaws.{stream-long, stream-laid}
+use Rattle.values.proofs.stream.StreamLaws.{stream_long, stream_laid}
 
 -- ---- one way out each
 
 module _ (types members : List ℕ) (t : Ty) (n : ℕ) (image out : List ℕ) where
-  no-type : is_there types t ≡ false → Answered types members t n image out (Refused NoSuchType) out
+  no_type : is_there types t ≡ false → Answered types members t n image out (Refused NoSuchType) out
   unfolding read_answer
-  no-type e = record { answer = rw e refl; leaves = rw e refl }
+  no_type e = record { answer = rw e refl; leaves = rw e refl }
 
-  no-image : is_there types t ≡ true → image_fits types t n image ≡ false
+  no_image : is_there types t ≡ true → image_fits types t n image ≡ false
       → Answered types members t n image out (Refused ImageLength) out
   unfolding read_answer
-  no-image e f = record { answer = rw (e, f) refl; leaves = rw (e, f) refl }
+  no_image e f = record { answer = rw (e, f) refl; leaves = rw (e, f) refl }
 
   -- the ways out with 15 and 14: the image is not one of the type, and nothing is written
-  pub unfit-read : {w : Refusal} → why w ≡ said_of_image types t n (length image)
+  pub unfit_read : {w : Refusal} → why w ≡ said_of_image types t n (length image)
       → Answered types members t n image out (Refused w) out
-  unfit-read {w} e =
-      unfit types t n image (λ w. Answered types members t n image out (Refused w) out) no-type no-image w e
+  unfit_read {w} e =
+      unfit types t n image (λ w. Answered types members t n image out (Refused w) out) no_type no_image w e
 
   -- the image is one of the type: the answer is the one about the stream
   pub answered : {r : Streamed} {new : List ℕ} → done tt ≡ said_of_image types t n (length image)
       → StreamWritten types members t n image out r new → Answered types members t n image out r new
   unfolding read_answer
   answered e w =
-      let f = fit-there types t n image e in
-      let g = fit-long types t n image e in
+      let f = fit_there types t n image e in
+      let g = fit_long types t n image e in
       record { answer = rw (f, g) w.answer; leaves = rw (f, g) w.leaves }
 
   -- the way out with 16: the stream has no room, and nothing is written
@@ -82,13 +82,13 @@ module _ (types members : List ℕ) (t : Ty) (n : ℕ) (image out : List ℕ) wh
 
 module _ (types : List ℕ) (i n : ℕ) (image : List ℕ) (v : ImagesOf types i (times n) image) where
   -- with a count of 0 the image is that of one structure
-  pub image-one : n ≡ 0 → ImageOf types i image
-  image-one e =
-      record { low = v.low; long = v.long ∙ ap (λ (k : ℕ). sizes_in types i * k) (sym (times-one n e)) ∙ mul-one _ }
+  pub image_one : n ≡ 0 → ImageOf types i image
+  image_one e =
+      record { low = v.low; long = v.long ∙ ap (λ (k : ℕ). sizes_in types i * k) (sym (times_one n e)) ∙ mul-one _ }
 
   -- with any other count the image is that of so many structures
-  pub image-some : (n ≡ 0 → ⊥) → ImagesOf types i n image
-  image-some e = record { low = v.low; long = v.long ∙ ap (λ (k : ℕ). sizes_in types i * k) (sym (times-same n e)) }
+  pub image_some : (n ≡ 0 → ⊥) → ImagesOf types i n image
+  image_some e = record { low = v.low; long = v.long ∙ ap (λ (k : ℕ). sizes_in types i * k) (sym (times_same n e)) }
 
 -- an image of a value of a structure is one of so many of that structure
 pub images : (types : List ℕ) (t : Ty) {i : ℕ} (n : ℕ) (image : List ℕ) → t ≡ ty.Struct i → ValueImage types t n image
@@ -97,32 +97,32 @@ images types t {i} n image e v = let w = rw e at v in record { low = w.fits; lon
 
 module _ (types members : List ℕ) (n : ℕ) (image : List ℕ) where
   -- a value of an atomic type gives that atomic, or so many of them
-  pub value-atomic : (t : Ty) {a : Atomic} → t ≡ ty.Atomic a → value_out types members t n image ≡ atomics_out a n image
+  pub value_atomic : (t : Ty) {a : Atomic} → t ≡ ty.Atomic a → value_out types members t n image ≡ atomics_out a n image
   unfolding value_out
-  value-atomic t {a} e = rw e refl
+  value_atomic t {a} e = rw e refl
 
   -- a value of a structure type gives that structure, or so many of them
-  pub value-struct : (t : Ty) {i : ℕ} → t ≡ ty.Struct i
+  pub value_struct : (t : Ty) {i : ℕ} → t ≡ ty.Struct i
       → value_out types members t n image ≡ structs_by types members (struct_out types members) i n image
   unfolding value_out
-  value-struct t {i} e = rw e refl
+  value_struct t {i} e = rw e refl
 
   -- a structure with a count of 0 gives what one structure gives
-  pub value-one : (i : ℕ) → n ≡ 0
+  pub value_one : (i : ℕ) → n ≡ 0
       → value_out types members (ty.Struct i) n image ≡ struct_out types members i image
   unfolding value_out structs_by
-  value-one i e = rw e refl
+  value_one i e = rw e refl
 
   -- a structure with any other count gives its elements in brackets
-  pub value-some : (i : ℕ) → (n ≡ 0 → ⊥)
+  pub value_some : (i : ℕ) → (n ≡ 0 → ⊥)
       → value_out types members (ty.Struct i) n image
       ≡ elements_by types members (struct_out types members) i n image
   unfolding value_out structs_by
-  value-some i e = rw (ne_eqb n 0 e) refl
+  value_some i e = rw (ne_eqb n 0 e) refl
 
 -- entries of which none is a text have no bytes of text
-pub no-texts : {room : ℕ} {ts : List Token} → bodies ts ≡ [] → Texts room ts 0
-no-texts e =
+pub no_texts : {room : ℕ} {ts : List Token} → bodies ts ≡ [] → Texts room ts 0
+no_texts e =
     record {
       exact = λ l. ap length e;
       over = λ l. absurd (let z : ⊥ = omega arith in z);
@@ -132,11 +132,11 @@ no-texts e =
 -- ---- the stream of a value is that of the walk's entries
 
 -- the stream of a value is the stream of the entries that the walk gives
-pub stream-is : (types members : List ℕ) → Walkable types members → (t : Ty) (n : ℕ) (image : List ℕ)
+pub stream_is : (types members : List ℕ) → Walkable types members → (t : Ty) (n : ℕ) (image : List ℕ)
     → ValueImage types t n image → Bytes image
     → value_stream types members t n image ≡ stream_bytes (value_out types members t n image)
 unfolding stream_of
-stream-is types members w t n image v b =
+stream_is types members w t n image v b =
     ap stream_bytes (sym (meaning types members w t n image v.fits v.long b))
 
 -- ---- room for it
@@ -148,17 +148,17 @@ module _ (types members : List ℕ) (t : Ty) (n : ℕ) (image out : List ℕ) (r
   ts = value_out types members t n image
 
   long : length (value_stream types members t n image) ≡ 4 + 12 * length ts + length (bodies ts)
-  long = ap length same ∙ stream-long ts
+  long = ap length same ∙ stream_long ts
 
   -- entries and texts that pass the room: the stream has no room in the buffer
-  pub over-room : room < 12 * length ts + length (bodies ts)
+  pub over_room : room < 12 * length ts + length (bodies ts)
       → has_room (value_stream types members t n image) (length out) ≡ false
-  over-room l =
+  over_room l =
       lt-leb (length (value_stream types members t n image)) (min (length out) most_bytes) (omega (arith, long, space))
 
-  in-room : 12 * length ts + length (bodies ts) ≤ room
+  in_room : 12 * length ts + length (bodies ts) ≤ room
       → has_room (value_stream types members t n image) (length out) ≡ true
-  in-room l =
+  in_room l =
       le-leb (length (value_stream types members t n image)) (min (length out) most_bytes) (omega (arith, long, space))
 
   -- where the count, the entries and the texts are written, so is the stream
@@ -167,10 +167,10 @@ module _ (types members : List ℕ) (t : Ty) (n : ℕ) (image out : List ℕ) (r
       → TokensLaid mid (4 + 12 * entries) 4 0 ts new p
       → StreamWritten types members t n image out (Length (4 + 12 * entries + text)) new
   read_all {entries} {text} {mid} e f l m w =
-      all_room types members t n image out (in-room l) (omega (arith, long, e, f))
+      all_room types members t n image out (in_room l) (omega (arith, long, e, f))
       (w.bytes ∙ ap (λ (o : List ℕ). laid_in o (4 + 12 * entries) 4 0 ts) m
       ∙ ap (λ (k : ℕ). laid_in (sets out 0 (bytes_of 4 k)) (4 + 12 * k) 4 0 ts) e
-      ∙ stream-laid out ts ∙ ap (sets out 0) (sym same))
+      ∙ stream_laid out ts ∙ ap (sets out 0) (sym same))
 
 -- a buffer of fewer than four bytes has no room for any stream
 pub no_start : (types members : List ℕ) (t : Ty) (n : ℕ) (image out : List ℕ) → min (length out) most_bytes < 4
@@ -179,7 +179,7 @@ unfolding stream_of
 no_start types members t n image out l =
     let ts = read (items (tree_of_value (known_in types members) t n) 0) (flat image) in
     lt-leb (length (value_stream types members t n image)) (min (length out) most_bytes)
-    (omega (arith, l, stream-long ts))
+    (omega (arith, l, stream_long ts))
 
 -- ---- what a caller may count on
 
@@ -213,9 +213,9 @@ module _ {types members : List ℕ} {t : Ty} {n k : ℕ} {image out new : List �
   stream = value_stream types members t n image
 
   -- where a length is answered, type, image and room are right, and the stream is written
-  pub length-told : LengthTold types members t n image out k new
+  pub length_told : LengthTold types members t n image out k new
   unfolding read_answer stream_answer part
-  length-told =
+  length_told =
       let g = given (is_there types t) (image_fits types t n image) (has_room stream (length out)) k (length stream)
       w.answer in
       let room = leb-true (length stream) (min (length out) most_bytes) g.room in
@@ -223,14 +223,14 @@ module _ {types members : List ℕ} {t : Ty} {n k : ℕ} {image out new : List �
       record {
         there = g.there;
         value = record {
-          fits = there-fits types t g.there;
+          fits = there_fits types t g.there;
           long = eqb-true (length image) (size_in (sizes_in types) t * times n) g.fits;
         };
         room = room;
         long = g.long;
-        stream = ap₂ take g.long left ∙ part-run out 0 stream (omega (arith, room));
+        stream = ap₂ take g.long left ∙ part_run out 0 stream (omega (arith, room));
       }
 
   -- no stream is longer than its buffer, or than 2^31 bytes
   pub read_short : k ≤ min (length out) most_bytes
-  read_short = let told = length-told in omega (arith, told.room, told.long)
+  read_short = let told = length_told in omega (arith, told.room, told.long)

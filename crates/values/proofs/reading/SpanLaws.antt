@@ -7,7 +7,7 @@ use mathlib.Core.Path.{◌≡◌, refl, ap, ◌∙◌}
 use mathlib.Core.Bool.{Bool, true, false, cond}
 use mathlib.Core.List.{List}
 use lib.Dec.{eqb}
-use Rattle.words.proofs.ArithLaws.{array-bits}
+use Rattle.words.proofs.ArithLaws.{array_bits}
 use Rattle.types.specs.atomics.Atomic.{bit_string, size_of}
 use Rattle.types.specs.inside.tables.Lent.{TyFits}
 use Rattle.types.specs.layout.Laid.{Earlier, first_bit}
@@ -22,7 +22,7 @@ use Rattle.types.specs.declared.tables.member.Bit.TheVariants.{None, At}
 use Rattle.types.specs.declared.tables.member.Member.{Member}
 use Rattle.types.specs.declared.tables.member.Ty.{Ty}
 use Rattle.types.specs.declared.tables.member.Ty.TheVariants as ty
-use Rattle.types.proofs.Face.{times-same}
+use Rattle.types.proofs.Face.{times_same}
 use Rattle.values.specs.inside.reading.Walkable.{MemberWithin, IsString, WalkableType, Walkable}
 use Rattle.values.specs.reading.Leaf.{str, leaf_of}
 use Rattle.values.specs.reading.Texts.{capacity_at}
@@ -68,29 +68,30 @@ leaf_room atomic.DWord = refl
 leaf_room atomic.LWord = refl
 
 -- an array of bit strings has the bits of all of them
-pub all-bits : (w n : ℕ) → all_bits (8 * w) n ≡ 8 * (w * times n)
+pub all_bits_lem : (w n : ℕ) → all_bits (8 * w) n ≡ 8 * (w * times n)
 unfolding all_bits times
-all-bits w zero = omega (arith, mul-one w)
-all-bits w (suc n) =
-    mul_assoc 8 w (suc n) ∙ ap (λ (k : ℕ). 8 * (w * k)) (times-same (suc n) (λ e. omega arith))
+all_bits_lem w zero = omega (arith, mul-one w)
+all_bits_lem w (suc n) =
+    mul_assoc 8 w (suc n) ∙ ap (λ (k : ℕ). 8 * (w * k)) (times_same (suc n) (λ e. omega arith))
 
 -- the tree of an atomic, or of so many, takes the bits of all their bytes
-pub atomics-span : (a : Atomic) (n : ℕ) → span (atomics_tree a n) ≡ 8 * (size_of a * times n)
+pub atomics_span : (a : Atomic) (n : ℕ) → span (atomics_tree a n) ≡ 8 * (size_of a * times n)
 unfolding atomics_tree span
-atomics-span a n = go (bit_string a) (many n)
+atomics_span a n = go (bit_string a) (many n)
   where
     go : (b : Bool) → Many n
         → span (cond b (bits (8 * size_of a) n) (cond (eqb n 0) (leaf (leaf_of a)) (array n (leaf (leaf_of a)))))
         ≡ 8 * (size_of a * times n)
-    go true m = all-bits (size_of a) n
+    go true m = all_bits_lem (size_of a) n
     go false (one e t) = rw (e, t, mul-one (size_of a)) (leaf_room a)
-    go false (some e t) = rw (e, t) (array-bits n (size_of a) (room (leaf_of a)) (leaf_room a))
+    go false (some e t) = rw (e, t) (array_bits n (size_of a) (room (leaf_of a)) (leaf_room a))
 
-atomics-inside : (a : Atomic) (n : ℕ) → Inside (atomics_tree a n)
+atomics_inside : (a : Atomic) (n : ℕ) → Inside (atomics_tree a n)
 unfolding atomics_tree Inside
-atomics-inside a n = go (bit_string a) (eqb n 0)
+atomics_inside a n = go (bit_string a) (eqb n 0)
   where
-    go : (b c : Bool) → Inside (cond b (bits (8 * size_of a) n) (cond c (leaf (leaf_of a)) (array n (leaf (leaf_of a)))))
+    go : (b c : Bool)
+        → Inside (cond b (bits (8 * size_of a) n) (cond c (leaf (leaf_of a)) (array n (leaf (leaf_of a)))))
     go true c = tt
     go false true = tt
     go false false = tt
@@ -103,74 +104,74 @@ pub record TreesSized (types : List ℕ) (trees : ℕ → Tree) (i : ℕ) : Type
   pub insides : (s : ℕ) → s < i → Inside (trees s)
 
 -- where the trees of the first f structures have their sizes, so have those of fewer
-pub sound-below : {types : List ℕ} {trees : ℕ → Tree} {f : ℕ} (i : ℕ) → i ≤ f → TreesSized types trees f
+pub sound_below : {types : List ℕ} {trees : ℕ → Tree} {f : ℕ} (i : ℕ) → i ≤ f → TreesSized types trees f
     → TreesSized types trees i
-sound-below i h sound =
+sound_below i h sound =
     record { spans = λ s l. sound.spans s (omega arith); insides = λ s l. sound.insides s (omega arith) }
 
 module _ (types members : List ℕ) (trees : ℕ → Tree) (i : ℕ) (sound : TreesSized types trees i) where
-  structs-span : (s n : ℕ) → s < i → span (structs_tree trees s n) ≡ 8 * (sizes_in types s * times n)
+  structs_span : (s n : ℕ) → s < i → span (structs_tree trees s n) ≡ 8 * (sizes_in types s * times n)
   unfolding structs_tree span
-  structs-span s n l = go (many n)
+  structs_span s n l = go (many n)
     where
       go : Many n → span (cond (eqb n 0) (trees s) (array n (trees s))) ≡ 8 * (sizes_in types s * times n)
       go (one e t) = rw (e, t, mul-one (sizes_in types s)) (sound.spans s l)
-      go (some e t) = rw (e, t) (array-bits n (sizes_in types s) (span (trees s)) (sound.spans s l))
+      go (some e t) = rw (e, t) (array_bits n (sizes_in types s) (span (trees s)) (sound.spans s l))
 
-  structs-inside : (s n : ℕ) → s < i → Inside (structs_tree trees s n)
+  structs_inside : (s n : ℕ) → s < i → Inside (structs_tree trees s n)
   unfolding structs_tree Inside
-  structs-inside s n l = go (eqb n 0)
+  structs_inside s n l = go (eqb n 0)
     where
       go : (b : Bool) → Inside (cond b (trees s) (array n (trees s)))
       go true = sound.insides s l
       go false = sound.insides s l
 
   -- the tree of a value whose type is earlier takes the bits of all its bytes
-  pub value-span : (t : Ty) (n : ℕ) → Earlier i t
+  pub value_span : (t : Ty) (n : ℕ) → Earlier i t
       → span (value_tree trees t n) ≡ 8 * (size_in (sizes_in types) t * times n)
-  value-span (ty.Atomic a) n l = atomics-span a n
-  value-span (ty.Struct s) n l = structs-span s n l
+  value_span (ty.Atomic a) n l = atomics_span a n
+  value_span (ty.Struct s) n l = structs_span s n l
 
   -- in the tree of a value whose type is earlier all branches lie inside
-  pub value-inside : (t : Ty) (n : ℕ) → Earlier i t → Inside (value_tree trees t n)
-  value-inside (ty.Atomic a) n l = atomics-inside a n
-  value-inside (ty.Struct s) n l = structs-inside s n l
+  pub value_inside : (t : Ty) (n : ℕ) → Earlier i t → Inside (value_tree trees t n)
+  value_inside (ty.Atomic a) n l = atomics_inside a n
+  value_inside (ty.Struct s) n l = structs_inside s n l
 
   -- a member's bits are those that its row says
-  pub bit-span : (b : Bit) (m : Member) → Earlier i m.ty
+  pub bit_span : (b : Bit) (m : Member) → Earlier i m.ty
       → span (bit_tree b (value_tree trees m.ty m.count)) ≡ bits_of (sizes_in types) b m
-  bit-span None m l = value-span m.ty m.count l
-  bit-span (At k) m l = unfold span in refl
+  bit_span None m l = value_span m.ty m.count l
+  bit_span (At k) m l = unfold span in refl
 
-  bit-inside : (b : Bit) (m : Member) → Earlier i m.ty → Inside (bit_tree b (value_tree trees m.ty m.count))
-  bit-inside None m l = value-inside m.ty m.count l
-  bit-inside (At k) m l = unfold Inside in tt
+  bit_inside : (b : Bit) (m : Member) → Earlier i m.ty → Inside (bit_tree b (value_tree trees m.ty m.count))
+  bit_inside None m l = value_inside m.ty m.count l
+  bit_inside (At k) m l = unfold Inside in tt
 
   -- a member that lies inside, hidden or not, before others that do
-  seen-inside : (hidden : Bool) (size j : ℕ) (m : Member) (rest : Branches) → MemberWithin types i size m
+  seen_inside : (hidden : Bool) (size j : ℕ) (m : Member) (rest : Branches) → MemberWithin types i size m
       → AllInside (8 * size) rest
       → AllInside (8 * size)
       (seen hidden j (first_bit m) (bit_tree m.bit (value_tree trees m.ty m.count)) rest)
   unfolding Inside
-  seen-inside true size j m rest within others = others
-  seen-inside false size j m rest within others =
-      (bit-inside m.bit m within.earlier, (rw (bit-span m.bit m within.earlier) within.inside, others))
+  seen_inside true size j m rest within others = others
+  seen_inside false size j m rest within others =
+      (bit_inside m.bit m within.earlier, (rw (bit_span m.bit m within.earlier) within.inside, others))
 
   rows_inside : (size j row n : ℕ) → ((k : ℕ) → k < n → MemberWithin types i size (member_at members (row + k)))
       → AllInside (8 * size) (branches_from trees j (members_at members row n))
   unfolding branches_from members_at
   rows_inside size j row zero each = unfold Inside in tt
   rows_inside size j row (suc n) each =
-      seen-inside (member_at members row).hidden size j (member_at members row)
+      seen_inside (member_at members row).hidden size j (member_at members row)
       (branches_from trees (suc j) (members_at members (row + 1) n)) (rw add-zero at (each 0 (omega arith)))
       (rows_inside size (suc j) (row + 1) n (λ k l. rw (next k) (each (suc k) (omega arith))))
     where
       next : (k : ℕ) → row + 1 + k ≡ row + suc k
       next k = omega arith
 
-  struct-inside : WalkableType types members i → Inside (struct_tree trees (known_in types members i))
+  struct_inside : WalkableType types members i → Inside (struct_tree trees (known_in types members i))
   unfolding struct_tree known_in Inside
-  struct-inside w = go (is_string_kind (type_at types i).kind)
+  struct_inside w = go (is_string_kind (type_at types i).kind)
     where
       go : (b : Bool)
           → Inside
@@ -183,16 +184,16 @@ module _ (types members : List ℕ) (trees : ℕ → Tree) (i : ℕ) (sound : Tr
 -- ---- strings
 
 -- a string's capacity stands in its second row
-pub capacity-is : (members : List ℕ) (first n : ℕ) → n ≡ 2
+pub capacity_is : (members : List ℕ) (first n : ℕ) → n ≡ 2
     → second_count (members_at members first n) ≡ capacity_at members first
 unfolding members_at
-capacity-is members first n e = rw e
+capacity_is members first n e = rw e
 
 -- the tree of a structure has its size, whatever the trees inside
-struct-span : (types members : List ℕ) (trees : ℕ → Tree) (i : ℕ) → WalkableType types members i
+struct_span : (types members : List ℕ) (trees : ℕ → Tree) (i : ℕ) → WalkableType types members i
     → span (struct_tree trees (known_in types members i)) ≡ 8 * sizes_in types i
 unfolding struct_tree known_in span
-struct-span types members trees i w = go (is_string_kind (type_at types i).kind) refl
+struct_span types members trees i w = go (is_string_kind (type_at types i).kind) refl
   where
     go : (b : Bool) → is_string_kind (type_at types i).kind ≡ b
         → span
@@ -202,7 +203,7 @@ struct-span types members trees i w = go (is_string_kind (type_at types i).kind)
         ≡ 8 * (type_at types i).size
     go true e =
         let s : IsString members (type_at types i) = w.string e in
-        rw (capacity-is members (type_at types i).first (type_at types i).count s.rows) (omega (arith, s.size))
+        rw (capacity_is members (type_at types i).first (type_at types i).count s.rows) (omega (arith, s.size))
     go false e = refl
 
 -- ---- all structures
@@ -214,34 +215,34 @@ earlier (ty.Struct s) l = l
 
 module _ (types members : List ℕ) (w : Walkable types members) where
   -- nested so deep, the first so many are sound
-  pub sound-within : (f : ℕ) → f ≤ most_types → TreesSized types (tree_within (known_in types members) f) f
+  pub sound_within : (f : ℕ) → f ≤ most_types → TreesSized types (tree_within (known_in types members) f) f
   unfolding tree_within
-  sound-within zero h =
+  sound_within zero h =
       record {
         spans = λ s l. absurd (let z : ⊥ = omega arith in z);
         insides = λ s l. absurd (let z : ⊥ = omega arith in z);
       }
-  sound-within (suc f) h =
+  sound_within (suc f) h =
       let trees : ℕ → Tree = tree_within (known_in types members) f in
       record {
-        spans = λ s l. struct-span types members trees s (w.each s (omega arith));
+        spans = λ s l. struct_span types members trees s (w.each s (omega arith));
         insides = λ s l.
-            struct-inside types members trees s (sound-below s (omega arith) (sound-within f (omega arith)))
+            struct_inside types members trees s (sound_below s (omega arith) (sound_within f (omega arith)))
             (w.each s (omega arith));
       }
 
   -- the trees of all structures have their sizes, and their branches lie inside
-  pub sound-all : TreesSized types (tree_of (known_in types members)) most_types
+  pub sound_all : TreesSized types (tree_of (known_in types members)) most_types
   unfolding tree_of
-  sound-all = sound-within most_types (omega arith)
+  sound_all = sound_within most_types (omega arith)
 
   -- the tree of a structure takes the bits of its size
-  pub tree-span : (i : ℕ) → i < most_types → span (tree_of (known_in types members) i) ≡ 8 * sizes_in types i
-  tree-span i l = sound-all.spans i l
+  pub tree_span : (i : ℕ) → i < most_types → span (tree_of (known_in types members) i) ≡ 8 * sizes_in types i
+  tree_span i l = sound_all.spans i l
 
   -- the tree of a value takes the bits of its type's size times max(count, 1)
-  pub tree-value-span : (t : Ty) (n : ℕ) → TyFits t
+  pub tree_value_span : (t : Ty) (n : ℕ) → TyFits t
       → span (tree_of_value (known_in types members) t n) ≡ 8 * (size_in (sizes_in types) t * times n)
   unfolding tree_of_value
-  tree-value-span t n l = value-span types members (tree_of (known_in types members)) most_types sound-all t n
+  tree_value_span t n l = value_span types members (tree_of (known_in types members)) most_types sound_all t n
       (earlier t l)

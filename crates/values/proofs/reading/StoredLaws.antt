@@ -17,7 +17,7 @@ use Rattle.types.specs.declared.atomics.atomic.Atomic.{Atomic}
 use Rattle.types.specs.declared.tables.member.StructDef.{StructDef}
 use Rattle.types.specs.declared.tables.member.Ty.{Ty}
 use Rattle.types.specs.declared.tables.member.Ty.TheVariants as ty
-use Rattle.types.proofs.Face.{there-fits}
+use Rattle.types.proofs.Face.{there_fits}
 use Rattle.values.specs.inside.reading.Texts.{TextHeld}
 use Rattle.values.specs.inside.reading.Walkable.{IsString, Walkable}
 use Rattle.values.specs.reading.Texts.{capacity_at, text_length, Address, Stored, capacity_of, string_number}
@@ -31,44 +31,44 @@ abbrev string_by : Bool → Bool → ℕ
 string_by b c = cond b (cond c 0 14) 15
 
 module _ (types : List ℕ) (i long : ℕ) {d : StructDef} (e : d ≡ type_at types i) where
-  string-by : {b c : Bool} → is_string_kind d.kind ≡ b → eqb long d.size ≡ c
+  string_by_lem : {b c : Bool} → is_string_kind d.kind ≡ b → eqb long d.size ≡ c
       → string_by b c ≡ string_number types i long
   unfolding string_number
-  string-by p q =
+  string_by_lem p q =
       sym (ap₂ string_by p q) ∙ ap (λ (f : StructDef). string_by (is_string_kind f.kind) (eqb long f.size)) e
 
   -- a string type and an image of its size: the number is 0
-  pub string-fits : is_string_kind d.kind ≡ true → long ≡ d.size → 0 ≡ string_number types i long
-  string-fits p l = string-by p (eq-eqb long d.size l)
+  pub string_fits : is_string_kind d.kind ≡ true → long ≡ d.size → 0 ≡ string_number types i long
+  string_fits p l = string_by_lem p (eq-eqb long d.size l)
 
   -- a string type and an image of another length: the number is 14
-  pub string-misfits : is_string_kind d.kind ≡ true → (long ≡ d.size → ⊥) → 14 ≡ string_number types i long
-  string-misfits p l = string-by p (ne_eqb long d.size l)
+  pub string_misfits : is_string_kind d.kind ≡ true → (long ≡ d.size → ⊥) → 14 ≡ string_number types i long
+  string_misfits p l = string_by_lem p (ne_eqb long d.size l)
 
   -- a structure that is no string type: the number is 15
-  pub no-string : is_string_kind d.kind ≡ false → 15 ≡ string_number types i long
-  no-string p = string-by p refl
+  pub no_string : is_string_kind d.kind ≡ false → 15 ≡ string_number types i long
+  no_string p = string_by_lem p refl
 
 module _ (types : List ℕ) (t : Ty) (image : List ℕ) where
   -- no such type: the number is 15
-  pub number-none : is_there types t ≡ false → 15 ≡ text_number types t image
+  pub number_none : is_there types t ≡ false → 15 ≡ text_number types t image
   unfolding text_number
-  number-none h = rw h
+  number_none h = rw h
 
   -- an atomic type: the number is 15
-  pub number-atomic : {a : Atomic} → is_there types t ≡ true → t ≡ ty.Atomic a → 15 ≡ text_number types t image
+  pub number_atomic : {a : Atomic} → is_there types t ≡ true → t ≡ ty.Atomic a → 15 ≡ text_number types t image
   unfolding text_number
-  number-atomic h e = rw (h, e)
+  number_atomic h e = rw (h, e)
 
   -- a structure that is there: the number is the one for it and the image's length
-  pub number-struct : {i : ℕ} → is_there types t ≡ true → t ≡ ty.Struct i
+  pub number_struct : {i : ℕ} → is_there types t ≡ true → t ≡ ty.Struct i
       → string_number types i (length image) ≡ text_number types t image
   unfolding text_number
-  number-struct h e = rw (h, e)
+  number_struct h e = rw (h, e)
 
 -- a structure that is there has a number below 200
-pub there-low : (types : List ℕ) (t : Ty) {i : ℕ} → is_there types t ≡ true → t ≡ ty.Struct i → i < most_types
-there-low types t h e = rw e at (there-fits types t h)
+pub there_low : (types : List ℕ) (t : Ty) {i : ℕ} → is_there types t ≡ true → t ≡ ty.Struct i → i < most_types
+there_low types t h e = rw e at (there_fits types t h)
 
 -- ---- an image that is not refused
 
@@ -97,7 +97,7 @@ accepted types i image e =
     let long : Bool = eqb (length image) (sizes_in types i) in
     let p = passed (is_there types (ty.Struct i)) (is_string_kind (type_at types i).kind) long e in
     record {
-      low = there-fits types (ty.Struct i) p.there;
+      low = there_fits types (ty.Struct i) p.there;
       string = p.string;
       long = eqb-true (length image) (sizes_in types i) p.long;
     }
@@ -121,30 +121,30 @@ readable {types} {members} t {i} image w e n =
     }
 
 -- the text of a string whose capacity is in the image lies in the image
-pub held-struct : {types members : List ℕ} {t : Ty} {i : ℕ} {image : List ℕ} {n : ℕ} → t ≡ ty.Struct i
+pub held_struct : {types members : List ℕ} {t : Ty} {i : ℕ} {image : List ℕ} {n : ℕ} → t ≡ ty.Struct i
     → TextReadable types members i image → n ≡ text_length (capacity_at members (type_at types i).first) image
     → TextHeld types members t image n
-held-struct {types} {members} {t} {i} {image} e r h = record { long = rw e h; inside = omega (arith, r.inside) }
+held_struct {types} {members} {t} {i} {image} e r h = record { long = rw e h; inside = omega (arith, r.inside) }
 
 -- no image of an atomic has a stored text
-pub no-atomic : {A : Type 0} (types image : List ℕ) (a : Atomic) → text_number types (ty.Atomic a) image ≡ 0 → A
+pub no_atomic : {A : Type 0} (types image : List ℕ) (a : Atomic) → text_number types (ty.Atomic a) image ≡ 0 → A
 unfolding text_number
-no-atomic types image a n = let z : ◌≡◌ {A = ℕ} 15 0 = n in absurd (let y : ⊥ = omega arith in y)
+no_atomic types image a n = let z : ◌≡◌ {A = ℕ} 15 0 = n in absurd (let y : ⊥ = omega arith in y)
 
 -- no atomic has the number 0, so that nothing is asked of its text
-pub held-atomic : {types members : List ℕ} {t : Ty} {a : Atomic} {image : List ℕ} {n : ℕ} → t ≡ ty.Atomic a
+pub held_atomic : {types members : List ℕ} {t : Ty} {a : Atomic} {image : List ℕ} {n : ℕ} → t ≡ ty.Atomic a
     → text_number types t image ≡ 0 → TextHeld types members t image n
-held-atomic {types} {a = a} {image = image} e n = no-atomic types image a (rw e at n)
+held_atomic {types} {a = a} {image = image} e n = no_atomic types image a (rw e at n)
 
 -- ---- what is handed back
 
 module _ {types members : List ℕ} {t : Ty} {image : List ℕ} {whole place : Address} {number : ℕ}
     (e : number ≡ text_number types t image) (block : place.0 ≡ whole.0) where
   -- a number of 0: the text's part of the image is handed back, 4 bytes after the image's start
-  pub stored-text : {n : ℕ} → number ≡ 0 → TextHeld types members t image n → place.1 ≡ 4 + whole.1
+  pub stored_text : {n : ℕ} → number ≡ 0 → TextHeld types members t image n → place.1 ≡ 4 + whole.1
       → Stored types members t image whole number (take (4 + n - 4) (drop 4 image)) place
   unfolding text_part part
-  stored-text {n} z h s =
+  stored_text {n} z h s =
       let f : 4 + n - 4 ≡ text_length (capacity_of types members t) image = omega (arith, h.long) in
       record {
         why = e;
@@ -154,9 +154,9 @@ module _ {types members : List ℕ} {t : Ty} {image : List ℕ} {whole place : A
       }
 
   -- any other number: an empty part at the image's start is handed back
-  pub stored-none : (number ≡ 0 → ⊥) → place.1 ≡ 0 + whole.1 → Stored types members t image whole number [] place
+  pub stored_none : (number ≡ 0 → ⊥) → place.1 ≡ 0 + whole.1 → Stored types members t image whole number [] place
   unfolding text_part
-  stored-none z s =
+  stored_none z s =
       record {
         why = e;
         text = rw (← e, ne_eqb number 0 z);

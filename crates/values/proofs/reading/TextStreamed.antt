@@ -11,45 +11,45 @@ use Rattle.types.specs.tables.Lent.{type_at}
 use Rattle.types.specs.tables.Sizes.{sizes_in}
 use Rattle.types.specs.declared.tables.member.Ty.{Ty}
 use Rattle.types.specs.declared.tables.member.Ty.TheVariants as ty
-use Rattle.types.proofs.Face.{times-one}
+use Rattle.types.proofs.Face.{times_one}
 use Rattle.values.specs.inside.reading.Walk.{struct_by, struct_out, struct_within, text_out}
 use Rattle.values.specs.inside.reading.Walkable.{ValueImage}
 use Rattle.values.specs.reading.Read.{value_stream}
 use Rattle.values.specs.reading.Texts.{Address, Stored, capacity_of, text_number, text_part, capacity_at, text_in}
 use Rattle.values.specs.reading.Trees.{is_string_kind}
 use Rattle.values.specs.stream.Stream.{stream_bytes, text}
-use Rattle.values.proofs.reading.KeptWalkable.{kept-walkable}
-use Rattle.values.proofs.reading.ReadingLaws.{stream-is, value-one}
-use Rattle.values.proofs.reading.StoredLaws.{Accepted, accepted, no-atomic}
+use Rattle.values.proofs.reading.KeptWalkable.{kept_walkable}
+use Rattle.values.proofs.reading.ReadingLaws.{stream_is, value_one}
+use Rattle.values.proofs.reading.StoredLaws.{Accepted, accepted, no_atomic}
 
 -- a string is read as one text
-string-out : (types members : List ℕ) (i : ℕ) (image : List ℕ) → is_string_kind (type_at types i).kind ≡ true
+string_out : (types members : List ℕ) (i : ℕ) (image : List ℕ) → is_string_kind (type_at types i).kind ≡ true
     → struct_out types members i image ≡ text_out (capacity_at members (type_at types i).first) image
 unfolding struct_out struct_within struct_by
-string-out types members i image e = rw e refl
+string_out types members i image e = rw e refl
 
 -- the part, where nothing is refused
-part-is : (types members : List ℕ) (t : Ty) (image : List ℕ) → text_number types t image ≡ 0
+part_is : (types members : List ℕ) (t : Ty) (image : List ℕ) → text_number types t image ≡ 0
     → text_part types members t image ≡ text_in (capacity_of types members t) image
 unfolding text_part
-part-is types members t image e = rw e refl
+part_is types members t image e = rw e refl
 
-accepted-image : {types : List ℕ} {i : ℕ} {image : List ℕ} → Accepted types i image
+accepted_image : {types : List ℕ} {i : ℕ} {image : List ℕ} → Accepted types i image
     → ValueImage types (ty.Struct i) 0 image
-accepted-image {types} {i} a =
+accepted_image {types} {i} a =
     record {
       fits = a.low;
-      long = a.long ∙ sym (mul-one (sizes_in types i)) ∙ ap (λ (k : ℕ). sizes_in types i * k) (times-one 0 refl);
+      long = a.long ∙ sym (mul-one (sizes_in types i)) ∙ ap (λ (k : ℕ). sizes_in types i * k) (times_one 0 refl);
     }
 
 module _ {types members : List ℕ} (kept : KeptRows types members) {image : List ℕ} (b : Bytes image) where
   -- where `text` answers 0 and a part, `read` streams the one text entry with the part's bytes
-  pub text-streamed : {t : Ty} {whole place : Address} {part : List ℕ}
+  pub text_streamed : {t : Ty} {whole place : Address} {part : List ℕ}
       → Stored types members t image whole 0 part place
       → value_stream types members t 0 image ≡ stream_bytes (text part ∷ [])
-  text-streamed {t = ty.Atomic a} s = no-atomic types image a (sym s.why)
-  text-streamed {t = ty.Struct i} s =
+  text_streamed {t = ty.Atomic a} s = no_atomic types image a (sym s.why)
+  text_streamed {t = ty.Struct i} s =
       let a = accepted types i image (sym s.why) in
-      stream-is types members (kept-walkable kept.kept) (ty.Struct i) 0 image (accepted-image a) b
-      ∙ ap stream_bytes (value-one types members 0 image i refl ∙ string-out types members i image a.string
-      ∙ ap (λ (p : List ℕ). text p ∷ []) (sym (s.text ∙ part-is types members (ty.Struct i) image (sym s.why))))
+      stream_is types members (kept_walkable kept.kept) (ty.Struct i) 0 image (accepted_image a) b
+      ∙ ap stream_bytes (value_one types members 0 image i refl ∙ string_out types members i image a.string
+      ∙ ap (λ (p : List ℕ). text p ∷ []) (sym (s.text ∙ part_is types members (ty.Struct i) image (sym s.why))))

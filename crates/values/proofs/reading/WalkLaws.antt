@@ -22,7 +22,7 @@ use Rattle.values.specs.inside.reading.Walkable.{WalkableType, Walkable}
 use Rattle.values.specs.reading.Texts.{capacity_at}
 use Rattle.values.specs.reading.Trees.{is_string_kind}
 use Rattle.values.specs.stream.Stream.{Token, bool, member}
-use Rattle.values.proofs.reading.UpLaws.{up-ext}
+use Rattle.values.proofs.reading.UpLaws.{up_ext}
 
 -- ---- what the nested structures give is all that matters
 
@@ -32,7 +32,7 @@ module _ (types members : List ℕ) (f g : ℕ → List ℕ → List Token) (i :
       → elements_by types members f s n image ≡ elements_by types members g s n image
   unfolding elements_by
   elements_same s n image l =
-      ap (wrap 10 11) (up-ext (element_by types members f s image) (element_by types members g s image) n
+      ap (wrap 10 11) (up_ext (element_by types members f s image) (element_by types members g s image) n
       (λ k h. same s (part image (sizes_in types s * k) (sizes_in types s)) l))
 
   structs_same : (s n : ℕ) (image : List ℕ) → s < i
@@ -45,24 +45,24 @@ module _ (types members : List ℕ) (f g : ℕ → List ℕ → List Token) (i :
   value_same (ty.Atomic a) n image l = refl
   value_same (ty.Struct s) n image l = structs_same s n image l
 
-  member-same : (j : ℕ) (m : Member) (image : List ℕ) → Earlier i m.ty
+  member_same : (j : ℕ) (m : Member) (image : List ℕ) → Earlier i m.ty
       → member_by types members f j m image ≡ member_by types members g j m image
   unfolding member_by
-  member-same j m image l =
+  member_same j m image l =
       ap (λ (ts : List Token). cond m.hidden []
       (member j ∷ bit_out m.bit (λ k. bool (flat image (8 * m.offset + k)) ∷ []) ts))
       (value_same m.ty m.count (part image m.offset (bytes_by types members f m)) l)
 
-  struct-same : WalkableType types members i → (image : List ℕ)
+  struct_same : WalkableType types members i → (image : List ℕ)
       → struct_by types members f i image ≡ struct_by types members g i image
   unfolding struct_by members_by
-  struct-same w image =
+  struct_same w image =
       ap (λ (ts : List Token). cond (is_string_kind (type_at types i).kind)
       (text_out (capacity_at members (type_at types i).first) image) (wrap 8 9 ts))
-      (up-ext (row_by types members f (type_at types i).first image)
+      (up_ext (row_by types members f (type_at types i).first image)
       (row_by types members g (type_at types i).first image)
       (type_at types i).count
-      (λ k h. member-same k (member_at members ((type_at types i).first + k)) image (w.each k h).earlier))
+      (λ k h. member_same k (member_at members ((type_at types i).first + k)) image (w.each k h).earlier))
 
 module _ (types members : List ℕ) (w : Walkable types members) where
   -- any depth above the structure's number is enough
@@ -72,14 +72,14 @@ module _ (types members : List ℕ) (w : Walkable types members) where
   within_same zero g i image a b c = absurd (let z : ⊥ = omega arith in z)
   within_same (suc f) zero i image a b c = absurd (let z : ⊥ = omega arith in z)
   within_same (suc f) (suc g) i image a b c =
-      struct-same types members (struct_within types members f) (struct_within types members g) i
+      struct_same types members (struct_within types members f) (struct_within types members g) i
       (λ s im l. within_same f g s im (omega arith) (omega arith) (omega arith)) (w.each i a) image
 
   -- a structure is what its rows say
-  pub struct-out : (i : ℕ) (image : List ℕ) → i < most_types
+  pub struct_out_lem : (i : ℕ) (image : List ℕ) → i < most_types
       → struct_out types members i image ≡ struct_by types members (struct_out types members) i image
   unfolding struct_out struct_within
-  struct-out i image a =
-      struct-same types members (struct_within types members 199) (struct_out types members) i
+  struct_out_lem i image a =
+      struct_same types members (struct_within types members 199) (struct_out types members) i
       (λ s im l. unfold struct_out in within_same 199 most_types s im (omega arith) (omega arith) (omega arith))
       (w.each i a) image

@@ -22,110 +22,110 @@ use Rattle.values.specs.inside.reading.Walk.{atomics_out, leaf_out}
 use Rattle.values.specs.inside.stream.Counting.{Counted, TextFree}
 use Rattle.values.specs.reading.Leaf.{leaf_of, emit}
 use Rattle.values.specs.stream.Stream.{body_of, bodies}
-use Rattle.values.proofs.reading.UpLaws.{wrap-length, wrap-bodies, up-length, up-bodies}
-use Rattle.values.proofs.stream.CountLaws.{plain-same}
+use Rattle.values.proofs.reading.UpLaws.{wrap_length, wrap_bodies, up_length, up_bodies}
+use Rattle.values.proofs.stream.CountLaws.{plain_same}
 
 -- ---- atomics
 
-emit-body : (a : Atomic) (b : Bits) → body_of (emit (leaf_of a) b) ≡ []
-emit-body atomic.Bool b = refl
-emit-body atomic.SInt b = refl
-emit-body atomic.Int b = refl
-emit-body atomic.DInt b = refl
-emit-body atomic.LInt b = refl
-emit-body atomic.USInt b = refl
-emit-body atomic.UInt b = refl
-emit-body atomic.UDInt b = refl
-emit-body atomic.ULInt b = refl
-emit-body atomic.Real b = refl
-emit-body atomic.LReal b = refl
-emit-body atomic.Byte b = refl
-emit-body atomic.Word b = refl
-emit-body atomic.DWord b = refl
-emit-body atomic.LWord b = refl
+emit_body : (a : Atomic) (b : Bits) → body_of (emit (leaf_of a) b) ≡ []
+emit_body atomic.Bool b = refl
+emit_body atomic.SInt b = refl
+emit_body atomic.Int b = refl
+emit_body atomic.DInt b = refl
+emit_body atomic.LInt b = refl
+emit_body atomic.USInt b = refl
+emit_body atomic.UInt b = refl
+emit_body atomic.UDInt b = refl
+emit_body atomic.ULInt b = refl
+emit_body atomic.Real b = refl
+emit_body atomic.LReal b = refl
+emit_body atomic.Byte b = refl
+emit_body atomic.Word b = refl
+emit_body atomic.DWord b = refl
+emit_body atomic.LWord b = refl
 
 -- an atomic has 1 to 8 bytes
-pub size-range : (a : Atomic) → (1 ≤ size_of a) × (size_of a ≤ 8)
+pub size_range : (a : Atomic) → (1 ≤ size_of a) × (size_of a ≤ 8)
 unfolding size_of
-size-range atomic.Bool = (lit≤ tt, lit≤ tt)
-size-range atomic.SInt = (lit≤ tt, lit≤ tt)
-size-range atomic.Int = (lit≤ tt, lit≤ tt)
-size-range atomic.DInt = (lit≤ tt, lit≤ tt)
-size-range atomic.LInt = (lit≤ tt, lit≤ tt)
-size-range atomic.USInt = (lit≤ tt, lit≤ tt)
-size-range atomic.UInt = (lit≤ tt, lit≤ tt)
-size-range atomic.UDInt = (lit≤ tt, lit≤ tt)
-size-range atomic.ULInt = (lit≤ tt, lit≤ tt)
-size-range atomic.Real = (lit≤ tt, lit≤ tt)
-size-range atomic.LReal = (lit≤ tt, lit≤ tt)
-size-range atomic.Byte = (lit≤ tt, lit≤ tt)
-size-range atomic.Word = (lit≤ tt, lit≤ tt)
-size-range atomic.DWord = (lit≤ tt, lit≤ tt)
-size-range atomic.LWord = (lit≤ tt, lit≤ tt)
+size_range atomic.Bool = (lit≤ tt, lit≤ tt)
+size_range atomic.SInt = (lit≤ tt, lit≤ tt)
+size_range atomic.Int = (lit≤ tt, lit≤ tt)
+size_range atomic.DInt = (lit≤ tt, lit≤ tt)
+size_range atomic.LInt = (lit≤ tt, lit≤ tt)
+size_range atomic.USInt = (lit≤ tt, lit≤ tt)
+size_range atomic.UInt = (lit≤ tt, lit≤ tt)
+size_range atomic.UDInt = (lit≤ tt, lit≤ tt)
+size_range atomic.ULInt = (lit≤ tt, lit≤ tt)
+size_range atomic.Real = (lit≤ tt, lit≤ tt)
+size_range atomic.LReal = (lit≤ tt, lit≤ tt)
+size_range atomic.Byte = (lit≤ tt, lit≤ tt)
+size_range atomic.Word = (lit≤ tt, lit≤ tt)
+size_range atomic.DWord = (lit≤ tt, lit≤ tt)
+size_range atomic.LWord = (lit≤ tt, lit≤ tt)
 
-number-bodies : (a : Atomic) (image : List ℕ) → bodies (number_out a image) ≡ []
+number_bodies : (a : Atomic) (image : List ℕ) → bodies (number_out a image) ≡ []
 unfolding bodies
-number-bodies a image = rw (emit-body a (flat image))
+number_bodies a image = rw (emit_body a (flat image))
 
-bits-plain : (n : ℕ) → TextFree (λ image. bits_out image n) (2 + n)
+bits_plain : (n : ℕ) → TextFree (λ image. bits_out image n) (2 + n)
 unfolding bits_out
-bits-plain n =
+bits_plain n =
     record {
       exact = λ image.
-          omega (arith, wrap-length 10 11 (up_to (bit_token image) n), up-length (bit_token image) 1 (λ k. refl) n);
+          omega (arith, wrap_length 10 11 (up_to (bit_token image) n), up_length (bit_token image) 1 (λ k. refl) n);
       plain = λ image.
-          wrap-bodies 10 11 (up_to (bit_token image) n)
-          ∙ up-bodies (bit_token image) (λ k. unfold bodies in refl) n;
+          wrap_bodies 10 11 (up_to (bit_token image) n)
+          ∙ up_bodies (bit_token image) (λ k. unfold bodies in refl) n;
     }
 
-numbers-plain : (a : Atomic) (n : ℕ) → TextFree (numbers_out a n) (2 + n)
+numbers_plain : (a : Atomic) (n : ℕ) → TextFree (numbers_out a n) (2 + n)
 unfolding numbers_out
-numbers-plain a n =
+numbers_plain a n =
     record {
       exact = λ image.
           omega (
             arith,
-            wrap-length 10 11 (up_to (element_out a image) n),
-            up-length (element_out a image) 1 (λ k. refl) n,
+            wrap_length 10 11 (up_to (element_out a image) n),
+            up_length (element_out a image) 1 (λ k. refl) n,
           );
       plain = λ image.
-          wrap-bodies 10 11 (up_to (element_out a image) n)
-          ∙ up-bodies (element_out a image) (λ k. number-bodies a (part image (size_of a * k) (size_of a))) n;
+          wrap_bodies 10 11 (up_to (element_out a image) n)
+          ∙ up_bodies (element_out a image) (λ k. number_bodies a (part image (size_of a * k) (size_of a))) n;
     }
 
 module _ (a : Atomic) (n : ℕ) where
   -- bit strings: an entry for each bit and two brackets, none of them a text
-  pub atomics-bits : bit_string a ≡ true → TextFree (atomics_out a n) (2 + 8 * (size_of a * times n))
-  atomics-bits e = plain-same (bits-plain (8 * (size_of a * times n))) (λ image. unfold atomics_out in rw e)
+  pub atomics_bits : bit_string a ≡ true → TextFree (atomics_out a n) (2 + 8 * (size_of a * times n))
+  atomics_bits e = plain_same (bits_plain (8 * (size_of a * times n))) (λ image. unfold atomics_out in rw e)
 
   -- one atomic that is no bit string: one entry, and no text
-  pub atomics-one : bit_string a ≡ false → n ≡ 0 → TextFree (atomics_out a n) 1
-  atomics-one e z =
-      plain-same {f = number_out a} (record { exact = λ image. refl; plain = number-bodies a })
+  pub atomics_one : bit_string a ≡ false → n ≡ 0 → TextFree (atomics_out a n) 1
+  atomics_one e z =
+      plain_same {f = number_out a} (record { exact = λ image. refl; plain = number_bodies a })
       (λ image. unfold atomics_out in rw (e, eq-eqb n 0 z))
 
   -- an array of n atomics that are no bit strings: n entries and two brackets, none of them a text
-  pub atomics-many : bit_string a ≡ false → (n ≡ 0 → ⊥) → TextFree (atomics_out a n) (2 + n)
-  atomics-many e z = plain-same (numbers-plain a n) (λ image. unfold atomics_out in rw (e, ne_eqb n 0 z))
+  pub atomics_many : bit_string a ≡ false → (n ≡ 0 → ⊥) → TextFree (atomics_out a n) (2 + n)
+  atomics_many e z = plain_same (numbers_plain a n) (λ image. unfold atomics_out in rw (e, ne_eqb n 0 z))
 
-  times-near : (n ≤ times n) × (times n ≤ n + 1)
+  times_near : (n ≤ times n) × (times n ≤ n + 1)
   unfolding times
-  times-near = go (eqb n 0) refl
+  times_near = go (eqb n 0) refl
     where
       go : (b : Bool) → eqb n 0 ≡ b → (n ≤ cond b 1 n) × (cond b 1 n ≤ n + 1)
       go true e = (omega (arith, eqb-true n 0 e), omega arith)
       go false e = (omega arith, omega arith)
 
   -- their bytes
-  bytes-least : n ≤ size_of a * times n
-  bytes-least = omega (arith, times-near.0, mul-le-mul_right {m = 1} {n = size_of a} (times n) (size-range a).0)
+  bytes_least : n ≤ size_of a * times n
+  bytes_least = omega (arith, times_near.0, mul-le-mul_right {m = 1} {n = size_of a} (times n) (size_range a).0)
 
   bytes_most : size_of a * times n ≤ 8 * times n
-  bytes_most = mul-le-mul_right {m = size_of a} {n = 8} (times n) (size-range a).1
+  bytes_most = mul-le-mul_right {m = size_of a} {n = 8} (times n) (size_range a).1
 
   -- the product of size and count fits
   pub bytes_fit : {s t : ℕ} → s ≡ size_of a → t ≡ times n → n ≤ 2 ^ 32 → s * t ≤ 2 ^ 36
-  bytes_fit p q h = rw (p, q) (omega (arith, bytes_most, times-near.1))
+  bytes_fit p q h = rw (p, q) (omega (arith, bytes_most, times_near.1))
 
   record RunSized : Type 0 where
     pub entries : ℕ
@@ -139,30 +139,30 @@ module _ (a : Atomic) (n : ℕ) where
       go : (b : Bool) → bit_string a ≡ b → (z : Bool) → eqb n 0 ≡ z → RunSized
       go true e z f = record {
         entries = 2 + 8 * (size_of a * times n);
-        is = atomics-bits e;
-        enough = omega (arith, bytes-least);
+        is = atomics_bits e;
+        enough = omega (arith, bytes_least);
         few = omega (arith, bytes_most);
       }
       go false e true f = record {
         entries = 1;
-        is = atomics-one e (eqb-true n 0 f);
+        is = atomics_one e (eqb-true n 0 f);
         enough = omega (arith, eqb-true n 0 f);
         few = omega arith;
       }
       go false e false f = record {
         entries = 2 + n;
-        is = atomics-many e (eqb-false n 0 f);
+        is = atomics_many e (eqb-false n 0 f);
         enough = omega arith;
-        few = omega (arith, times-near.0);
+        few = omega (arith, times_near.0);
       }
 
   -- there are few enough entries to add one
-  pub atomics-few : {r : ℕ} → TextFree (atomics_out a n) r → n ≤ 2 ^ 32 → r ≤ 2 ^ 39
-  atomics-few w h = omega (arith, w.exact [], sized.is.exact [], sized.few, times-near.1)
+  pub atomics_few : {r : ℕ} → TextFree (atomics_out a n) r → n ≤ 2 ^ 32 → r ≤ 2 ^ 39
+  atomics_few w h = omega (arith, w.exact [], sized.is.exact [], sized.few, times_near.1)
 
   -- more elements than `most` are more entries
-  pub atomics-over : {most : ℕ} {b : Bool} → most < n → Counted most 0 (atomics_out a n) b b (most + 1)
-  atomics-over h =
+  pub atomics_over : {most : ℕ} {b : Bool} → most < n → Counted most 0 (atomics_out a n) b b (most + 1)
+  atomics_over h =
       record {
         exact = λ l. absurd (let z : ⊥ = omega arith in z);
         over = λ l image. omega (arith, sized.is.exact image, sized.enough);
@@ -174,21 +174,21 @@ module _ (a : Atomic) (n : ℕ) where
 
 module _ (m : Member) (j : ℕ) where
   -- a hidden member has no entries
-  pub leaf-hidden : m.hidden ≡ true → TextFree (leaf_out j m) 0
+  pub leaf_hidden : m.hidden ≡ true → TextFree (leaf_out j m) 0
   unfolding leaf_out bodies
-  leaf-hidden e = record { exact = λ image. rw e; plain = λ image. rw e }
+  leaf_hidden e = record { exact = λ image. rw e; plain = λ image. rw e }
 
   module _ (shown : m.hidden ≡ false) where
     -- a BOOL of a structure has two entries: its number and its bit
-    pub leaf-bit : {k : ℕ} → m.bit ≡ At k → TextFree (leaf_out j m) 2
+    pub leaf_bit : {k : ℕ} → m.bit ≡ At k → TextFree (leaf_out j m) 2
     unfolding leaf_out bodies
-    leaf-bit b = record { exact = λ image. rw (shown, b); plain = λ image. rw (shown, b) }
+    leaf_bit b = record { exact = λ image. rw (shown, b); plain = λ image. rw (shown, b) }
 
     -- a visible member of atomics has one entry more than they have: its number
-    pub leaf-atomic : {a : Atomic} {n r : ℕ} → m.bit ≡ None → m.ty ≡ ty.Atomic a → n ≡ m.count
+    pub leaf_atomic : {a : Atomic} {n r : ℕ} → m.bit ≡ None → m.ty ≡ ty.Atomic a → n ≡ m.count
         → TextFree (atomics_out a n) r → TextFree (leaf_out j m) (1 + r)
     unfolding leaf_out bodies
-    leaf-atomic {a} {n} b t q w =
+    leaf_atomic {a} {n} b t q w =
         record {
           exact = λ image.
               rw (shown, b, t, ← q) (omega (arith, w.exact (part image m.offset (size_of a * times n))));
@@ -196,6 +196,6 @@ module _ (m : Member) (j : ℕ) where
         }
 
     -- a visible structure has one entry here: its number
-    pub leaf-struct : {s : ℕ} → m.bit ≡ None → m.ty ≡ ty.Struct s → TextFree (leaf_out j m) 1
+    pub leaf_struct : {s : ℕ} → m.bit ≡ None → m.ty ≡ ty.Struct s → TextFree (leaf_out j m) 1
     unfolding leaf_out bodies
-    leaf-struct b t = record { exact = λ image. rw (shown, b, t); plain = λ image. rw (shown, b, t) }
+    leaf_struct b t = record { exact = λ image. rw (shown, b, t); plain = λ image. rw (shown, b, t) }

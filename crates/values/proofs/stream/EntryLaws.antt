@@ -1,6 +1,6 @@
 -- Laws of one entry (document 01, "Value stream"): its twelve bytes, as they are stored; what was stored is loaded
 -- again, only its bytes say an entry, and what is said of bytes tells the entry.
-use Prim.Native.Nat.{ℕ, zero, suc, ◌+◌, ◌-◌, ◌*◌, ◌/◌, ◌%◌, ◌^◌, ◌≤◌, ◌<◌}
+use Prim.Native.Nat.{ℕ, zero, suc, ◌+◌, ◌*◌, ◌/◌, ◌%◌, ◌^◌, ◌≤◌, ◌<◌}
 use native.Mathlib.Nat.{add-zero, zero-add, mod-eq_of_lt}
 use native.Mathlib.Decide.{dec_lt, ℕ_discrete}
 use native.Mathlib.Omega.{arith}
@@ -12,14 +12,15 @@ use lib.Dec.{eqb, leb, ltb}
 use lib.ListN.{length, get_or, get_or-eq_default}
 use lib.Seq.{sets, length-sets}
 use Rattle.words.specs.Words.{bytes_of, part, word_at, Bytes}
-use Rattle.words.proofs.Lists.{sets-append, get_d_sets}
-use Rattle.words.proofs.WordLaws.{length-bytes, word_back, twelve}
+use Rattle.words.proofs.Lists.{sets_append, get_d_sets}
+use Rattle.words.proofs.WordLaws.{length_bytes, word_back, twelve}
 use borrow.Author.Tests.{eq-eqb, ne_eqb, eqb-true, lt-ltb, le-ltb, ltb-true, le-leb, leb-true}
 use Rattle.words.proofs.TestLaws.{and_left, and_right, clash}
 use Rattle.types.specs.refusals.Said.{Said, done}
 use Rattle.values.specs.inside.stream.Entry.{bare_in, entry_in, loaded_of, low_in, payloads_in, text_entry, truth_in}
 use Rattle.values.specs.stream.Entry.{EntryFits, EntryStored, LoadedFits, bytes_of_entry, entry_at, entry_kind}
-use Rattle.values.specs.stream.Entry.{entry_or17, entry_payload, entry_set, is_entry, kind_at, payload_at, payload_right}
+use Rattle.values.specs.stream.Entry.{entry_or17, entry_payload, entry_set, is_entry, kind_at, payload_at}
+use Rattle.values.specs.stream.Entry.{payload_right}
 use Rattle.values.specs.stream.Entry.{payloads_right, said_by, three_zeros}
 use Rattle.values.specs.stream.Stream.{entry_bytes}
 use Rattle.values.specs.declared.stream.entry.Entry.{Entry}
@@ -30,69 +31,69 @@ use Rattle.values.specs.declared.stream.entry.Loaded.TheVariants.{Is, Malformed}
 -- ---- one entry
 
 -- a kind and three zeros are a word of four bytes
-entry-words : (kind payload : ℕ) → kind < 256 → entry_bytes kind payload ≡ bytes_of 4 kind ++ bytes_of 8 payload
+entry_words : (kind payload : ℕ) → kind < 256 → entry_bytes kind payload ≡ bytes_of 4 kind ++ bytes_of 8 payload
 unfolding entry_bytes bytes_of
-entry-words kind payload h =
+entry_words kind payload h =
     let a : kind % 256 ≡ kind = omega arith in
     let b : kind / 256 ≡ 0 = omega arith in
     rw (a, b)
 
 -- an entry has twelve bytes
-pub length-entry : (kind payload : ℕ) → length (entry_bytes kind payload) ≡ 12
+pub length_entry : (kind payload : ℕ) → length (entry_bytes kind payload) ≡ 12
 unfolding entry_bytes
-length-entry kind payload = let e = length-bytes 8 payload in omega arith
+length_entry kind payload = let e = length_bytes 8 payload in omega arith
 
 -- the kind and the payload stored one after the other are the entry
-pub entry-stored : (out : List ℕ) (at kind payload : ℕ) → kind < 256
+pub entry_stored : (out : List ℕ) (at kind payload : ℕ) → kind < 256
     → sets (sets out at (bytes_of 4 kind)) (at + 4) (bytes_of 8 payload) ≡ sets out at (entry_bytes kind payload)
-entry-stored out at kind payload h =
-    sym (ap (sets out at) (entry-words kind payload h)
-    ∙ sets-append out at (bytes_of 4 kind) (bytes_of 8 payload) ∙ rw (length-bytes 4 kind))
+entry_stored out at kind payload h =
+    sym (ap (sets out at) (entry_words kind payload h)
+    ∙ sets_append out at (bytes_of 4 kind) (bytes_of 8 payload) ∙ rw (length_bytes 4 kind))
 
 -- ---- what was stored is an entry
 
 -- what stands in an entry's bytes
 module _ (s : List ℕ) (at kind x : ℕ) (h : at + 12 ≤ length s) where
-  byte-back : (j : ℕ) → j < 12 → get_or (sets s at (entry_bytes kind x)) (at + j) 0 ≡ get_or (entry_bytes kind x) j 0
-  byte-back j l =
-      get_d_sets s at (entry_bytes kind x) j 0 (omega (arith, length-entry kind x)) (omega (arith, length-entry kind x))
+  byte_back : (j : ℕ) → j < 12 → get_or (sets s at (entry_bytes kind x)) (at + j) 0 ≡ get_or (entry_bytes kind x) j 0
+  byte_back j l =
+      get_d_sets s at (entry_bytes kind x) j 0 (omega (arith, length_entry kind x)) (omega (arith, length_entry kind x))
 
-  payload-back : kind < 256 → x < 2 ^ 64 → word_at 8 (sets s at (entry_bytes kind x)) (at + 4) ≡ x
-  payload-back k l =
-      rw (← entry-stored s at kind x k)
+  payload_back : kind < 256 → x < 2 ^ 64 → word_at 8 (sets s at (entry_bytes kind x)) (at + 4) ≡ x
+  payload_back k l =
+      rw (← entry_stored s at kind x k)
       (word_back 8 (sets s at (bytes_of 4 kind)) (at + 4) x (omega (arith, length-sets s at (bytes_of 4 kind)))
       ∙ mod-eq_of_lt l)
 
 -- a kind whose payload is right is one of the twelve
-pub kind-right : (kind x : ℕ) → payload_right kind x ≡ true → kind < 12
+pub kind_right : (kind x : ℕ) → payload_right kind x ≡ true → kind < 12
 unfolding payload_right
-kind-right kind x h = go (dec_lt kind 12)
+kind_right kind x h = go (dec_lt kind 12)
   where
     go : Dec (kind < 12) → kind < 12
     go (yes l) = l
     go (no l) = clash h (get_or-eq_default (payloads_right x) false {n = kind} (omega arith))
 
 -- the right payload of a bool is 0 or 1
-pub bool-right : (kind x : ℕ) → kind ≡ 1 → payload_right kind x ≡ true → x < 2
+pub bool_right : (kind x : ℕ) → kind ≡ 1 → payload_right kind x ≡ true → x < 2
 unfolding payload_right
-bool-right kind x e h = ltb-true x 2 (rw e at h)
+bool_right kind x e h = ltb-true x 2 (rw e at h)
 
 -- twelve bytes that are an entry of a kind and a payload
 pub record Read (s : List ℕ) (at kind x : ℕ) : Type 0 where
   pub there : is_entry s at ≡ true
-  pub kind-is : kind_at s at ≡ kind
-  pub payload-is : payload_at s at ≡ x
+  pub kind_is : kind_at s at ≡ kind
+  pub payload_is : payload_at s at ≡ x
 
 -- what was stored is an entry of its kind and its payload
-pub entry-back : (s : List ℕ) (at kind x : ℕ) → payload_right kind x ≡ true → x < 2 ^ 64 → at + 12 ≤ length s
+pub entry_back : (s : List ℕ) (at kind x : ℕ) → payload_right kind x ≡ true → x < 2 ^ 64 → at + 12 ≤ length s
     → Read (sets s at (entry_bytes kind x)) at kind x
 unfolding entry_bytes is_entry three_zeros
-entry-back s at kind x r l h =
+entry_back s at kind x r l h =
     let t : List ℕ = sets s at (entry_bytes kind x) in
-    let b : (j : ℕ) → j < 12 → get_or t (at + j) 0 ≡ get_or (entry_bytes kind x) j 0 = byte-back s at kind x h in
+    let b : (j : ℕ) → j < 12 → get_or t (at + j) 0 ≡ get_or (entry_bytes kind x) j 0 = byte_back s at kind x h in
     let k : get_or t at 0 ≡ kind = simp add-zero at (b 0 (omega arith)) in
-    let known = kind-right kind x r in
-    let p : word_at 8 t (at + 4) ≡ x = payload-back s at kind x h (omega arith) l in
+    let known = kind_right kind x r in
+    let p : word_at 8 t (at + 4) ≡ x = payload_back s at kind x h (omega arith) l in
     let long : length t ≡ length s = length-sets s at (entry_bytes kind x) in
     record {
       there =
@@ -104,8 +105,8 @@ entry-back s at kind x r l h =
             k,
             p,
           ) r;
-      kind-is = k;
-      payload-is = p;
+      kind_is = k;
+      payload_is = p;
     }
 
 -- ---- the bytes of an entry are those of its kind and its payload
@@ -119,9 +120,9 @@ pub record EntryHeld (s : List ℕ) (at : ℕ) : Type 0 where
   pub right : payload_right (kind_at s at) (payload_at s at) ≡ true
 
 -- what the test of an entry says
-pub entry-held : (s : List ℕ) (at : ℕ) → is_entry s at ≡ true → EntryHeld s at
+pub entry_held : (s : List ℕ) (at : ℕ) → is_entry s at ≡ true → EntryHeld s at
 unfolding is_entry three_zeros
-entry-held s at e =
+entry_held s at e =
     let long : Bool = leb (at + 12) (length s) in
     let one : Bool = eqb (get_or s (at + 1) 0) 0 in
     let two : Bool = eqb (get_or s (at + 2) 0) 0 in
@@ -139,18 +140,18 @@ entry-held s at e =
     }
 
 -- bytes that are an entry are those of its kind and its payload
-pub entry-only : (s : List ℕ) (at : ℕ) → Bytes s → is_entry s at ≡ true
+pub entry_only : (s : List ℕ) (at : ℕ) → Bytes s → is_entry s at ≡ true
     → part s at 12 ≡ entry_bytes (kind_at s at) (payload_at s at)
 unfolding entry_bytes
-entry-only s at b e =
-    let h = entry-held s at e in
+entry_only s at b e =
+    let h = entry_held s at e in
     twelve s at b h.inside ∙ rw (h.first, h.second, h.third) refl
 
 -- ---- an entry by value
 
 -- what an entry is by a matched kind it is by the entry's own kind
-pub kind-told : {kind k : ℕ} {r : Loaded} (x : ℕ) → kind ≡ k → r ≡ loaded_of k x → r ≡ loaded_of kind x
-kind-told x e h = h ∙ sym (ap (λ (k : ℕ). loaded_of k x) e)
+pub kind_told : {kind k : ℕ} {r : Loaded} (x : ℕ) → kind ≡ k → r ≡ loaded_of k x → r ≡ loaded_of kind x
+kind_told x e h = h ∙ sym (ap (λ (k : ℕ). loaded_of k x) e)
 
 -- none of the first n numbers, as the arms of a match leave it
 abbrev NoneBelow : ℕ → ℕ → Type 0
@@ -162,65 +163,65 @@ past i zero h = omega arith
 past i (suc n) h = lt_of_le-ne (past i n h.0) (λ e. h.1 (sym e))
 
 -- a kind that is none of the twelve is malformed
-pub kind-above : (kind x : ℕ) → NoneBelow kind 12 → Malformed ≡ loaded_of kind x
+pub kind_above : (kind x : ℕ) → NoneBelow kind 12 → Malformed ≡ loaded_of kind x
 unfolding loaded_of
-kind-above kind x h = sym (get_or-eq_default (payloads_in x) Malformed (past kind 12 h))
+kind_above kind x h = sym (get_or-eq_default (payloads_in x) Malformed (past kind 12 h))
 
 -- where three zeros stand after the kind, the entry is what kind and payload say
-pub zeros-read : (s : List ℕ) (at : ℕ) → get_or s (at + 1) 0 ≡ 0 → get_or s (at + 2) 0 ≡ 0 → get_or s (at + 3) 0 ≡ 0
+pub zeros_read : (s : List ℕ) (at : ℕ) → get_or s (at + 1) 0 ≡ 0 → get_or s (at + 2) 0 ≡ 0 → get_or s (at + 3) 0 ≡ 0
     → entry_in s at ≡ loaded_of (get_or s at 0) (word_at 8 s (at + 4))
 unfolding entry_in three_zeros
-zeros-read s at a b c = simp (eq-eqb _ 0 a, eq-eqb _ 0 b, eq-eqb _ 0 c)
+zeros_read s at a b c = simp (eq-eqb _ 0 a, eq-eqb _ 0 b, eq-eqb _ 0 c)
 
-text-back : (place long : ℕ) → place < 2 ^ 32 → text_entry (place + 2 ^ 32 * long) ≡ Is (entry.Text place long)
-text-back place long h =
+text_back : (place long : ℕ) → place < 2 ^ 32 → text_entry (place + 2 ^ 32 * long) ≡ Is (entry.Text place long)
+text_back place long h =
     let e : (place + 2 ^ 32 * long) % 2 ^ 32 ≡ place = omega arith in
     let f : (place + 2 ^ 32 * long) / 2 ^ 32 ≡ long = omega arith in
     rw (e, f)
 
-low-back : (f : ℕ → Entry) (x : ℕ) → x < 2 ^ 32 → low_in f x ≡ Is (f x)
+low_back : (f : ℕ → Entry) (x : ℕ) → x < 2 ^ 32 → low_in f x ≡ Is (f x)
 unfolding low_in
-low-back f x h = rw (lt-ltb x (2 ^ 32) h)
+low_back f x h = rw (lt-ltb x (2 ^ 32) h)
 
 -- the same, from the low half that the code takes
-pub low-is : (f : ℕ → Entry) {x y : ℕ} → x < 2 ^ 32 → y ≡ x % 2 ^ 32 → Is (f y) ≡ low_in f x
-low-is f {x} {y} h e = ap (λ (z : ℕ). Is (f z)) (e ∙ mod-eq_of_lt h) ∙ sym (low-back f x h)
+pub low_is : (f : ℕ → Entry) {x y : ℕ} → x < 2 ^ 32 → y ≡ x % 2 ^ 32 → Is (f y) ≡ low_in f x
+low_is f {x} {y} h e = ap (λ (z : ℕ). Is (f z)) (e ∙ mod-eq_of_lt h) ∙ sym (low_back f x h)
 
 -- a payload with more than 32 bits, where 32 are asked, is malformed
-pub low-none : (f : ℕ → Entry) {x : ℕ} → 2 ^ 32 ≤ x → Malformed ≡ low_in f x
+pub low_none : (f : ℕ → Entry) {x : ℕ} → 2 ^ 32 ≤ x → Malformed ≡ low_in f x
 unfolding low_in
-low-none f {x} h = rw (le-ltb x (2 ^ 32) h)
+low_none f {x} h = rw (le-ltb x (2 ^ 32) h)
 
 -- its kind and its payload say the entry
-loaded-back : (e : Entry) → EntryFits e → loaded_of (entry_kind e) (entry_payload e) ≡ Is e
+loaded_back : (e : Entry) → EntryFits e → loaded_of (entry_kind e) (entry_payload e) ≡ Is e
 unfolding loaded_of bare_in truth_in
-loaded-back entry.Null h = refl
-loaded-back (entry.Bool true) h = refl
-loaded-back (entry.Bool false) h = refl
-loaded-back (entry.Signed x) h = refl
-loaded-back (entry.Unsigned x) h = refl
-loaded-back (entry.Real x) h = low-back entry.Real x h
-loaded-back (entry.LReal x) h = refl
-loaded-back (entry.Text place long) h = text-back place long h.0
-loaded-back (entry.Member j) h = low-back entry.Member j h
-loaded-back entry.Open h = refl
-loaded-back entry.Close h = refl
-loaded-back entry.ArrayOpen h = refl
-loaded-back entry.ArrayClose h = refl
+loaded_back entry.Null h = refl
+loaded_back (entry.Bool true) h = refl
+loaded_back (entry.Bool false) h = refl
+loaded_back (entry.Signed x) h = refl
+loaded_back (entry.Unsigned x) h = refl
+loaded_back (entry.Real x) h = low_back entry.Real x h
+loaded_back (entry.LReal x) h = refl
+loaded_back (entry.Text place long) h = text_back place long h.0
+loaded_back (entry.Member j) h = low_back entry.Member j h
+loaded_back entry.Open h = refl
+loaded_back entry.Close h = refl
+loaded_back entry.ArrayOpen h = refl
+loaded_back entry.ArrayClose h = refl
 
 -- ---- what is loaded is what the bytes say
 
-bare-said : (e : Entry) (x : ℕ) → entry_payload e ≡ 0 → said_by (bare_in e x) ≡ entry_or17 (eqb x 0) (entry_kind e) x
+bare_said : (e : Entry) (x : ℕ) → entry_payload e ≡ 0 → said_by (bare_in e x) ≡ entry_or17 (eqb x 0) (entry_kind e) x
 unfolding bare_in
-bare-said e x p = go (ℕ_discrete x 0)
+bare_said e x p = go (ℕ_discrete x 0)
   where
     go : Dec (x ≡ 0) → said_by (cond (eqb x 0) (Is e) Malformed) ≡ entry_or17 (eqb x 0) (entry_kind e) x
     go (yes h) = rw (eq-eqb x 0 h) (ap (λ (y : ℕ). done (entry_kind e, y)) (p ∙ sym h))
     go (no h) = rw (ne_eqb x 0 h) refl
 
-truth-said : (x : ℕ) → said_by (truth_in x) ≡ entry_or17 (ltb x 2) 1 x
+truth_said : (x : ℕ) → said_by (truth_in x) ≡ entry_or17 (ltb x 2) 1 x
 unfolding truth_in
-truth-said x = go (ℕ_discrete x 0) (ℕ_discrete x 1)
+truth_said x = go (ℕ_discrete x 0) (ℕ_discrete x 1)
   where
     go : Dec (x ≡ 0) → Dec (x ≡ 1)
         → said_by (cond (eqb x 0) (Is (entry.Bool false)) (cond (eqb x 1) (Is (entry.Bool true)) Malformed))
@@ -229,17 +230,17 @@ truth-said x = go (ℕ_discrete x 0) (ℕ_discrete x 1)
     go (no h) (yes l) = rw l refl
     go (no h) (no l) = rw (ne_eqb x 0 h, ne_eqb x 1 l, le-ltb x 2 (omega (arith, h, l))) refl
 
-low-said : (f : ℕ → Entry) (kind x : ℕ) → entry_kind (f x) ≡ kind → entry_payload (f x) ≡ x
+low_said : (f : ℕ → Entry) (kind x : ℕ) → entry_kind (f x) ≡ kind → entry_payload (f x) ≡ x
     → said_by (low_in f x) ≡ entry_or17 (ltb x (2 ^ 32)) kind x
 unfolding low_in
-low-said f kind x a b = go (ltb x (2 ^ 32))
+low_said f kind x a b = go (ltb x (2 ^ 32))
   where
     go : (t : Bool) → said_by (cond t (Is (f x)) Malformed) ≡ entry_or17 t kind x
     go true = ap₂ (λ (k y : ℕ). done (k, y)) a b
     go false = refl
 
-text-said : (x : ℕ) → said_by (text_entry x) ≡ entry_or17 true 6 x
-text-said x =
+text_said : (x : ℕ) → said_by (text_entry x) ≡ entry_or17 true 6 x
+text_said x =
     let e : x % 2 ^ 32 + 2 ^ 32 * (x / 2 ^ 32) ≡ x = omega arith in
     ap (λ (y : ℕ). done (6, y)) e
 
@@ -250,7 +251,7 @@ data EachSaid (x : ℕ) : ℕ → List Loaded → List Bool → Type 0 where
   ◌then◌ : {kind : ℕ} {r : Loaded} {rs : List Loaded} {b : Bool} {bs : List Bool} → said_by r ≡ entry_or17 b kind x
       → EachSaid x (suc kind) rs bs → EachSaid x kind (r ∷ rs) (b ∷ bs)
 
-said_at : {kind x : ℕ} {rs : List Loaded} {bs : List Bool} → EachSaid x kind rs bs → (j : ℕ)
+said_at : {x kind : ℕ} {rs : List Loaded} {bs : List Bool} → EachSaid x kind rs bs → (j : ℕ)
     → said_by (get_or rs j Malformed) ≡ entry_or17 (get_or bs j false) (kind + j) x
 said_at none j = refl
 said_at (a then b) zero = rw add-zero a
@@ -258,37 +259,38 @@ said_at {kind} (a then b) (suc j) =
     let e : kind + suc j ≡ suc kind + j = omega arith in
     rw e (said_at b j)
 
-each-said : (x : ℕ) → EachSaid x 0 (payloads_in x) (payloads_right x)
-each-said x =
-    bare-said entry.Null x refl
-    then truth-said x
+each_said : (x : ℕ) → EachSaid x 0 (payloads_in x) (payloads_right x)
+each_said x =
+    bare_said entry.Null x refl
+    then truth_said x
     then refl
     then refl
-    then low-said entry.Real 4 x refl refl
+    then low_said entry.Real 4 x refl refl
     then refl
-    then text-said x
-    then low-said entry.Member 7 x refl refl
-    then bare-said entry.Open x refl
-    then bare-said entry.Close x refl
-    then bare-said entry.ArrayOpen x refl
-    then bare-said entry.ArrayClose x refl
+    then text_said x
+    then low_said entry.Member 7 x refl refl
+    then bare_said entry.Open x refl
+    then bare_said entry.Close x refl
+    then bare_said entry.ArrayOpen x refl
+    then bare_said entry.ArrayClose x refl
     then none
 
 -- a kind and a payload are said where the payload is right
-loaded-said : (kind x : ℕ) → said_by (loaded_of kind x) ≡ entry_or17 (payload_right kind x) kind x
+loaded_said : (kind x : ℕ) → said_by (loaded_of kind x) ≡ entry_or17 (payload_right kind x) kind x
 unfolding loaded_of payload_right
-loaded-said kind x =
-    subst (λ (k : ℕ). said_by (get_or (payloads_in x) kind Malformed) ≡ entry_or17 (get_or (payloads_right x) kind false) k x)
-    (zero-add kind) (said_at (each-said x) kind)
+loaded_said kind x =
+    subst (λ (k : ℕ). said_by (get_or (payloads_in x) kind Malformed) ≡ entry_or17
+    (get_or (payloads_right x) kind false) k x)
+    (zero-add kind) (said_at (each_said x) kind)
 
 -- what is loaded of bytes that are there is what they say
-pub entry-said : (s : List ℕ) (at : ℕ) → leb (at + 12) (length s) ≡ true → said_by (entry_in s at) ≡ entry_at s at
+pub entry_said : (s : List ℕ) (at : ℕ) → leb (at + 12) (length s) ≡ true → said_by (entry_in s at) ≡ entry_at s at
 unfolding entry_in entry_at is_entry
-entry-said s at l = rw l (go (three_zeros s at))
+entry_said s at l = rw l (go (three_zeros s at))
   where
     go : (b : Bool) → said_by (cond b (loaded_of (kind_at s at) (payload_at s at)) Malformed)
         ≡ entry_or17 (b && payload_right (kind_at s at) (payload_at s at)) (kind_at s at) (payload_at s at)
-    go true = loaded-said (kind_at s at) (payload_at s at)
+    go true = loaded_said (kind_at s at) (payload_at s at)
     go false = refl
 
 -- bytes that are not there are malformed
@@ -296,19 +298,19 @@ pub nothing_said : (s : List ℕ) (at : ℕ) → leb (at + 12) (length s) ≡ fa
 unfolding entry_at is_entry
 nothing_said s at l = rw l refl
 
-both-said : {k x l y : ℕ} → ◌≡◌ {A = Said (ℕ × ℕ)} (done (k, x)) (done (l, y)) → (k ≡ l) × (x ≡ y)
-both-said {k} {x} {l} {y} e =
+both_said : {k x l y : ℕ} → ◌≡◌ {A = Said (ℕ × ℕ)} (done (k, x)) (done (l, y)) → (k ≡ l) × (x ≡ y)
+both_said {k} {x} {l} {y} e =
     let same : ◌≡◌ {A = ℕ × ℕ} (k, x) (l, y) = cc in
     (ap (λ (p : ℕ × ℕ). p.0) same, ap (λ (p : ℕ × ℕ). p.1) same)
 
 -- what is said tells what was loaded: its kind and its payload tell an entry
-pub loaded-same : (r s : Loaded) → LoadedFits r → LoadedFits s → said_by r ≡ said_by s → r ≡ s
-loaded-same (Is e) (Is f) g h q =
-    let same = both-said q in
-    sym (loaded-back e g) ∙ ap₂ loaded_of same.0 same.1 ∙ loaded-back f h
-loaded-same (Is e) Malformed g h q = cc
-loaded-same Malformed (Is f) g h q = cc
-loaded-same Malformed Malformed g h q = refl
+pub loaded_same : (r s : Loaded) → LoadedFits r → LoadedFits s → said_by r ≡ said_by s → r ≡ s
+loaded_same (Is e) (Is f) g h q =
+    let same = both_said q in
+    sym (loaded_back e g) ∙ ap₂ loaded_of same.0 same.1 ∙ loaded_back f h
+loaded_same (Is e) Malformed g h q = cc
+loaded_same Malformed (Is f) g h q = cc
+loaded_same Malformed Malformed g h q = refl
 
 -- ---- at any place
 
@@ -320,6 +322,6 @@ module _ {out : List ℕ} {at : ℕ} {e : Entry} where
   stored_there t n = record { answer = sym t; leaves = n ∙ rw t refl }
 
   -- an entry that has no room: the answer is false, and nothing is stored
-  pub stored-nowhere : leb (at + 12) (length out) ≡ false → EntryStored out at e false out
+  pub stored_nowhere : leb (at + 12) (length out) ≡ false → EntryStored out at e false out
   unfolding entry_set
-  stored-nowhere t = record { answer = sym t; leaves = rw t refl }
+  stored_nowhere t = record { answer = sym t; leaves = rw t refl }

@@ -12,8 +12,8 @@ use lib.ListN.{length, get_or, get_or-eq_default}
 use borrow.Author.Tests.{eq-eqb, ne_eqb, eqb-true, le-leb, lt-leb}
 use Rattle.words.specs.Words.{word_at}
 use Rattle.words.proofs.TestLaws.{clash}
-use Rattle.words.proofs.WordLaws.{word_split, word-four}
-use Rattle.words.proofs.ArithLaws.{none-most, below-most}
+use Rattle.words.proofs.WordLaws.{word_split, word_four}
+use Rattle.words.proofs.ArithLaws.{none_most, below_most}
 use Rattle.values.specs.inside.stream.Steps.{Moved, most_of, nowhere, text_step_of}
 use Rattle.values.specs.stream.Entry.{is_entry, kind_at, payload_at, payload_right, payloads_right, three_zeros}
 use Rattle.values.specs.stream.Form.{TextStep, At, Broken, text_step, entry_step, step_at, on_step, formed, count_in}
@@ -55,22 +55,22 @@ each_at {P} {k} (a then b) (suc j) l =
     rw e (each_at b j (omega arith))
 
 -- THE LAW over the kinds: the payloads of one that is no text are right up to the greatest
-kind-most : (x : ℕ) → x < 2 ^ 64 → Each (λ kind. (kind ≡ 6 → ⊥) → payload_right kind x ≡ leb x (most_of kind)) 0 12
+kind_most : (x : ℕ) → x < 2 ^ 64 → Each (λ kind. (kind ≡ 6 → ⊥) → payload_right kind x ≡ leb x (most_of kind)) 0 12
 unfolding payload_right most_of
-kind-most x l =
+kind_most x l =
     let whole : true ≡ leb x (2 ^ 64 - 1) = sym (le-leb x (2 ^ 64 - 1) (omega arith)) in
-    (λ n. none-most x)
-    then (λ n. below-most 2 1 x refl)
+    (λ n. none_most x)
+    then (λ n. below_most 2 1 x refl)
     then (λ n. whole)
     then (λ n. whole)
-    then (λ n. below-most (2 ^ 32) (2 ^ 32 - 1) x refl)
+    then (λ n. below_most (2 ^ 32) (2 ^ 32 - 1) x refl)
     then (λ n. whole)
     then (λ n. absurd (n refl))
-    then (λ n. below-most (2 ^ 32) (2 ^ 32 - 1) x refl)
-    then (λ n. none-most x)
-    then (λ n. none-most x)
-    then (λ n. none-most x)
-    then (λ n. none-most x)
+    then (λ n. below_most (2 ^ 32) (2 ^ 32 - 1) x refl)
+    then (λ n. none_most x)
+    then (λ n. none_most x)
+    then (λ n. none_most x)
+    then (λ n. none_most x)
     then none
 
 module _ (kind x place : ℕ) where
@@ -80,7 +80,7 @@ module _ (kind x place : ℕ) where
   tested l k n =
       rw (
         subst (λ (i : ℕ). (i ≡ 6 → ⊥) → payload_right i x ≡ leb x (most_of i)) (zero-add kind)
-            (each_at (kind-most x l) kind k) n,
+            (each_at (kind_most x l) kind k) n,
         ne_eqb kind 6 n,
       ) refl
 
@@ -90,44 +90,44 @@ module _ (kind x place : ℕ) where
   plain_fits l k n h = tested l k n ∙ rw (le-leb x (most_of kind) h) refl
 
   -- no text, and a payload above the greatest of its kind: malformed
-  pub plain-broken : x < 2 ^ 64 → kind < 12 → (kind ≡ 6 → ⊥) → most_of kind < x
+  pub plain_broken : x < 2 ^ 64 → kind < 12 → (kind ≡ 6 → ⊥) → most_of kind < x
       → text_step_of kind x place ≡ Broken
-  plain-broken l k n h = tested l k n ∙ rw (lt-leb x (most_of kind) h) refl
+  plain_broken l k n h = tested l k n ∙ rw (lt-leb x (most_of kind) h) refl
 
   -- the kinds that are tested first
   module _ (l : x < 2 ^ 64) where
     -- a bool that is 0 or 1: the place stays
-    pub bool-fits : kind ≡ 1 → x < 2 → text_step_of kind x place ≡ At place
+    pub bool_fits : kind ≡ 1 → x < 2 → text_step_of kind x place ≡ At place
     unfolding most_of
-    bool-fits e h = plain_fits l (omega arith) (λ q. let z : ⊥ = omega arith in z) (rw e (omega arith))
+    bool_fits e h = plain_fits l (omega arith) (λ q. let z : ⊥ = omega arith in z) (rw e (omega arith))
 
     -- a bool above 1 is malformed
-    pub bool-broken : kind ≡ 1 → 2 ≤ x → text_step_of kind x place ≡ Broken
+    pub bool_broken : kind ≡ 1 → 2 ≤ x → text_step_of kind x place ≡ Broken
     unfolding most_of
-    bool-broken e h = plain-broken l (omega arith) (λ q. let z : ⊥ = omega arith in z) (rw e (omega arith))
+    bool_broken e h = plain_broken l (omega arith) (λ q. let z : ⊥ = omega arith in z) (rw e (omega arith))
 
     -- a signed number: the place stays
-    pub signed-fits : kind ≡ 2 → text_step_of kind x place ≡ At place
+    pub signed_fits : kind ≡ 2 → text_step_of kind x place ≡ At place
     unfolding most_of
-    signed-fits e = plain_fits l (omega arith) (λ q. let z : ⊥ = omega arith in z) (rw e (omega arith))
+    signed_fits e = plain_fits l (omega arith) (λ q. let z : ⊥ = omega arith in z) (rw e (omega arith))
 
     -- a member number of 32 bits: the place stays
-    pub member-fits : kind ≡ 7 → x < 2 ^ 32 → text_step_of kind x place ≡ At place
+    pub member_fits : kind ≡ 7 → x < 2 ^ 32 → text_step_of kind x place ≡ At place
     unfolding most_of
-    member-fits e h = plain_fits l (omega arith) (λ q. let z : ⊥ = omega arith in z) (rw e (omega arith))
+    member_fits e h = plain_fits l (omega arith) (λ q. let z : ⊥ = omega arith in z) (rw e (omega arith))
 
-    member-broken : kind ≡ 7 → 2 ^ 32 ≤ x → text_step_of kind x place ≡ Broken
+    member_broken : kind ≡ 7 → 2 ^ 32 ≤ x → text_step_of kind x place ≡ Broken
     unfolding most_of
-    member-broken e h = plain-broken l (omega arith) (λ q. let z : ⊥ = omega arith in z) (rw e (omega arith))
+    member_broken e h = plain_broken l (omega arith) (λ q. let z : ⊥ = omega arith in z) (rw e (omega arith))
 
     -- a bracket without payload: the place stays
-    pub mark-fits : 8 ≤ kind → kind < 12 → x ≡ 0 → text_step_of kind x place ≡ At place
-    mark-fits a b e = plain_fits l b (λ q. let z : ⊥ = omega arith in z) (omega arith)
+    pub mark_fits : 8 ≤ kind → kind < 12 → x ≡ 0 → text_step_of kind x place ≡ At place
+    mark_fits a b e = plain_fits l b (λ q. let z : ⊥ = omega arith in z) (omega arith)
 
     -- a bracket with a payload is malformed
-    pub mark-broken : 8 ≤ kind → kind < 12 → (x ≡ 0 → ⊥) → text_step_of kind x place ≡ Broken
+    pub mark_broken : 8 ≤ kind → kind < 12 → (x ≡ 0 → ⊥) → text_step_of kind x place ≡ Broken
     unfolding most_of
-    mark-broken a b n =
+    mark_broken a b n =
         let not : (j : ℕ) → j < 8 → eqb kind j ≡ false = λ j h. ne_eqb kind j (λ q. let z : ⊥ = omega arith in z) in
         let none : most_of kind ≡ 0 =
         rw (
@@ -138,41 +138,41 @@ module _ (kind x place : ℕ) where
           not 5 (omega arith),
           not 7 (omega arith),
         ) refl in
-        plain-broken l b (λ q. let z : ⊥ = omega arith in z) (omega (arith, n))
+        plain_broken l b (λ q. let z : ⊥ = omega arith in z) (omega (arith, n))
 
     -- members and brackets use no high half
-    pub high-broken : 7 ≤ kind → kind < 12 → 2 ^ 32 ≤ x → text_step_of kind x place ≡ Broken
-    high-broken a b h = go (ℕ_discrete kind 7)
+    pub high_broken : 7 ≤ kind → kind < 12 → 2 ^ 32 ≤ x → text_step_of kind x place ≡ Broken
+    high_broken a b h = go (ℕ_discrete kind 7)
       where
         go : Dec (kind ≡ 7) → text_step_of kind x place ≡ Broken
-        go (yes e) = member-broken e h
-        go (no e) = mark-broken (omega (arith, e)) b (λ q. let z : ⊥ = omega arith in z)
+        go (yes e) = member_broken e h
+        go (no e) = mark_broken (omega (arith, e)) b (λ q. let z : ⊥ = omega arith in z)
 
   -- a text
-  text-step : kind ≡ 6 → text_step_of kind x place ≡ text_step (x % 2 ^ 32) (x / 2 ^ 32) place
+  text_step_lem : kind ≡ 6 → text_step_of kind x place ≡ text_step (x % 2 ^ 32) (x / 2 ^ 32) place
   unfolding text_step_of payload_right
-  text-step e = rw e refl
+  text_step_lem e = rw e refl
 
   -- a text that begins at the place: the place goes on by its length
-  pub text-here : kind ≡ 6 → x % 2 ^ 32 ≡ place → text_step_of kind x place ≡ At (place + x / 2 ^ 32)
-  text-here e h = text-step e ∙ rw (eq-eqb (x % 2 ^ 32) place h) refl
+  pub text_here : kind ≡ 6 → x % 2 ^ 32 ≡ place → text_step_of kind x place ≡ At (place + x / 2 ^ 32)
+  text_here e h = text_step_lem e ∙ rw (eq-eqb (x % 2 ^ 32) place h) refl
 
   -- a text that begins anywhere else: malformed
-  pub text-elsewhere : kind ≡ 6 → (x % 2 ^ 32 ≡ place → ⊥) → text_step_of kind x place ≡ Broken
-  text-elsewhere e h = text-step e ∙ rw (ne_eqb (x % 2 ^ 32) place h) refl
+  pub text_elsewhere : kind ≡ 6 → (x % 2 ^ 32 ≡ place → ⊥) → text_step_of kind x place ≡ Broken
+  text_elsewhere e h = text_step_lem e ∙ rw (ne_eqb (x % 2 ^ 32) place h) refl
 
   -- a kind from 12 on is malformed
-  pub kind-none : 12 ≤ kind → text_step_of kind x place ≡ Broken
+  pub kind_none : 12 ≤ kind → text_step_of kind x place ≡ Broken
   unfolding text_step_of payload_right
-  kind-none l = rw (get_or-eq_default (payloads_right x) false {n = kind} l) refl
+  kind_none l = rw (get_or-eq_default (payloads_right x) false {n = kind} l) refl
 
 -- ---- the first four bytes: the kind, and a number above every kind where one of the three is not zero
 
 module _ (s : List ℕ) (at place : ℕ) (inside : at + 12 ≤ length s) where
-  no-zeros : three_zeros s at ≡ false → 12 ≤ word_at 4 s at
+  no_zeros : three_zeros s at ≡ false → 12 ≤ word_at 4 s at
       → step_at s at place ≡ text_step_of (word_at 4 s at) (payload_at s at) place
   unfolding is_entry
-  no-zeros z l = rw (le-leb (at + 12) (length s) inside, z) (sym (kind-none (word_at 4 s at) (payload_at s at) place l))
+  no_zeros z l = rw (le-leb (at + 12) (length s) inside, z) (sym (kind_none (word_at 4 s at) (payload_at s at) place l))
 
   head_read : step_at s at place ≡ text_step_of (word_at 4 s at) (payload_at s at) place
   unfolding is_entry three_zeros text_step_of
@@ -181,20 +181,20 @@ module _ (s : List ℕ) (at place : ℕ) (inside : at + 12 ≤ length s) where
     where
       go : Dec (get_or s (at + 1) 0 ≡ 0) → Dec (get_or s (at + 2) 0 ≡ 0) → Dec (get_or s (at + 3) 0 ≡ 0)
           → step_at s at place ≡ text_step_of (word_at 4 s at) (payload_at s at) place
-      go (no a) d e = no-zeros (simp (ne_eqb _ 0 a)) (omega (arith, word-four s at))
-      go (yes a) (no b) e = no-zeros (simp (eq-eqb _ 0 a, ne_eqb _ 0 b)) (omega (arith, word-four s at))
+      go (no a) d e = no_zeros (simp (ne_eqb _ 0 a)) (omega (arith, word_four s at))
+      go (yes a) (no b) e = no_zeros (simp (eq-eqb _ 0 a, ne_eqb _ 0 b)) (omega (arith, word_four s at))
       go (yes a) (yes b) (no d) =
-          no-zeros (simp (eq-eqb _ 0 a, eq-eqb _ 0 b, ne_eqb _ 0 d)) (omega (arith, word-four s at))
+          no_zeros (simp (eq-eqb _ 0 a, eq-eqb _ 0 b, ne_eqb _ 0 d)) (omega (arith, word_four s at))
       go (yes a) (yes b) (yes d) =
-          let e : get_or s at 0 ≡ word_at 4 s at = omega (arith, word-four s at) in
+          let e : get_or s at 0 ≡ word_at 4 s at = omega (arith, word_four s at) in
           rw (le-leb (at + 12) (length s) inside, eq-eqb _ 0 a, eq-eqb _ 0 b, eq-eqb _ 0 d, e) refl
 
 -- a step by the three words that the code loads is the step of the entry
-pub words-moved : {place r head low high : ℕ} (s : List ℕ) (at : ℕ) → at + 12 ≤ length s → head ≡ word_at 4 s at
+pub words_moved : {place r head low high : ℕ} (s : List ℕ) (at : ℕ) → at + 12 ≤ length s → head ≡ word_at 4 s at
     → low ≡ word_at 4 s (at + 4) → high ≡ word_at 4 s (at + 8)
     → Moved place (text_step_of head (low + 2 ^ 32 * high) place) r
     → Moved place (step_at s at place) r
-words-moved {place} {r} {head} {low} {high} s at inside e f g w =
+words_moved {place} {r} {head} {low} {high} s at inside e f g w =
     let far : at + 4 + 4 ≡ at + 8 = omega arith in
     let both : low + 2 ^ 32 * high ≡ payload_at s at
     = ap₂ (λ (x y : ℕ). x + 2 ^ 32 * y) f (g ∙ ap (word_at 4 s) (sym far)) ∙ sym (word_split 4 4 s (at + 4)) in
@@ -210,8 +210,8 @@ pub record EntriesLeft (s : List ℕ) (base n place k : ℕ) : Type 0 where
   pub rest : formed s base 0 n 0 ≡ formed s base k (n - k) place
 
 -- before the first entry all are left
-pub left-start : {s : List ℕ} {base n : ℕ} → EntriesLeft s base n 0 0
-left-start {s} {base} {n} = record { inside = omega arith; small = omega arith; rest = rw sub-zero }
+pub left_start : {s : List ℕ} {base n : ℕ} → EntriesLeft s base n 0 0
+left_start {s} {base} {n} = record { inside = omega arith; small = omega arith; rest = rw sub-zero }
 
 module _ {s : List ℕ} {base n place k : ℕ} (w : EntriesLeft s base n place k) where
   next : k < n → formed s base k (n - k) place
@@ -220,9 +220,9 @@ module _ {s : List ℕ} {base n place k : ℕ} (w : EntriesLeft s base n place k
   next l = let e : n - k ≡ suc (n - (k + 1)) = omega arith in rw e refl
 
   -- an entry whose step goes on: one entry less is left
-  pub left-on : {p : ℕ} → k < n → Moved place (step_at s (4 + 12 * k) place) p → p < nowhere
+  pub left_on : {p : ℕ} → k < n → Moved place (step_at s (4 + 12 * k) place) p → p < nowhere
       → EntriesLeft s base n p (k + 1)
-  left-on {p} l v f =
+  left_on {p} l v f =
       record {
         inside = omega arith;
         small = omega (arith, w.small, v.near f);
@@ -230,14 +230,14 @@ module _ {s : List ℕ} {base n place k : ℕ} (w : EntriesLeft s base n place k
       }
 
   -- an entry whose step is broken: the form is wrong
-  pub left-broken : {p : ℕ} → k < n → Moved place (step_at s (4 + 12 * k) place) p → nowhere ≤ p
+  pub left_broken : {p : ℕ} → k < n → Moved place (step_at s (4 + 12 * k) place) p → nowhere ≤ p
       → false ≡ formed s base 0 n 0
-  left-broken l v f = sym (w.rest ∙ next l ∙ rw (v.broken f) refl)
+  left_broken l v f = sym (w.rest ∙ next l ∙ rw (v.broken f) refl)
 
   -- no entry is left: the form is right where the texts end at the stream's end
-  pub left-done : n ≤ k → eqb (base + place) (length s) ≡ formed s base 0 n 0
+  pub left_done : n ≤ k → eqb (base + place) (length s) ≡ formed s base 0 n 0
   unfolding formed
-  left-done l = sym (w.rest ∙ (let e : n - k ≡ 0 = omega arith in rw e refl))
+  left_done l = sym (w.rest ∙ (let e : n - k ≡ 0 = omega arith in rw e refl))
 
 -- ---- one entry of a stream that is well formed
 
@@ -259,9 +259,9 @@ stepped kind x place next h = go (ℕ_discrete kind 6) (ℕ_discrete (x % 2 ^ 32
         absurd (let z : ◌≡◌ {A = ℕ} 0 1 = cc in let y : ⊥ = omega arith in y)
 
 -- a text's place only goes on
-step-grows : {kind x place next : ℕ} → EntryStepped kind x place next → place ≤ next
-step-grows (over e d n) = omega arith
-step-grows (still d n) = omega arith
+step_grows : {kind x place next : ℕ} → EntryStepped kind x place next → place ≤ next
+step_grows (over e d n) = omega arith
+step_grows (still d n) = omega arith
 
 -- the entry is there, and the next text's place goes on
 pub data EntryGoes (s : List ℕ) (at place : ℕ) (on : ℕ → Bool) : Type 0 where
@@ -280,20 +280,21 @@ goes_on s at place on h = go (is_entry s at) refl h
     step e Broken q g = clash g refl
 
     go : (b : Bool) → is_entry s at ≡ b
-        → on_step (cond b (entry_step (kind_at s at) (payload_at s at) place) Broken) on ≡ true → EntryGoes s at place on
+        → on_step (cond b (entry_step (kind_at s at) (payload_at s at) place) Broken) on ≡ true
+        → EntryGoes s at place on
     go true e g = step e (entry_step (kind_at s at) (payload_at s at) place) refl g
     go false e g = clash g refl
 
 -- the texts end where the stream does
-pub form-end : (s : List ℕ) (base k n place : ℕ) → formed s base k n place ≡ true → base + place ≤ length s
+pub form_end : (s : List ℕ) (base k n place : ℕ) → formed s base k n place ≡ true → base + place ≤ length s
 unfolding formed
-form-end s base k zero place h = omega (arith, eqb-true (base + place) (length s) h)
-form-end s base k (suc n) place h =
-    go (λ next. form-end s base (k + 1) n next) (goes_on s (4 + 12 * k) place (λ p. formed s base (k + 1) n p) h)
+form_end s base k zero place h = omega (arith, eqb-true (base + place) (length s) h)
+form_end s base k (suc n) place h =
+    go (λ next. form_end s base (k + 1) n next) (goes_on s (4 + 12 * k) place (λ p. formed s base (k + 1) n p) h)
   where
     go : ((next : ℕ) → formed s base (k + 1) n next ≡ true → base + next ≤ length s)
         → EntryGoes s (4 + 12 * k) place (λ p. formed s base (k + 1) n p) → base + place ≤ length s
-    go ends (goes next is g rest) = omega (arith, ends next rest, step-grows g)
+    go ends (goes next is g rest) = omega (arith, ends next rest, step_grows g)
 
 -- ---- the whole
 
@@ -308,7 +309,7 @@ module _ (s : List ℕ) where
       first false = refl
 
       go : (b : Bool) → formed s (base_in s) 0 (count_in s) 0 ≡ b → false ≡ (leb (length s) most_bytes && b)
-      go true e = absurd (let f = form-end s (base_in s) 0 (count_in s) 0 e in let z : ⊥ = omega arith in z)
+      go true e = absurd (let f = form_end s (base_in s) 0 (count_in s) 0 e in let z : ⊥ = omega arith in z)
       go false e = first (leb (length s) most_bytes)
 
   -- a stream of fewer than 4 bytes is malformed
@@ -321,6 +322,6 @@ module _ (s : List ℕ) where
   too_long l = rw (lt-leb (length s) most_bytes l) refl
 
   -- a stream of at most 2^31 bytes is right where its entries and texts are
-  pub all-ok : length s ≤ most_bytes → formed s (base_in s) 0 (count_in s) 0 ≡ stream_ok s
+  pub all_ok : length s ≤ most_bytes → formed s (base_in s) 0 (count_in s) 0 ≡ stream_ok s
   unfolding stream_ok
-  all-ok l = rw (le-leb (length s) most_bytes l) refl
+  all_ok l = rw (le-leb (length s) most_bytes l) refl

@@ -14,9 +14,9 @@ use Rattle.values.specs.stream.Decode.{token_at, tokens_from}
 use Rattle.values.specs.stream.Entry.{kind_at, payload_at as payload_in}
 use Rattle.values.specs.stream.Form.{base_in, count_in, stream_ok}
 use Rattle.values.specs.stream.Stream.{Token, kind_of, payload_of, body_of}
-use Rattle.values.proofs.stream.DecodeLaws.{entry-there, token-plain, token-text, tokens-long, whole}
+use Rattle.values.proofs.stream.DecodeLaws.{entry_there, token_plain, token_text, tokens_long, whole}
 use Rattle.values.proofs.stream.DecodeLaws as decode
-use Rattle.values.proofs.stream.EntryLaws.{EntryHeld, bool-right, entry-held, kind-right}
+use Rattle.values.proofs.stream.EntryLaws.{EntryHeld, bool_right, entry_held, kind_right}
 use Rattle.values.proofs.stream.FormLaws.{EntryStepped, over, still}
 
 -- where an entry's payload stands
@@ -55,18 +55,18 @@ module _ (s : List ℕ) (k : ℕ) where
   same : payload_in s at ≡ payload_of_entry s k
   same = let n : 4 + 12 * k + 4 ≡ 8 + 12 * k = omega arith in ap (word_at 8 s) n
 
-  token-is : (place next : ℕ) → EntryStepped (kind_at s at) (payload_in s at) place next → base_in s + next ≤ length s
+  token_is : (place next : ℕ) → EntryStepped (kind_at s at) (payload_in s at) place next → base_in s + next ≤ length s
       → EntryHeld s at → TokenIs s k (token_at s (base_in s) at)
-  token-is place next (still n q) w h =
-      rw (token-plain s (base_in s) at n) (record {
+  token_is place next (still n q) w h =
+      rw (token_plain s (base_in s) at n) (record {
         kind = refl;
-        known = kind-right (kind_at s at) (payload_in s at) h.right;
+        known = kind_right (kind_at s at) (payload_in s at) h.right;
         payload = λ e. same;
-        truth = λ e. rw (← same) (bool-right (kind_at s at) (payload_in s at) e h.right);
+        truth = λ e. rw (← same) (bool_right (kind_at s at) (payload_in s at) e h.right);
         text = λ e. absurd (n e);
       })
-  token-is place next (over e d q) w h =
-      rw (token-text s (base_in s) at e) (record {
+  token_is place next (over e d q) w h =
+      rw (token_text s (base_in s) at e) (record {
         kind = sym e;
         known = omega arith;
         payload = λ n. absurd (n refl);
@@ -84,8 +84,8 @@ pub there : (s : List ℕ) (k : ℕ) → stream_ok s ≡ true → k < count_in s
 unfolding left_at tokens_from
 there s k h l =
     let d : decode.EntryIn s (base_in s) k =
-    rw (← zero-add k) (entry-there s (base_in s) 0 (count_in s) 0 k (whole s h).entries l) in
-    let t = token-is s k d.place d.next d.step d.within (entry-held s (4 + 12 * k) d.is) in
+    rw (← zero-add k) (entry_there s (base_in s) 0 (count_in s) 0 k (whole s h).entries l) in
+    let t = token_is s k d.place d.next d.step d.within (entry_held s (4 + 12 * k) d.is) in
     let n : count_in s - k ≡ suc (count_in s - (k + 1)) = omega arith in
     record {
       token = token_at s (base_in s) (4 + 12 * k);
@@ -99,12 +99,12 @@ there s k h l =
     }
 
 -- a stream has fewer than 2^28 entries, and they lie in it
-pub few-entries : (s : List ℕ) → stream_ok s ≡ true → count_in s < 2 ^ 28
-few-entries s h = let w = whole s h in omega (arith, w.inside, w.short)
+pub few_entries : (s : List ℕ) → stream_ok s ≡ true → count_in s < 2 ^ 28
+few_entries s h = let w = whole s h in omega (arith, w.inside, w.short)
 
 -- the entries of a well-formed stream lie in it
-pub entries-inside : (s : List ℕ) → stream_ok s ≡ true → base_in s ≤ length s
-entries-inside s h = (whole s h).inside
+pub entries_inside : (s : List ℕ) → stream_ok s ≡ true → base_in s ≤ length s
+entries_inside s h = (whole s h).inside
 
 -- from the count on no entry is left
 pub none_left : (s : List ℕ) (k : ℕ) → count_in s ≤ k → left_at s k ≡ []
@@ -112,17 +112,17 @@ unfolding left_at tokens_from
 none_left s k l = let e : count_in s - k ≡ 0 = omega arith in rw e refl
 
 -- from entry k on as many are left as the count less k
-pub left-long : (s : List ℕ) (k : ℕ) → length (left_at s k) ≡ count_in s - k
+pub left_long : (s : List ℕ) (k : ℕ) → length (left_at s k) ≡ count_in s - k
 unfolding left_at
-left-long s k = tokens-long s (base_in s) k (count_in s - k)
+left_long s k = tokens_long s (base_in s) k (count_in s - k)
 
 -- the first kind, and that an entry is there where it is one
-pub kind-there : {s : List ℕ} {k : ℕ} (t : EntryThere s k) → first_kind (left_at s k) ≡ kind_of t.token
-kind-there t = ap first_kind t.left
+pub kind_there : {s : List ℕ} {k : ℕ} (t : EntryThere s k) → first_kind (left_at s k) ≡ kind_of t.token
+kind_there t = ap first_kind t.left
 
 -- from the count on the first kind is 12, which is none
-pub kind-none : (s : List ℕ) (k : ℕ) → count_in s ≤ k → first_kind (left_at s k) ≡ 12
-kind-none s k l = ap first_kind (none_left s k l)
+pub kind_none : (s : List ℕ) (k : ℕ) → count_in s ≤ k → first_kind (left_at s k) ≡ 12
+kind_none s k l = ap first_kind (none_left s k l)
 
 -- a kind that is not 12 is an entry's
 pub by_kind : (s : List ℕ) (k : ℕ) → stream_ok s ≡ true → (first_kind (left_at s k) ≡ 12 → ⊥) → EntryThere s k
@@ -130,4 +130,4 @@ by_kind s k h e = go (native.Mathlib.Decide.dec_lt k (count_in s))
   where
     go : Dec (k < count_in s) → EntryThere s k
     go (yes l) = there s k h l
-    go (no l) = absurd (e (kind-none s k (omega arith)))
+    go (no l) = absurd (e (kind_none s k (omega arith)))

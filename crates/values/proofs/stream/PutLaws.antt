@@ -7,25 +7,25 @@ use mathlib.Core.Path.{◌≡◌, refl, sym, ap, ap₂, ◌∙◌, subst}
 use mathlib.Core.List.{List, [], ◌∷◌, ◌++◌}
 use lib.ListN.{length, length-append}
 use lib.Seq.{sets, length-sets}
-use Rattle.words.proofs.Lists.{sets-append}
+use Rattle.words.proofs.Lists.{sets_append}
 use Rattle.values.specs.inside.reading.Walk.{wrap}
 use Rattle.values.specs.inside.stream.Laying.{EntriesPut, TokensLaid, laid_in}
 use Rattle.values.specs.stream.Stream.{Token, mark, kind_of, payload_of, entry_bytes, heads, bodies}
-use Rattle.values.proofs.stream.HeadLaws.{heads-append, heads-one, length-heads, Textless}
+use Rattle.values.proofs.stream.HeadLaws.{heads_append, heads_one, length_heads, Textless}
 
 -- the buffer keeps its length
-pub put-length : {out new : List ℕ} {at r : ℕ} {ts : List Token} → EntriesPut out at ts new r → length new ≡ length out
-put-length {out} {at = at} {ts = ts} w = ap length w.bytes ∙ length-sets out at (heads 0 ts)
+pub put_length : {out new : List ℕ} {at r : ℕ} {ts : List Token} → EntriesPut out at ts new r → length new ≡ length out
+put_length {out} {at = at} {ts = ts} w = ap length w.bytes ∙ length-sets out at (heads 0 ts)
 
 -- before the first entry none is put
-pub put-none : (out : List ℕ) (at : ℕ) → EntriesPut out at [] out at
-put-none out at = record { next = omega arith; bytes = unfold heads in refl }
+pub put_none : (out : List ℕ) (at : ℕ) → EntriesPut out at [] out at
+put_none out at = record { next = omega arith; bytes = unfold heads in refl }
 
 -- one entry, from its kind and its payload as they were given
 pub put_one : {out new : List ℕ} {at kind payload : ℕ} (t : Token) → kind_of t ≡ kind → payload_of 0 t ≡ payload
     → new ≡ sets out at (entry_bytes kind payload) → EntriesPut out at (t ∷ []) new (at + 12)
 put_one {out} {at = at} t a b w =
-    record { next = omega arith; bytes = w ∙ ap (sets out at) (sym (heads-one 0 t ∙ ap₂ entry_bytes a b)) }
+    record { next = omega arith; bytes = w ∙ ap (sets out at) (sym (heads_one 0 t ∙ ap₂ entry_bytes a b)) }
 
 -- a run, and a run where it ends
 pub put_then : {out mid new : List ℕ} {at p r : ℕ} {ts us : List Token} → bodies ts ≡ [] → EntriesPut out at ts mid p
@@ -35,11 +35,11 @@ put_then {out} {mid} {new} {at} {p} {r} {ts} {us} h v w =
     let a = v.next in
     let b = w.next in
     let e : heads 0 (ts ++ us) ≡ heads 0 ts ++ heads 0 us =
-    heads-append 0 ts us ∙ ap (λ (l : List ℕ). heads 0 ts ++ heads (0 + length l) us) h in
-    let f : at + length (heads 0 ts) ≡ p = omega (arith, length-heads 0 ts) in
+    heads_append 0 ts us ∙ ap (λ (l : List ℕ). heads 0 ts ++ heads (0 + length l) us) h in
+    let f : at + length (heads 0 ts) ≡ p = omega (arith, length_heads 0 ts) in
     record {
       next = omega arith;
-      bytes = w.bytes ∙ rw (v.bytes, e, sets-append out at (heads 0 ts) (heads 0 us), f);
+      bytes = w.bytes ∙ rw (v.bytes, e, sets_append out at (heads 0 ts) (heads 0 us), f);
     }
 
 -- where a run is put and one entry behind it, the run with that entry is put
@@ -55,10 +55,10 @@ pub put_first : {out mid new : List ℕ} {at kind payload r : ℕ} {us : List To
 put_first t h a b w v = put_then h (put_one t a b w) v
 
 -- entries without a text that are put are written, with no bytes among the texts
-pub put-wrote : {out new : List ℕ} {at r : ℕ} {ts : List Token} (base text : ℕ) → Textless ts
+pub put_wrote : {out new : List ℕ} {at r : ℕ} {ts : List Token} (base text : ℕ) → Textless ts
     → EntriesPut out at ts new r
     → TokensLaid out base at text ts new (record { at = r; text = text })
-put-wrote {out} {new} {at} {r} {ts} base text h w =
+put_wrote {out} {new} {at} {r} {ts} base text h w =
     record {
       entries = w.next;
       texts = rw (h.none, add-zero);
@@ -71,9 +71,9 @@ pub put_as : {out new : List ℕ} {at r : ℕ} {ts us : List Token} → ts ≡ u
 put_as {out} {new} {at} {r} e w = subst (λ (ts : List Token). EntriesPut out at ts new r) e w
 
 -- where brackets are put around entries, the entries in brackets are put
-pub put-wrap : (start stop : ℕ) {out first new last : List ℕ} {at p : ℕ} {ts : List Token} → bodies ts ≡ []
+pub put_wrap : (start stop : ℕ) {out first new last : List ℕ} {at p : ℕ} {ts : List Token} → bodies ts ≡ []
     → first ≡ sets out at (entry_bytes start 0) → EntriesPut first (at + 12) ts new p
     → last ≡ sets new p (entry_bytes stop 0)
     → EntriesPut out at (wrap start stop ts) last (p + 12)
-put-wrap start stop b d v e =
+put_wrap start stop b d v e =
     put_first (mark start) (unfold bodies in refl) refl refl d (put_next (mark stop) b v refl refl e)

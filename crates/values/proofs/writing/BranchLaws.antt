@@ -25,8 +25,8 @@ use Rattle.values.specs.reading.Trees.{value_tree, branches_from, struct_tree, t
 use Rattle.values.specs.stream.Stream.{Token, payload_of}
 use Rattle.values.specs.writing.Writing.{bad, write, write_branch}
 use Rattle.values.specs.declared.reading.rows.Nested.{Nested}
-use Rattle.values.proofs.reading.MemberLaws.{nested-whole}
-use Rattle.values.proofs.reading.SpanLaws.{capacity-is}
+use Rattle.values.proofs.reading.MemberLaws.{nested_whole}
+use Rattle.values.proofs.reading.SpanLaws.{capacity_is}
 
 -- ---- the trees of earlier structures are all that matters
 
@@ -48,10 +48,10 @@ module _ (types members : List ℕ) (f g : ℕ → Tree) (i : ℕ) (same : (s : 
       (value_same (member_at members row).ty (member_at members row).count (rw add-zero at (h 0 (omega arith))))
       (rows_same (suc j) (row + 1) n (λ k l. rw (next k) (h (suc k) (omega arith))))
 
-  struct-same : WalkableType types members i
+  struct_same : WalkableType types members i
       → struct_tree f (known_in types members i) ≡ struct_tree g (known_in types members i)
   unfolding struct_tree known_in
-  struct-same w =
+  struct_same w =
       ap (λ (bs : Branches). cond (is_string_kind (type_at types i).kind)
       (leaf (str (second_count (members_at members (type_at types i).first (type_at types i).count))))
       (struct (8 * (type_at types i).size) bs))
@@ -64,7 +64,7 @@ unfolding tree_within
 within_same types members w zero g i a b c = absurd (let z : ⊥ = omega arith in z)
 within_same types members w (suc f) zero i a b c = absurd (let z : ⊥ = omega arith in z)
 within_same types members w (suc f) (suc g) i a b c =
-    struct-same types members (tree_within (known_in types members) f) (tree_within (known_in types members) g) i
+    struct_same types members (tree_within (known_in types members) f) (tree_within (known_in types members) g) i
     (λ s l. within_same types members w f g s (omega arith) (omega arith) (omega arith)) (w.each i a)
 
 module _ (types members : List ℕ) (w : Walkable types members) (i : ℕ) (low : i < most_types) where
@@ -72,23 +72,23 @@ module _ (types members : List ℕ) (w : Walkable types members) (i : ℕ) (low 
   tree_is : tree_in types members i ≡ struct_tree (tree_in types members) (known_in types members i)
   unfolding tree_of tree_within
   tree_is =
-      struct-same types members (tree_within (known_in types members) 199) (tree_in types members) i
+      struct_same types members (tree_within (known_in types members) 199) (tree_in types members) i
       (λ s l. unfold tree_of in within_same types members w 199 most_types s (omega arith) (omega arith) (omega arith))
       (w.each i low)
 
   -- a string's tree is a leaf of its capacity
-  pub string-tree : is_string_kind (type_at types i).kind ≡ true
+  pub string_tree : is_string_kind (type_at types i).kind ≡ true
       → tree_in types members i ≡ leaf (str (capacity_at members (type_at types i).first))
   unfolding struct_tree known_in
-  string-tree e =
+  string_tree e =
       tree_is
-      ∙ rw (e, capacity-is members (type_at types i).first (type_at types i).count ((w.each i low).string e).rows) refl
+      ∙ rw (e, capacity_is members (type_at types i).first (type_at types i).count ((w.each i low).string e).rows) refl
 
   -- the tree of any other structure has its size and its rows' branches
-  pub members-tree : is_string_kind (type_at types i).kind ≡ false
+  pub members_tree : is_string_kind (type_at types i).kind ≡ false
       → tree_in types members i ≡ struct (8 * sizes_in types i) (branches_in types members i)
   unfolding struct_tree known_in
-  members-tree e = tree_is ∙ rw e refl
+  members_tree e = tree_is ∙ rw e refl
 
 -- ---- the branch that an entry names
 
@@ -138,27 +138,27 @@ module _ (members : List ℕ) (trees : ℕ → Tree) (p : ℕ) (t : Token) (ts :
 
 module _ (types members : List ℕ) (i p : ℕ) (t : Token) (ts : List Token) (z : Bits) where
   -- an entry with the number of a visible member writes that member
-  pub branch-is : (j : ℕ) → payload_of 0 t ≡ j → j < (type_at types i).count
+  pub branch_is : (j : ℕ) → payload_of 0 t ≡ j → j < (type_at types i).count
       → (member_at members ((type_at types i).first + j)).hidden ≡ false
       → write_branch (branches_in types members i) p t ts z
       ≡ write (member_tree (tree_in types members) (member_at members ((type_at types i).first + j)))
       (p + first_bit (member_at members ((type_at types i).first + j))) ts z
-  branch-is j e l h =
+  branch_is j e l h =
       row_named members (tree_in types members) p t ts z 0 (type_at types i).first (type_at types i).count j
       (e ∙ sym (zero-add j)) l h
 
   -- an entry with the number of a hidden member is refused with 18
-  pub branch-hidden : (j : ℕ) → payload_of 0 t ≡ j → j < (type_at types i).count
+  pub branch_hidden : (j : ℕ) → payload_of 0 t ≡ j → j < (type_at types i).count
       → (member_at members ((type_at types i).first + j)).hidden ≡ true
       → write_branch (branches_in types members i) p t ts z ≡ bad 18 (t ∷ ts)
-  branch-hidden j e l h =
+  branch_hidden j e l h =
       none_named members (tree_in types members) p t ts z 0 (type_at types i).first (type_at types i).count
       (λ d a q. let same : d ≡ j = omega arith in rw same h)
 
   -- an entry with a number past the members is refused with 18
-  pub branch-past : (j : ℕ) → payload_of 0 t ≡ j → (type_at types i).count ≤ j
+  pub branch_past : (j : ℕ) → payload_of 0 t ≡ j → (type_at types i).count ≤ j
       → write_branch (branches_in types members i) p t ts z ≡ bad 18 (t ∷ ts)
-  branch-past j e l =
+  branch_past j e l =
       none_named members (tree_in types members) p t ts z 0 (type_at types i).first (type_at types i).count
       (λ d a q. absurd (let z : ⊥ = omega arith in z))
 
@@ -166,19 +166,19 @@ module _ (types members : List ℕ) (i p : ℕ) (t : Token) (ts : List Token) (z
 
 module _ {types members : List ℕ} {i row : ℕ} {r : Nested} (nested : NestedRow types members i row)
     (held : HeldIn (member_at members row) r) where
-  held-tree : member_tree (tree_in types members) (member_at members row)
+  held_tree : member_tree (tree_in types members) (member_at members row)
       ≡ structs_tree (tree_in types members) r.structure r.count
-  held-tree = rw (nested-whole (member_at members row) nested.nested, held.struct, held.count)
+  held_tree = rw (nested_whole (member_at members row) nested.nested, held.struct, held.count)
 
   -- count 0: the tree of a nested row is that of the structure that it holds
-  pub one-tree : r.count ≡ 0
+  pub one_tree : r.count ≡ 0
       → member_tree (tree_in types members) (member_at members row) ≡ tree_in types members r.structure
   unfolding structs_tree
-  one-tree e = held-tree ∙ rw (eq-eqb r.count 0 e) refl
+  one_tree e = held_tree ∙ rw (eq-eqb r.count 0 e) refl
 
   -- any other count: it is an array of that structure's
-  pub some-tree : (r.count ≡ 0 → ⊥)
+  pub some_tree : (r.count ≡ 0 → ⊥)
       → member_tree (tree_in types members) (member_at members row)
       ≡ array r.count (tree_in types members r.structure)
   unfolding structs_tree
-  some-tree e = held-tree ∙ rw (ne_eqb r.count 0 e) refl
+  some_tree e = held_tree ∙ rw (ne_eqb r.count 0 e) refl

@@ -18,12 +18,12 @@ use Rattle.values.specs.stream.Decode.{tokens_in}
 use Rattle.values.specs.stream.Form.{count_in, stream_ok}
 use Rattle.values.specs.writing.Writing.{Outcome, ok, bad, ended, write, written}
 use Rattle.values.specs.writing.Written.{bytes_after, refusing, taking, value_written, write_result}
-use Rattle.values.proofs.normal_image.PutBack.{flat-clip}
-use Rattle.values.proofs.writing.OnlyHeld.{only-held}
+use Rattle.values.proofs.normal_image.PutBack.{flat_clip}
+use Rattle.values.proofs.writing.OnlyHeld.{only_held}
 
 -- bit k of n bytes made of some bits is the k-th of them
-pub bytes-bit : (n : ℕ) (b : Bits) (k : ℕ) → k < 8 * n → flat (chars n b) k ≡ b k
-bytes-bit n b k l = flat-clip n b k ∙ ap (◌&& b k) (lt-ltb k (8 * n) l)
+pub bytes_bit : (n : ℕ) (b : Bits) (k : ℕ) → k < 8 * n → flat (chars n b) k ≡ b k
+bytes_bit n b k l = flat_clip n b k ∙ ap (◌&& b k) (lt-ltb k (8 * n) l)
 
 module _ (types members : List ℕ) (t : Ty) (n : ℕ) (s image : List ℕ) (k : ℕ) (l : k < 8 * length image) where
   abbrev tree : Tree
@@ -40,11 +40,11 @@ module _ (types members : List ℕ) (t : Ty) (n : ℕ) (s image : List ℕ) (k :
         go (bad number ts) e = refl
         go (ok (u ∷ us) z) e = refl
         go (ok [] z) e =
-            bytes-bit (length image) z k l ∙ only-held tree 0 (tokens_in s) [] (flat image) z e k h
+            bytes_bit (length image) z k l ∙ only_held tree 0 (tokens_in s) [] (flat image) z e k h
 
-    pub write-only-held : flat (write_result types members t n s image).image k ≡ flat image k
+    pub write_only_held : flat (write_result types members t n s image).image k ≡ flat image k
     unfolding write_result value_written written
-    write-only-held = go (is_there types t) (image_fits types t n image) (stream_ok s)
+    write_only_held = go (is_there types t) (image_fits types t n image) (stream_ok s)
       where
         go : (a b c : Bool) → flat (cond a (cond b (cond c (taking (count_in s) (ended outcome) image)
             (refusing 17 image)) (refusing 14 image)) (refusing 15 image)).image k

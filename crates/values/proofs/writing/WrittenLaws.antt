@@ -31,16 +31,16 @@ use Rattle.values.specs.writing.Writing.{Outcome, ok, bad, ended, write, written
 use Rattle.values.specs.writing.Written.{Done, bytes_after, taken_of, value_written, write_result}
 use Rattle.values.specs.declared.writing.write.Taken.{Taken}
 use Rattle.values.specs.declared.writing.write.Taken.TheVariants.{Whole, Refused}
-use Rattle.values.proofs.reading.ImageLaws.{fit-long, fit-there, unfit}
-use Rattle.values.proofs.reading.TreeLaws.{chars-part}
-use Rattle.values.proofs.stream.LeftLaws.{left-long, none_left, there}
-use Rattle.values.proofs.writing.NumberedLaws.{bad-number}
+use Rattle.values.proofs.reading.ImageLaws.{fit_long, fit_there, unfit}
+use Rattle.values.proofs.reading.TreeLaws.{chars_part}
+use Rattle.values.proofs.stream.LeftLaws.{left_long, none_left, there}
+use Rattle.values.proofs.writing.NumberedLaws.{bad_number}
 
 -- ---- all entries
 
-left-all : (s : List ℕ) → left_at s 0 ≡ tokens_in s
+left_all : (s : List ℕ) → left_at s 0 ≡ tokens_in s
 unfolding left_at tokens_in
-left-all s = rw sub-zero refl
+left_all s = rw sub-zero refl
 
 abbrev rest_of : Outcome → List Token
 rest_of (ok ts z) = ts
@@ -51,7 +51,7 @@ pub bytes_bits : (image : List ℕ) → Bytes image → chars (length image) (fl
 unfolding part
 bytes_bits image b =
     ap (chars (length image)) (fun_ext (λ k. ap (flat image) (sym (zero-add k))))
-    ∙ chars-part (length image) image 0 b (omega arith) ∙ take-length image
+    ∙ chars_part (length image) image 0 b (omega arith) ∙ take-length image
 
 -- ---- the entries of a value
 
@@ -62,33 +62,34 @@ module _ (types members : List ℕ) (t : Ty) (n : ℕ) (s image : List ℕ) (for
   abbrev entries : Bits → Outcome
   entries = write tree 0 (left_at s 0)
 
-  all-written : value_written types members t n s image ≡ ended (entries (flat image))
+  all_written : value_written types members t n s image ≡ ended (entries (flat image))
   unfolding value_written written
-  all-written = rw left-all refl
+  all_written = rw left_all refl
 
   -- where the entries from q on are left, q is their place
-  place-of : (q : ℕ) → q ≤ count_in s → count_in s - length (left_at s q) ≡ q
-  place-of q l = rw (left-long s q) (omega arith)
+  place_of_lem : (q : ℕ) → q ≤ count_in s → count_in s - length (left_at s q) ≡ q
+  place_of_lem q l = rw (left_long s q) (omega arith)
 
-  at-bad : (x : Refusal) {q : ℕ} → place_of x ≡ q → q ≤ count_in s
+  at_bad : (x : Refusal) {q : ℕ} → place_of x ≡ q → q ≤ count_in s
       → ended (entries (flat image)) ≡ bad (number_of x) (left_at s q)
       → Entered types members t n s image (Refused x) image
-  at-bad x {q} k l e =
+  at_bad x {q} k l e =
       record {
-        answer = sym (ap (taken_of (count_in s)) (all-written ∙ e) ∙ ap (refused (number_of x)) (place-of q l ∙ sym k));
-        leaves = sym (ap (λ (o : Outcome). bytes_after o image) (all-written ∙ e));
+        answer =
+            sym (ap (taken_of (count_in s)) (all_written ∙ e) ∙ ap (refused (number_of x)) (place_of_lem q l ∙ sym k));
+        leaves = sym (ap (λ (o : Outcome). bytes_after o image) (all_written ∙ e));
       }
 
   -- where the check refuses, the call answers that refusal and leaves the image
-  pub refused-entered : {r : ℕ} (x : Refusal) → CheckedFrom s 0 r entries → 2 ^ 32 ≤ r → number_of x ≡ r / 2 ^ 32
+  pub refused_entered : {r : ℕ} (x : Refusal) → CheckedFrom s 0 r entries → 2 ^ 32 ≤ r → number_of x ≡ r / 2 ^ 32
       → place_of x ≡ r % 2 ^ 32 → Entered types members t n s image (Refused x) image
-  refused-entered {r} x c l e f =
+  refused_entered {r} x c l e f =
       let w = c.refuses l in
-      at-bad x f w.inside (rw e (ap ended (w.gives (flat image))))
+      at_bad x f w.inside (rw e (ap ended (w.gives (flat image))))
 
   -- a refusal of the check has a number from 18 to 21
-  pub refused-number : {r : ℕ} → CheckedFrom s 0 r entries → 2 ^ 32 ≤ r → (18 ≤ r / 2 ^ 32) × (r / 2 ^ 32 ≤ 21)
-  refused-number {r} c l = bad-number tree 0 (left_at s 0) (flat image) ((c.refuses l).gives (flat image))
+  pub refused_number : {r : ℕ} → CheckedFrom s 0 r entries → 2 ^ 32 ≤ r → (18 ≤ r / 2 ^ 32) × (r / 2 ^ 32 ≤ 21)
+  refused_number {r} c l = bad_number tree 0 (left_at s 0) (flat image) ((c.refuses l).gives (flat image))
 
   -- an entry that is left over
   pub left_over : {r place : ℕ} → CheckedFrom s 0 r entries → r < 2 ^ 32 → r < count_in s → place ≡ r % 2 ^ 32
@@ -100,64 +101,64 @@ module _ (types members : List ℕ) (t : Ty) (n : ℕ) (s image : List ℕ) (for
       let over : ended (entries (flat image)) ≡ bad 18 (left_at s r)
       = ap ended ((w.gives (flat image)).1 ∙ ap (λ (ts : List Token). ok ts (w.gives (flat image)).0) first.left)
       ∙ ap (bad 18) (sym first.left) in
-      at-bad (EntryMisfit place) low (omega arith) over
+      at_bad (EntryMisfit place) low (omega arith) over
 
   module _ {r : ℕ} (c : CheckedFrom s 0 r entries) (l : r < 2 ^ 32) (all : count_in s ≤ r) where
     -- where the check went past the last entry, the entries are accepted over this image
-    pub all-accepted : accepted (entries (flat image)) ≡ true
-    all-accepted = ap accepted ((c.goes l).gives (flat image)).1
+    pub all_accepted : accepted (entries (flat image)) ≡ true
+    all_accepted = ap accepted ((c.goes l).gives (flat image)).1
 
     -- where all entries are taken and set, nothing is refused
-    pub entered-whole : {k : ℕ} {new : List ℕ} → Applied s 0 k image new entries → Bytes new
+    pub entered_whole : {k : ℕ} {new : List ℕ} → Applied s 0 k image new entries → Bytes new
         → Entered types members t n s image Whole new
-    entered-whole {k} {new} a b =
+    entered_whole {k} {new} a b =
         let none = none_left s r all in
         let same : left_at s k ≡ []
         = sym (ap rest_of a.gives) ∙ ap rest_of ((c.goes l).gives (flat image)).1 ∙ none in
         let done : ended (entries (flat image)) ≡ ok [] (flat new)
         = ap ended (a.gives ∙ ap (λ (ts : List Token). ok ts (flat new)) same) in
         record {
-          answer = sym (ap (taken_of (count_in s)) (all-written ∙ done));
-          leaves = sym (ap (λ (o : Outcome). bytes_after o image) (all-written ∙ done)
+          answer = sym (ap (taken_of (count_in s)) (all_written ∙ done));
+          leaves = sym (ap (λ (o : Outcome). bytes_after o image) (all_written ∙ done)
               ∙ ap (λ (m : ℕ). chars m (flat new)) (sym a.long) ∙ bytes_bits new b);
         }
 
 -- ---- the call
 
 module _ (types members : List ℕ) (t : Ty) (n : ℕ) (s image : List ℕ) where
-  no-type : is_there types t ≡ false → Done types members t n s image (Refused NoSuchType) image
+  no_type : is_there types t ≡ false → Done types members t n s image (Refused NoSuchType) image
   unfolding write_result
-  no-type e = record { answer = rw e refl; leaves = rw e refl }
+  no_type e = record { answer = rw e refl; leaves = rw e refl }
 
-  no-image : is_there types t ≡ true → image_fits types t n image ≡ false
+  no_image : is_there types t ≡ true → image_fits types t n image ≡ false
       → Done types members t n s image (Refused ImageLength) image
   unfolding write_result
-  no-image e f = record { answer = rw (e, f) refl; leaves = rw (e, f) refl }
+  no_image e f = record { answer = rw (e, f) refl; leaves = rw (e, f) refl }
 
   -- the ways out with 15 and 14: the image is not one of the type, and it is as it was
-  pub unfit-write : {w : Refusal} → why w ≡ said_of_image types t n (length image)
+  pub unfit_write : {w : Refusal} → why w ≡ said_of_image types t n (length image)
       → Done types members t n s image (Refused w) image
-  unfit-write {w} e =
-      unfit types t n image (λ w. Done types members t n s image (Refused w) image) no-type no-image w e
+  unfit_write {w} e =
+      unfit types t n image (λ w. Done types members t n s image (Refused w) image) no_type no_image w e
 
   module _ (fits : done tt ≡ said_of_image types t n (length image)) where
-    there-is : is_there types t ≡ true
-    there-is = fit-there types t n image fits
+    there_is : is_there types t ≡ true
+    there_is = fit_there types t n image fits
 
-    long-is : image_fits types t n image ≡ true
-    long-is = fit-long types t n image fits
+    long_is : image_fits types t n image ≡ true
+    long_is = fit_long types t n image fits
 
     -- the way out with 17: the stream is malformed, and the image is as it was
     pub no_stream : stream_ok s ≡ false → Done types members t n s image (Refused StreamMalformed) image
     unfolding write_result
-    no_stream e = record { answer = rw (there-is, long-is, e) refl; leaves = rw (there-is, long-is, e) refl }
+    no_stream e = record { answer = rw (there_is, long_is, e) refl; leaves = rw (there_is, long_is, e) refl }
 
     -- past these three tests the call answers and leaves what the entries do
-    pub entered-done : {r : Taken} {new : List ℕ} → stream_ok s ≡ true → Entered types members t n s image r new
+    pub entered_done : {r : Taken} {new : List ℕ} → stream_ok s ≡ true → Entered types members t n s image r new
         → Done types members t n s image r new
     unfolding write_result
-    entered-done e w =
+    entered_done e w =
         record {
-          answer = w.answer ∙ rw (there-is, long-is, e) refl;
-          leaves = w.leaves ∙ rw (there-is, long-is, e) refl;
+          answer = w.answer ∙ rw (there_is, long_is, e) refl;
+          leaves = w.leaves ∙ rw (there_is, long_is, e) refl;
         }

@@ -7,12 +7,12 @@ use Rattle.values.specs.normal_image.Normal.{normal, normal_image}
 use Rattle.values.specs.reading.Leaf.{chars, str}
 use Rattle.values.specs.reading.Tree.{leaf, items}
 
-pub chan-normal : normal_image chan_tree chan_image ≡ 0x03 ∷ 0x00 ∷ 0xFE ∷ 0xFF ∷ []
+pub chan_normal : normal_image chan_tree chan_image ≡ 0x03 ∷ 0x00 ∷ 0xFE ∷ 0xFF ∷ []
 unfolding normal_image normal items chars flat bit_of inside val
-chan-normal = refl
+chan_normal = refl
 
 -- capacity 2: LEN FFFFFFFF becomes 2, and what stands after the text zero
-pub long-normal : normal_image (leaf (str 2)) (0xFF ∷ 0xFF ∷ 0xFF ∷ 0xFF ∷ 65 ∷ 66 ∷ 67 ∷ 68 ∷ [])
+pub long_normal : normal_image (leaf (str 2)) (0xFF ∷ 0xFF ∷ 0xFF ∷ 0xFF ∷ 65 ∷ 66 ∷ 67 ∷ 68 ∷ [])
     ≡ 2 ∷ 0 ∷ 0 ∷ 0 ∷ 65 ∷ 66 ∷ 0 ∷ 0 ∷ []
 unfolding normal_image normal items chars flat bit_of inside val
-long-normal = refl
+long_normal = refl

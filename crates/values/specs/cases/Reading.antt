@@ -45,51 +45,51 @@ stream known t n image = stream_bytes (entries known t n image)
 abbrev pub chan_tree : Tree
 chan_tree = struct 32 (branch 1 0 (leaf flag) (branch 2 1 (leaf flag) (branch 3 16 (leaf (int 16)) none)))
 
-pub chan-tree : tree chan (Struct 0) 0 ≡ chan_tree
+pub chan_tree_lem : tree chan (Struct 0) 0 ≡ chan_tree
 unfolding tree known_of
-chan-tree = refl
+chan_tree_lem = refl
 
 abbrev pub chan_image : List ℕ
 chan_image = 0x03 ∷ 0x7F ∷ 0xFE ∷ 0xFF ∷ []
 
 -- Good and Live are true, Level is -2
-pub chan-entries : entries chan (Struct 0) 0 chan_image
+pub chan_entries : entries chan (Struct 0) 0 chan_image
     ≡ mark 8 ∷ member 1 ∷ bool true ∷ member 2 ∷ bool true ∷ member 3 ∷ number 2 0xFFFFFFFFFFFFFFFE ∷ mark 9 ∷ []
 unfolding entries known_of
-chan-entries = refl
+chan_entries = refl
 
-pub chan-eight : length (entries chan (Struct 0) 0 chan_image) ≡ 8
+pub chan_eight : length (entries chan (Struct 0) 0 chan_image) ≡ 8
 unfolding entries known_of
-chan-eight = refl
+chan_eight = refl
 
 -- the count, and the first three entries: structure open, member 1, true
-pub chan-bytes : take 40 (stream chan (Struct 0) 0 chan_image)
+pub chan_bytes : take 40 (stream chan (Struct 0) 0 chan_image)
     ≡
     8 ∷ 0 ∷ 0 ∷ 0
     ∷ 8 ∷ 0 ∷ 0 ∷ 0 ∷ 0 ∷ 0 ∷ 0 ∷ 0 ∷ 0 ∷ 0 ∷ 0 ∷ 0
     ∷ 7 ∷ 0 ∷ 0 ∷ 0 ∷ 1 ∷ 0 ∷ 0 ∷ 0 ∷ 0 ∷ 0 ∷ 0 ∷ 0
     ∷ 1 ∷ 0 ∷ 0 ∷ 0 ∷ 1 ∷ 0 ∷ 0 ∷ 0 ∷ 0 ∷ 0 ∷ 0 ∷ 0 ∷ []
 unfolding stream known_of
-chan-bytes = refl
+chan_bytes = refl
 
 -- 4 bytes and 8 entries of 12
-pub chan-long : length (stream chan (Struct 0) 0 chan_image) ≡ 100
+pub chan_long : length (stream chan (Struct 0) 0 chan_image) ≡ 100
 unfolding stream known_of
-chan-long = refl
+chan_long = refl
 
 -- ---- strings
 
-pub string-tree : tree string82 (Struct 0) 0 ≡ leaf (str 82)
+pub string_tree : tree string82 (Struct 0) 0 ≡ leaf (str 82)
 unfolding tree known_of
-string-tree = refl
+string_tree = refl
 
 -- LEN FFFFFFFF reads 82 bytes
 abbrev pub long_image : List ℕ
 long_image = 0xFF ∷ 0xFF ∷ 0xFF ∷ 0xFF ∷ replicate 84 65
 
-pub string-entries : entries string82 (Struct 0) 0 long_image ≡ text (replicate 82 65) ∷ []
+pub string_entries : entries string82 (Struct 0) 0 long_image ≡ text (replicate 82 65) ∷ []
 unfolding entries known_of
-string-entries = refl
+string_entries = refl
 
 -- one entry: its text's place 0 and length 82, and the text
 pub string_bytes : stream string82 (Struct 0) 0 long_image
@@ -100,11 +100,11 @@ string_bytes = refl
 -- ---- bit strings
 
 -- whatever its bits are
-pub dword-entries : (known : ℕ → KnownStruct) (image : List ℕ) → length (entries known (Atomic DWord) 0 image) ≡ 34
+pub dword_entries : (known : ℕ → KnownStruct) (image : List ℕ) → length (entries known (Atomic DWord) 0 image) ≡ 34
 unfolding entries
-dword-entries known image = refl
+dword_entries known image = refl
 
 -- the lowest bit first, between array open and close
-pub dword-first : take 3 (entries chan (Atomic DWord) 0 (0x02 ∷ 0 ∷ 0 ∷ 0 ∷ [])) ≡ mark 10 ∷ bool false ∷ bool true ∷ []
+pub dword_first : take 3 (entries chan (Atomic DWord) 0 (0x02 ∷ 0 ∷ 0 ∷ 0 ∷ [])) ≡ mark 10 ∷ bool false ∷ bool true ∷ []
 unfolding entries
-dword-first = refl
+dword_first = refl

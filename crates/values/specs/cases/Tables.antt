@@ -61,5 +61,6 @@ members_of d = member_rows 0 (d ∷ [])
 
 -- what values ask of the type, read from its rows
 unfoldable pub known_of : Def → ℕ → KnownStruct
-unfolding known_in members_at member_at type_at ty_of_word bit_of_word kind_of_word atomic_at types_of members_of chan_def string82_def
+unfolding known_in members_at member_at type_at ty_of_word bit_of_word kind_of_word atomic_at types_of members_of
+    chan_def string82_def
 known_of d i = known_in (types_of d) (members_of d) i

@@ -12,10 +12,11 @@ use Rattle.values.specs.reading.Texts.{string_number, text_number, text_part}
 abbrev pub full : List ℕ
 full = replicate 4 0xFF ++ replicate 84 0x41
 
-pub full-number : text_number (types_of string82_def) (ty.Struct 0) full ≡ 0
+pub full_number : text_number (types_of string82_def) (ty.Struct 0) full ≡ 0
 unfolding text_number string_number type_at kind_of_word types_of string82_def
-full-number = refl
+full_number = refl
 
-pub full-text : text_part (types_of string82_def) (members_of string82_def) (ty.Struct 0) full ≡ replicate 82 0x41
-unfolding text_part text_number string_number type_at kind_of_word member_at part val flat bit_of types_of members_of string82_def
-full-text = refl
+pub full_text : text_part (types_of string82_def) (members_of string82_def) (ty.Struct 0) full ≡ replicate 82 0x41
+unfolding text_part text_number string_number type_at kind_of_word member_at part val flat bit_of types_of members_of
+    string82_def
+full_text = refl

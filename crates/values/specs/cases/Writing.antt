@@ -26,43 +26,43 @@ abbrev ones : List ℕ
 ones = 0xFF ∷ 0xFF ∷ 0xFF ∷ 0xFF ∷ []
 
 -- members in any order, later wins
-pub later-wins : after chan_tree (mark 8 ∷ member 3 ∷ number 2 7 ∷ member 1 ∷ bool false ∷ member 3 ∷ number 2 0x1234
+pub later_wins : after chan_tree (mark 8 ∷ member 3 ∷ number 2 7 ∷ member 1 ∷ bool false ∷ member 3 ∷ number 2 0x1234
     ∷ mark 9 ∷ []) ones ≡ 0xFE ∷ 0xFF ∷ 0x34 ∷ 0x12 ∷ []
 unfolding after
-later-wins = refl
+later_wins = refl
 
 -- null keeps what stands, for a BOOL member too
-pub null-keeps : after chan_tree (mark 8 ∷ member 1 ∷ null ∷ mark 9 ∷ []) ones ≡ ones
+pub null_keeps : after chan_tree (mark 8 ∷ member 1 ∷ null ∷ mark 9 ∷ []) ones ≡ ones
 unfolding after
-null-keeps = refl
+null_keeps = refl
 
 -- and counts as an element; a short array keeps the rest
-pub short-keeps : after (array 4 (leaf (int 8))) (mark 10 ∷ null ∷ number 2 1 ∷ mark 11 ∷ []) ones
+pub short_keeps : after (array 4 (leaf (int 8))) (mark 10 ∷ null ∷ number 2 1 ∷ mark 11 ∷ []) ones
     ≡ 0xFF ∷ 0x01 ∷ 0xFF ∷ 0xFF ∷ []
 unfolding after
-short-keeps = refl
+short_keeps = refl
 
 -- one DWORD takes an array of bools, missing ones zero
-pub missing-zero : after (bits 32 0) (mark 10 ∷ bool true ∷ mark 11 ∷ []) ones ≡ 0x01 ∷ 0x00 ∷ 0x00 ∷ 0x00 ∷ []
+pub missing_zero : after (bits 32 0) (mark 10 ∷ bool true ∷ mark 11 ∷ []) ones ≡ 0x01 ∷ 0x00 ∷ 0x00 ∷ 0x00 ∷ []
 unfolding after
-missing-zero = refl
+missing_zero = refl
 
 -- an array of them takes bools if its first entry is a bool, and missing bits keep
-pub missing-keeps : after (bits 32 1) (mark 10 ∷ bool false ∷ mark 11 ∷ []) ones ≡ 0xFE ∷ 0xFF ∷ 0xFF ∷ 0xFF ∷ []
+pub missing_keeps : after (bits 32 1) (mark 10 ∷ bool false ∷ mark 11 ∷ []) ones ≡ 0xFE ∷ 0xFF ∷ 0xFF ∷ 0xFF ∷ []
 unfolding after
-missing-keeps = refl
+missing_keeps = refl
 
 -- else whole numbers; an 8-bit string takes -128
-pub negative-bits : after (bits 8 4) (mark 10 ∷ number 2 0xFFFFFFFFFFFFFF80 ∷ null ∷ number 3 255 ∷ mark 11 ∷ []) ones
+pub negative_bits : after (bits 8 4) (mark 10 ∷ number 2 0xFFFFFFFFFFFFFF80 ∷ null ∷ number 3 255 ∷ mark 11 ∷ []) ones
     ≡ 0x80 ∷ 0xFF ∷ 0xFF ∷ 0xFF ∷ []
 unfolding after
-negative-bits = refl
+negative_bits = refl
 
 -- text zeroes the rest of DATA
-pub text-zeroes : after (leaf (str 4)) (text (65 ∷ 66 ∷ []) ∷ []) (0xFF ∷ 0xFF ∷ 0xFF ∷ 0xFF ∷ ones)
+pub text_zeroes : after (leaf (str 4)) (text (65 ∷ 66 ∷ []) ∷ []) (0xFF ∷ 0xFF ∷ 0xFF ∷ 0xFF ∷ ones)
     ≡ 2 ∷ 0 ∷ 0 ∷ 0 ∷ 65 ∷ 66 ∷ 0 ∷ 0 ∷ []
 unfolding after
-text-zeroes = refl
+text_zeroes = refl
 
 -- ---- outcomes
 
@@ -73,10 +73,10 @@ unfolding outcome
 mixture = refl
 
 -- a hidden member
-pub hidden-member : outcome chan_tree (mark 8 ∷ member 0 ∷ null ∷ mark 9 ∷ []) ones
+pub hidden_member : outcome chan_tree (mark 8 ∷ member 0 ∷ null ∷ mark 9 ∷ []) ones
     ≡ bad 18 (member 0 ∷ null ∷ mark 9 ∷ [])
 unfolding outcome
-hidden-member = refl
+hidden_member = refl
 
 -- a missing entry, also after a full array; and a left-over one
 pub missing : outcome (array 1 (leaf (int 8))) (mark 10 ∷ number 2 1 ∷ []) ones ≡ bad 18 []
@@ -88,20 +88,20 @@ unfolding outcome
 left_over = refl
 
 -- a whole number out of range: 128 and -129
-pub above-range : outcome (leaf (int 8)) (number 3 128 ∷ []) ones ≡ bad 19 (number 3 128 ∷ [])
+pub above_range : outcome (leaf (int 8)) (number 3 128 ∷ []) ones ≡ bad 19 (number 3 128 ∷ [])
 unfolding outcome
-above-range = refl
+above_range = refl
 
-pub below-range : outcome (leaf (int 8)) (number 2 0xFFFFFFFFFFFFFF7F ∷ []) ones
+pub below_range : outcome (leaf (int 8)) (number 2 0xFFFFFFFFFFFFFF7F ∷ []) ones
     ≡ bad 19 (number 2 0xFFFFFFFFFFFFFF7F ∷ [])
 unfolding outcome
-below-range = refl
+below_range = refl
 
 -- after an array's last place 20 goes before 18
-pub past-last : outcome (array 1 (leaf (int 8))) (mark 10 ∷ number 2 1 ∷ bool true ∷ mark 11 ∷ []) ones
+pub past_last : outcome (array 1 (leaf (int 8))) (mark 10 ∷ number 2 1 ∷ bool true ∷ mark 11 ∷ []) ones
     ≡ bad 20 (bool true ∷ mark 11 ∷ [])
 unfolding outcome
-past-last = refl
+past_last = refl
 
 -- a text longer than the capacity
 pub too_long : outcome (leaf (str 1)) (text (65 ∷ 66 ∷ []) ∷ []) ones ≡ bad 21 (text (65 ∷ 66 ∷ []) ∷ [])

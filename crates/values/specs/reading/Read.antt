@@ -53,4 +53,5 @@ left_by (refused number place) out stream = out
 pub record Answered (types members : List ℕ) (t : Ty) (n : ℕ) (image out : List ℕ) (r : Streamed) (new : List ℕ)
     : Type 0 where
   pub answer : said_by r ≡ read_answer types members t n image (length out)
-  pub leaves : new ≡ left_by (read_answer types members t n image (length out)) out (value_stream types members t n image)
+  pub leaves : new ≡ left_by (read_answer types members t n image (length out)) out
+      (value_stream types members t n image)

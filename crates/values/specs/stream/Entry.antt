@@ -1,6 +1,7 @@
 -- Entries by value (document 01, "Value stream"): the number of each kind, its payload, its twelve bytes, and what
 -- twelve bytes say.
-use Rattle.std.specs.Prelude.{ℕ, ◌+◌, ◌*◌, ◌^◌, ◌<◌, true, false, cond, Bool, ◌&&◌, List, [], ◌∷◌, ◌≡◌, eqb, leb, ltb, get_or, length}
+use Rattle.std.specs.Prelude.{ℕ, ◌+◌, ◌*◌, ◌^◌, ◌<◌, true, false, cond, Bool, ◌&&◌, List, [], ◌∷◌, ◌≡◌, eqb, leb, ltb}
+use Rattle.std.specs.Prelude.{get_or, length}
 use Rattle.std.proofs.lemmas.List.Edits.{sets}
 use Rattle.words.specs.Bits.{digit}
 use Rattle.words.specs.Words.{word_at}

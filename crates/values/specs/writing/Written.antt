@@ -32,7 +32,8 @@ bytes_after (bad number ts) image = image
 
 -- what the entries of a stream do to an image of a value
 unfoldable pub value_written : List ℕ → List ℕ → Ty → ℕ → List ℕ → List ℕ → Outcome
-value_written types members t n s image = written (tree_of_value (known_in types members) t n) (tokens_in s) (flat image)
+value_written types members t n s image =
+    written (tree_of_value (known_in types members) t n) (tokens_in s) (flat image)
 
 -- a call's answer, and the image it leaves
 pub record Result : Type 0 where

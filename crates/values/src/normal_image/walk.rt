@@ -21,7 +21,7 @@ use words::wide;
 const FLAG_BYTES: usize = 250;
 
 // Structure i, from a byte of the image on.
-#[cycle(normal_elements_normal_member_normal_struct_sweep)]
+#[cycle(clearing)]
 pub fn normal_struct(
     types: &TypeTable,
     members: &MemberTable,
@@ -49,8 +49,8 @@ pub fn normal_struct(
 }
 
 // Its visible members that are no BOOLs made normal, and all between them cleared. The loop begins as any over a
-// structure's rows: there are no function values to hand one loop what it does at a row.
-#[cycle(normal_elements_normal_member_normal_struct_sweep)]
+// structure's rows.
+#[cycle(clearing)]
 fn sweep(types: &TypeTable, members: &MemberTable, i: usize, image: &mut [u8], base: usize)
     requires { Sweepable types.now members.now × Here types.now i base image.old }
     ensures { flat image.new
@@ -74,7 +74,7 @@ fn sweep(types: &TypeTable, members: &MemberTable, i: usize, image: &mut [u8], b
 
 // The member in a row of structure i, which begins at `base`; what is between byte c of it and the member is cleared.
 // The byte after the member.
-#[cycle(normal_elements_normal_member_normal_struct_sweep)]
+#[cycle(clearing)]
 fn normal_member(
     types: &TypeTable,
     members: &MemberTable,
@@ -112,7 +112,7 @@ fn normal_member(
 }
 
 // An array of structures i; elements of no bytes are not walked, however many there are.
-#[cycle(normal_elements_normal_member_normal_struct_sweep)]
+#[cycle(clearing)]
 pub fn normal_elements(
     types: &TypeTable,
     members: &MemberTable,

@@ -9,7 +9,7 @@ use crate::stream::kinds;
 use types::Atomic;
 
 // The kind of a number's entry; from which number on it is negative, and what then stands above it.
-#[derive(Drop)]
+#[derive(Clone, Copy)]
 pub struct Form {
     pub kind: u8,
     pub half: u64,

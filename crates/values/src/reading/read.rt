@@ -24,7 +24,7 @@ use types::{Fit, MemberTable, Refusal, Ty, TypeTable};
 use words::{least, store32};
 
 // The stream's length, or a refusal.
-#[derive(Drop)]
+#[derive(Clone, Copy)]
 pub enum Streamed {
     Length(usize),
     Refused(Refusal),
@@ -81,7 +81,7 @@ fn text_value(
 ) -> usize
     requires walkable { Walkable types.now members.now × ((room ≤ most_bytes)
         × ValueImage types.now ty n image.now) }
-    requires image_value { texts ≡ false → bodies (value_out types.now members.now ty n image.now) ≡ [] }
+    requires textless { texts ≡ false → bodies (value_out types.now members.now ty n image.now) ≡ [] }
     ensures { Texts room (value_out types.now members.now ty n image.now) result }
 {
     if !texts {
@@ -154,7 +154,7 @@ fn read_within(
     room: usize,
 ) -> Streamed
     requires walkable { Walkable types.now members.now × ValueImage types.now ty n image.now }
-    requires room_value { room + 4 ≡ min (length out.old) most_bytes }
+    requires most_room { room + 4 ≡ min (length out.old) most_bytes }
     ensures { StreamWritten types.now members.now ty n image.now
         out.old result out.new }
 {

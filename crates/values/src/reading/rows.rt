@@ -83,7 +83,7 @@ pub fn is_nested(members: &MemberTable, row: usize) -> bool
 
 // A structure that a row holds: its number, how many there are of it, 0 for one that is no array, and where in the
 // row's own structure it begins.
-#[derive(Drop)]
+#[derive(Clone, Copy)]
 pub struct Nested {
     pub structure: usize,
     pub count: usize,

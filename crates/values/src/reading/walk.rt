@@ -29,7 +29,7 @@ fn read_leaf(
     at: usize,
 ) -> usize
     requires row_of { RowOf types.now members.now i row × ImageOf types.now i image.now }
-    requires image_in_bounds { at + 12 * length (leaf_out j (member_at members.now row) image.now) ≤ length out.old }
+    requires out_room { at + 12 * length (leaf_out j (member_at members.now row) image.now) ≤ length out.old }
     ensures { EntriesPut out.old at
         (leaf_out j (member_at members.now row) image.now) out.new result }
 {
@@ -64,7 +64,7 @@ fn read_leaf(
 }
 
 // Structure i from an image of its size.
-#[cycle(read_elements_read_members_read_nested_read_struct)]
+#[cycle(reading)]
 pub fn read_struct(
     types: &TypeTable,
     members: &MemberTable,
@@ -90,7 +90,7 @@ pub fn read_struct(
 }
 
 // Its members, between the brackets.
-#[cycle(read_elements_read_members_read_nested_read_struct)]
+#[cycle(reading)]
 fn read_members(
     types: &TypeTable,
     members: &MemberTable,
@@ -136,7 +136,7 @@ fn read_members(
 
 // The structure, or the array of structures, in a row of structure i, from the image of that structure; j is the
 // member's number.
-#[cycle(read_elements_read_members_read_nested_read_struct)]
+#[cycle(reading)]
 fn read_nested(
     types: &TypeTable,
     members: &MemberTable,
@@ -190,7 +190,7 @@ fn read_nested(
 }
 
 // n structures i as an array.
-#[cycle(read_elements_read_members_read_nested_read_struct)]
+#[cycle(reading)]
 pub fn read_elements(
     types: &TypeTable,
     members: &MemberTable,

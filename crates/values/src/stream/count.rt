@@ -71,7 +71,7 @@ fn leaf_entries(members: &MemberTable, row: usize) -> usize
 }
 
 // Structure i, or n of it where n is not 0.
-#[cycle(count_members_count_nested_count_struct_count_structs)]
+#[cycle(counting)]
 pub fn count_structs(
     types: &TypeTable,
     members: &MemberTable,
@@ -100,7 +100,7 @@ pub fn count_structs(
 }
 
 // Structure i.
-#[cycle(count_members_count_nested_count_struct_count_structs)]
+#[cycle(counting)]
 fn count_struct(
     types: &TypeTable,
     members: &MemberTable,
@@ -123,7 +123,7 @@ fn count_struct(
 }
 
 // Its members. The last one's structure takes the place of this one, so that it costs no call.
-#[cycle(count_members_count_nested_count_struct_count_structs)]
+#[cycle(counting)]
 fn count_members(
     types: &TypeTable,
     members: &MemberTable,
@@ -162,7 +162,7 @@ fn count_members(
 }
 
 // The structure, or the array of structures, in a row of structure i, with the member's number before it.
-#[cycle(count_members_count_nested_count_struct_count_structs)]
+#[cycle(counting)]
 fn count_nested(
     types: &TypeTable,
     members: &MemberTable,

@@ -11,7 +11,7 @@ use crate::stream::kinds;
 use words::{high32, load64, low32, store32, store64, wide8, wide64};
 
 // A text has its place in the bodies and its length.
-#[derive(Drop)]
+#[derive(Clone, Copy)]
 pub enum Entry {
     Null,
     Bool(bool),
@@ -28,7 +28,7 @@ pub enum Entry {
 }
 
 // What twelve bytes say.
-#[derive(Drop)]
+#[derive(Clone, Copy)]
 pub enum Loaded {
     Is(Entry),
     Malformed,

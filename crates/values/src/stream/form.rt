@@ -32,6 +32,7 @@ const NO_KIND: u32 = kinds::NO_KIND as u32;
 const NOWHERE: usize = 0x4000_0000_0000_0000;
 
 // The greatest payload of a kind that is no text: a bool, 32 bits, 64 bits, or none.
+#[tactic(auto, unfolding(crate::specs::inside::stream::Steps::most_of))]
 fn most_of(kind: u32) -> u64
     ensures { result ≡ most_of kind }
 {

@@ -13,7 +13,7 @@ use types::{MemberTable, TypeTable, type_row};
 use words::wide;
 
 // Structure i.
-#[cycle(text_elements_text_members_text_nested_text_struct)]
+#[cycle(measuring)]
 pub fn text_struct(
     types: &TypeTable,
     members: &MemberTable,
@@ -36,7 +36,7 @@ pub fn text_struct(
 
 // Its members. A walk beside that of `count_members`, for pace: an array's entries are one product, and a value without
 // texts is not walked for their lengths.
-#[cycle(text_elements_text_members_text_nested_text_struct)]
+#[cycle(measuring)]
 fn text_members(
     types: &TypeTable,
     members: &MemberTable,
@@ -71,7 +71,7 @@ fn text_members(
 }
 
 // The structure, or the array of structures, in a row of structure i, from the image of that structure.
-#[cycle(text_elements_text_members_text_nested_text_struct)]
+#[cycle(measuring)]
 fn text_nested(
     types: &TypeTable,
     members: &MemberTable,
@@ -105,7 +105,7 @@ fn text_nested(
 }
 
 // n structures i as an array.
-#[cycle(text_elements_text_members_text_nested_text_struct)]
+#[cycle(measuring)]
 pub fn text_elements(
     types: &TypeTable,
     members: &MemberTable,

@@ -20,7 +20,7 @@ use types::{MemberTable, TypeTable, type_row};
 use words::wide;
 
 // Structure i, from a byte of the image on.
-#[cycle(apply_elements_apply_members_apply_nested_apply_struct)]
+#[cycle(applying)]
 pub fn apply_struct(
     types: &TypeTable,
     members: &MemberTable,
@@ -32,7 +32,7 @@ pub fn apply_struct(
 ) -> usize
     requires walkable { Walkable types.now members.now × (Here types.now i base image.old
         × (stream_ok s.now ≡ true)) }
-    requires image_value { accepted (write (tree_in types.now members.now i) (8 * base) (left_at s.now k) (flat image.old))
+    requires right { accepted (write (tree_in types.now members.now i) (8 * base) (left_at s.now k) (flat image.old))
         ≡ true }
     ensures { Applied s.now k result image.old image.new
         (write (tree_in types.now members.now i) (8 * base) (left_at s.now k)) }
@@ -47,7 +47,7 @@ pub fn apply_struct(
 }
 
 // Its members, in the order of the entries, so that a later one wins.
-#[cycle(apply_elements_apply_members_apply_nested_apply_struct)]
+#[cycle(applying)]
 fn apply_members(
     types: &TypeTable,
     members: &MemberTable,
@@ -59,7 +59,7 @@ fn apply_members(
 ) -> usize
     requires walkable { Walkable types.now members.now × (Here types.now i base image.old
         × (stream_ok s.now ≡ true)) }
-    requires image_value { accepted (write (struct (8 * sizes_in types.now i) (branches_in types.now members.now i))
+    requires right { accepted (write (struct (8 * sizes_in types.now i) (branches_in types.now members.now i))
         (8 * base) (left_at s.now k) (flat image.old)) ≡ true }
     ensures { Applied s.now k result image.old image.new
         (write (struct (8 * sizes_in types.now i)
@@ -87,7 +87,7 @@ fn apply_members(
 }
 
 // The structure, or the array of structures, in a row of structure i, which begins at `base`.
-#[cycle(apply_elements_apply_members_apply_nested_apply_struct)]
+#[cycle(applying)]
 fn apply_nested(
     types: &TypeTable,
     members: &MemberTable,
@@ -100,7 +100,7 @@ fn apply_nested(
 ) -> usize
     requires walkable { Walkable types.now members.now × (NestedRow types.now members.now i row
         × (Here types.now i base image.old × (stream_ok s.now ≡ true))) }
-    requires image_value { accepted (write (member_tree (tree_in types.now members.now) (member_at members.now row))
+    requires right { accepted (write (member_tree (tree_in types.now members.now) (member_at members.now row))
         (8 * base + first_bit (member_at members.now row)) (left_at s.now k) (flat image.old)) ≡ true }
     ensures { Applied s.now k result image.old image.new
         (write (member_tree (tree_in types.now members.now) (member_at members.now row))
@@ -116,7 +116,7 @@ fn apply_nested(
 
 // An array of structures i, or null. A walk beside that of `check_elements`, for pace: what was checked is not asked
 // again.
-#[cycle(apply_elements_apply_members_apply_nested_apply_struct)]
+#[cycle(applying)]
 pub fn apply_elements(
     types: &TypeTable,
     members: &MemberTable,
@@ -129,7 +129,7 @@ pub fn apply_elements(
 ) -> usize
     requires walkable { Walkable types.now members.now × (AllHere types.now i count base image.old
         × (stream_ok s.now ≡ true)) }
-    requires image_value { accepted (write (array count (tree_in types.now members.now i)) (8 * base) (left_at s.now k)
+    requires right { accepted (write (array count (tree_in types.now members.now i)) (8 * base) (left_at s.now k)
         (flat image.old)) ≡ true }
     ensures { Applied s.now k result image.old image.new
         (write (array count (tree_in types.now members.now i)) (8 * base)

@@ -44,7 +44,7 @@ fn eight(s: &[u8], k: usize) -> u8
 // The first 8 * n bools, as n bytes.
 fn set_eights(n: usize, s: &[u8], k: usize, image: &mut [u8], base: usize)
     requires at_least { AtLeast s.now k (8 * n) }
-    requires n_in_bounds { base + n ≤ length image.old }
+    requires inside { base + n ≤ length image.old }
     ensures { flat image.new
         ≡ stamp (8 * base) (8 * n) (truths s.now k) (flat image.old) }
 {
@@ -68,7 +68,7 @@ pub fn put_bit(image: &mut [u8], at: usize, bit: u8, value: bool)
 // Fewer than eight bools into one byte.
 fn set_few(n: usize, s: &[u8], k: usize, image: &mut [u8], at: usize)
     requires at_least { AtLeast s.now k n }
-    requires n_bound { (n < 8) × ((0 < n) → at < length image.old) }
+    requires few { (n < 8) × ((0 < n) → at < length image.old) }
     ensures { flat image.new
         ≡ stamp (8 * at) n (truths s.now k) (flat image.old) }
 {

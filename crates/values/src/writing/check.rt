@@ -39,7 +39,7 @@ fn visible_row(members: &MemberTable, first: usize, count: usize, j: usize) -> u
 }
 
 // Structure i.
-#[cycle(check_elements_check_members_check_nested_check_struct)]
+#[cycle(checking)]
 pub fn check_struct(
     types: &TypeTable,
     members: &MemberTable,
@@ -63,7 +63,7 @@ pub fn check_struct(
 }
 
 // Its members, in any order, or null.
-#[cycle(check_elements_check_members_check_nested_check_struct)]
+#[cycle(checking)]
 fn check_members(
     types: &TypeTable,
     members: &MemberTable,
@@ -119,7 +119,7 @@ fn check_members(
 }
 
 // The structure, or the array of structures, in a row of structure i.
-#[cycle(check_elements_check_members_check_nested_check_struct)]
+#[cycle(checking)]
 fn check_nested(
     types: &TypeTable,
     members: &MemberTable,
@@ -143,7 +143,7 @@ fn check_nested(
 }
 
 // An array of structures i, or null.
-#[cycle(check_elements_check_members_check_nested_check_struct)]
+#[cycle(checking)]
 pub fn check_elements(
     types: &TypeTable,
     members: &MemberTable,

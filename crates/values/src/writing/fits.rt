@@ -140,7 +140,7 @@ fn check_numbers(a: Atomic, count: usize, s: &[u8], n: usize, k: usize) -> usize
 // One bit string: a whole number, or an array of bools.
 fn check_bits(a: Atomic, s: &[u8], n: usize, k: usize) -> usize
     requires well_formed { WellFormed s.now n × (k ≤ n) }
-    requires a_value { bit_string a ≡ true }
+    requires bits { bit_string a ≡ true }
     ensures { (p : ℕ) → CheckedFrom s.now k result
         (write (atomics_tree a 0) p (left_at s.now k)) }
 {

@@ -10,7 +10,7 @@ use types::Atomic;
 
 // The one kind that is taken, or 2 for whole numbers: these have a greatest number, and a greatest that is too low, a
 // number below zero being 2^64 more.
-#[derive(Drop)]
+#[derive(Clone, Copy)]
 pub struct Limits {
     pub kind: u8,
     pub under: u64,

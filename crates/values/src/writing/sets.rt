@@ -70,8 +70,8 @@ pub fn clear(image: &mut [u8], at: usize, n: usize)
 
 // One atomic, or null.
 pub fn set_atomic(a: Atomic, s: &[u8], k: usize, image: &mut [u8], base: usize) -> usize
-    requires s_value { (stream_ok s.now ≡ true) × (base + size_of a ≤ length image.old) }
-    requires image_value { accepted (write_one (or_null (atomic_takes a)) (8 * size_of a) (8 * base) (left_at s.now k)
+    requires formed { (stream_ok s.now ≡ true) × (base + size_of a ≤ length image.old) }
+    requires right { accepted (write_one (or_null (atomic_takes a)) (8 * size_of a) (8 * base) (left_at s.now k)
         (flat image.old)) ≡ true }
     ensures { Applied s.now k result image.old image.new
         (write_one (or_null (atomic_takes a)) (8 * size_of a) (8 * base) (left_at s.now k)) }
@@ -86,8 +86,8 @@ pub fn set_atomic(a: Atomic, s: &[u8], k: usize, image: &mut [u8], base: usize) 
 
 // One BOOL of a structure, or null.
 fn set_flag(s: &[u8], k: usize, image: &mut [u8], at: usize, bit: u8) -> usize
-    requires s_value { (stream_ok s.now ≡ true) × ((at < length image.old) × (bit < 8)) }
-    requires image_value { accepted (write_one (or_null (taken flag)) 1 (8 * at + bit) (left_at s.now k)
+    requires formed { (stream_ok s.now ≡ true) × ((at < length image.old) × (bit < 8)) }
+    requires right { accepted (write_one (or_null (taken flag)) 1 (8 * at + bit) (left_at s.now k)
         (flat image.old)) ≡ true }
     ensures { Applied s.now k result image.old image.new
         (write_one (or_null (taken flag)) 1 (8 * at + bit) (left_at s.now k)) }
@@ -102,8 +102,8 @@ fn set_flag(s: &[u8], k: usize, image: &mut [u8], at: usize, bit: u8) -> usize
 
 // A text, or null: LEN, the text, and zeros in the rest of DATA.
 pub fn set_text(capacity: u32, s: &[u8], k: usize, image: &mut [u8], base: usize) -> usize
-    requires s_value { (stream_ok s.now ≡ true) × (base + 4 + capacity ≤ length image.old) }
-    requires image_value { accepted (write_one (or_null (as_text capacity)) (32 + 8 * capacity) (8 * base) (left_at s.now k)
+    requires formed { (stream_ok s.now ≡ true) × (base + 4 + capacity ≤ length image.old) }
+    requires right { accepted (write_one (or_null (as_text capacity)) (32 + 8 * capacity) (8 * base) (left_at s.now k)
         (flat image.old)) ≡ true }
     ensures { Applied s.now k result image.old image.new
         (write_one (or_null (as_text capacity)) (32 + 8 * capacity) (8 * base) (left_at s.now k)) }
@@ -124,8 +124,9 @@ pub fn set_text(capacity: u32, s: &[u8], k: usize, image: &mut [u8], base: usize
 
 // Up to `count` atomics, nulls among them, and the close.
 fn set_numbers(a: Atomic, count: usize, s: &[u8], k: usize, image: &mut [u8], base: usize) -> usize
-    requires s_value { (stream_ok s.now ≡ true) × (base + size_of a * count ≤ length image.old) }
-    requires image_value { accepted (elements count (write_one (or_null (atomic_takes a)) (8 * size_of a)) (8 * size_of a) (8 * base)
+    requires formed { (stream_ok s.now ≡ true) × (base + size_of a * count ≤ length image.old) }
+    requires right { accepted (elements count (write_one (or_null (atomic_takes a)) (8 * size_of a)) (8 * size_of a)
+        (8 * base)
         (left_at s.now k) (flat image.old)) ≡ true }
     ensures { Applied s.now k result image.old image.new
         (elements count (write_one (or_null (atomic_takes a)) (8 * size_of a)) (8 * size_of a) (8 * base)
@@ -150,8 +151,8 @@ fn set_numbers(a: Atomic, count: usize, s: &[u8], k: usize, image: &mut [u8], ba
 
 // One bit string: a whole number, or an array of bools, missing ones zero.
 fn set_bits(a: Atomic, s: &[u8], k: usize, image: &mut [u8], base: usize) -> usize
-    requires s_value { (stream_ok s.now ≡ true) × (base + size_of a ≤ length image.old) }
-    requires a_value { (bit_string a ≡ true)
+    requires formed { (stream_ok s.now ≡ true) × (base + size_of a ≤ length image.old) }
+    requires bits { (bit_string a ≡ true)
         × (accepted (write (atomics_tree a 0) (8 * base) (left_at s.now k) (flat image.old)) ≡ true) }
     ensures { Applied s.now k result image.old image.new
         (write (atomics_tree a 0) (8 * base) (left_at s.now k)) }
@@ -166,8 +167,8 @@ fn set_bits(a: Atomic, s: &[u8], k: usize, image: &mut [u8], base: usize) -> usi
 
 // What is inside an array of atomics.
 fn set_run(a: Atomic, count: usize, s: &[u8], k: usize, image: &mut [u8], base: usize) -> usize
-    requires s_value { (stream_ok s.now ≡ true) × (base + size_of a * count ≤ length image.old) }
-    requires image_value { accepted (run_in a count (8 * base) (left_at s.now k) (flat image.old)) ≡ true }
+    requires formed { (stream_ok s.now ≡ true) × (base + size_of a * count ≤ length image.old) }
+    requires right { accepted (run_in a count (8 * base) (left_at s.now k) (flat image.old)) ≡ true }
     ensures { Applied s.now k result image.old image.new
         (run_in a count (8 * base) (left_at s.now k)) }
 {
@@ -183,8 +184,8 @@ fn set_run(a: Atomic, count: usize, s: &[u8], k: usize, image: &mut [u8], base: 
 
 // An array of atomics, or null.
 fn set_array(a: Atomic, count: usize, s: &[u8], k: usize, image: &mut [u8], base: usize) -> usize
-    requires s_value { (stream_ok s.now ≡ true) × (base + size_of a * count ≤ length image.old) }
-    requires count_nonzero { (0 < count)
+    requires formed { (stream_ok s.now ≡ true) × (base + size_of a * count ≤ length image.old) }
+    requires some { (0 < count)
         × (accepted (write (atomics_tree a count) (8 * base) (left_at s.now k) (flat image.old)) ≡ true) }
     ensures { Applied s.now k result image.old image.new
         (write (atomics_tree a count) (8 * base) (left_at s.now k)) }
@@ -205,8 +206,8 @@ pub fn set_atomics(
     image: &mut [u8],
     base: usize,
 ) -> usize
-    requires s_value { (stream_ok s.now ≡ true) × (base + size_of a * times count ≤ length image.old) }
-    requires image_value { accepted (write (atomics_tree a count) (8 * base) (left_at s.now k) (flat image.old)) ≡ true }
+    requires formed { (stream_ok s.now ≡ true) × (base + size_of a * times count ≤ length image.old) }
+    requires right { accepted (write (atomics_tree a count) (8 * base) (left_at s.now k) (flat image.old)) ≡ true }
     ensures { Applied s.now k result image.old image.new
         (write (atomics_tree a count) (8 * base) (left_at s.now k)) }
 {
@@ -228,9 +229,9 @@ pub fn set_leaf(
     image: &mut [u8],
     base: usize,
 ) -> usize
-    requires s_value { (stream_ok s.now ≡ true) × (LeafRow members.now row
+    requires formed { (stream_ok s.now ≡ true) × (LeafRow members.now row
         × ((sizes : ℕ → ℕ) × MemberHere sizes (member_at members.now row) base image.old)) }
-    requires by_index { (trees : ℕ → Tree) × (accepted (write (member_tree trees (member_at members.now row))
+    requires right { (trees : ℕ → Tree) × (accepted (write (member_tree trees (member_at members.now row))
         (8 * base + first_bit (member_at members.now row)) (left_at s.now k) (flat image.old)) ≡ true) }
     ensures { (trees : ℕ → Tree) → Applied s.now k result image.old image.new
         (write (member_tree trees (member_at members.now row))

@@ -27,7 +27,7 @@ use types::{Fit, MemberTable, Refusal, Ty, TypeTable};
 use words::{load32, wide};
 
 // All was done, or a refusal and nothing was.
-#[derive(Drop)]
+#[derive(Clone, Copy)]
 pub enum Taken {
     Whole,
     Refused(Refusal),
@@ -71,7 +71,7 @@ fn apply_value(
 ) -> usize
     requires walkable { Walkable types.now members.now × (ValueImage types.now ty n image.old
         × (stream_ok s.now ≡ true)) }
-    requires image_value { accepted (write_in (tree_of_value (known_in types.now members.now) ty n) 0 (left_at s.now 0)
+    requires right { accepted (write_in (tree_of_value (known_in types.now members.now) ty n) 0 (left_at s.now 0)
         (flat image.old)) ≡ true }
     ensures { Applied s.now 0 result image.old image.new
         (write_in (tree_of_value (known_in types.now members.now) ty n) 0

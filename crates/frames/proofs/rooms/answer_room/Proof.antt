@@ -8,5 +8,5 @@ use Rattle.frames.proofs.rooms.answer_room.Tie as tie
 returns : tie.Need-returns
 returns c = sym (length-replicate {0} {A = ℕ} 1048585 0)
 
-pub answer-room-spec : {M : Type 1} → statement M
-answer-room-spec = tie.close (tie.spec returns)
+pub answer_room_spec : {M : Type 1} → statement M
+answer_room_spec = tie.close (tie.spec returns)

@@ -14,7 +14,7 @@ use Rattle.types.specs.declared.atomics.atomic.FoundAtomic.TheVariants.{Is as fo
 use Rattle.types.specs.declared.atomics.lookup.FoundTy.{FoundTy}
 use Rattle.types.specs.declared.atomics.lookup.FoundTy.TheVariants.{Is, Nothing}
 use Rattle.types.specs.declared.tables.member.Ty.TheVariants.{Struct}
-use Rattle.types.proofs.atomics.AtomicLaws.{named-said}
+use Rattle.types.proofs.atomics.AtomicLaws.{named_said}
 
 module _ (name : ℕ → List ℕ) (s : List ℕ) (n i : ℕ) where
   module _ (l : i < n) (b : Bool) (e : b ≡ same_name (name i) s) where
@@ -27,27 +27,27 @@ module _ (name : ℕ → List ℕ) (s : List ℕ) (n i : ℕ) where
         rw f (rw g)
 
     -- where the i-th name differs, the search has the same answer over the structures after it
-    pub named-later : b ≡ false → named_among (list_from name i (n - i)) s i
+    pub named_later : b ≡ false → named_among (list_from name i (n - i)) s i
         ≡ named_among (list_from name (i + 1) (n - (i + 1))) s (i + 1)
     unfolding named_among list_from
-    named-later q =
+    named_later q =
         let f : n - i ≡ suc (n - (i + 1)) = omega arith in
         let g : same_name (name i) s ≡ false = sym e ∙ q in
         rw f (rw g)
 
   -- where no structure is left, none is found
-  pub named-never : n ≤ i → Nothing ≡ named_among (list_from name i (n - i)) s i
+  pub named_never : n ≤ i → Nothing ≡ named_among (list_from name i (n - i)) s i
   unfolding named_among list_from
-  named-never l =
+  named_never l =
       let f : n - i ≡ 0 = omega arith in
       rw f
 
 -- ---- what a search says
 
-numbers-said : (known : List (List ℕ)) (s : List ℕ) (i : ℕ) → said_by (named_among known s i) ≡ number_among known s i
+numbers_said : (known : List (List ℕ)) (s : List ℕ) (i : ℕ) → said_by (named_among known s i) ≡ number_among known s i
 unfolding named_among number_among
-numbers-said [] s i = refl
-numbers-said (x ∷ xs) s i = go (same_name x s) (numbers-said xs s (i + 1))
+numbers_said [] s i = refl
+numbers_said (x ∷ xs) s i = go (same_name x s) (numbers_said xs s (i + 1))
   where
     go : (b : Bool) → said_by (named_among xs s (i + 1)) ≡ number_among xs s (i + 1)
         → said_by (cond b (Is (Struct i)) (named_among xs s (i + 1)))
@@ -55,12 +55,12 @@ numbers-said (x ∷ xs) s i = go (same_name x s) (numbers-said xs s (i + 1))
     go true e = refl
     go false e = e
 
-or-said : (a : FoundAtomic) (f : FoundTy) → said_by (atomic_or a f) ≡ or_else (atomic_says a) (said_by f)
-or-said (found a) f = refl
-or-said none f = refl
+or_said : (a : FoundAtomic) (f : FoundTy) → said_by (atomic_or a f) ≡ or_else (atomic_says a) (said_by f)
+or_said (found a) f = refl
+or_said none f = refl
 
 -- what the type of a name says is its word
-pub among-said : (known : List (List ℕ)) (s : List ℕ) → said_by (type_among known s) ≡ word_among known s
+pub among_said : (known : List (List ℕ)) (s : List ℕ) → said_by (type_among known s) ≡ word_among known s
 unfolding type_among word_among
-among-said known s =
-    or-said (atomic_named s) (named_among known s 0) ∙ ap₂ or_else (named-said s) (numbers-said known s 0)
+among_said known s =
+    or_said (atomic_named s) (named_among known s 0) ∙ ap₂ or_else (named_said s) (numbers_said known s 0)

@@ -15,8 +15,8 @@ use Rattle.types.specs.layout.Structs.{named, names_of, rows_of, bools, bit_host
 use Rattle.types.specs.tables.Defs.{Part}
 use Rattle.types.specs.tables.Limits.{most_members, most_names}
 use Rattle.types.specs.declared.layout.placing.Decl.{Decl}
-use Rattle.types.proofs.book.DeclLaws.{decls-cons, decls-none}
-use Rattle.types.proofs.layout.StoreLaws.{one_name, names-append, rows_then, names-then}
+use Rattle.types.proofs.book.DeclLaws.{decls_cons, decls_none}
+use Rattle.types.proofs.layout.StoreLaws.{one_name, names_append, rows_then, names_then}
 
 -- what counting keeps
 pub record CountingBools (types book tys : List ℕ) (at n count j : ℕ) : Type 0 where
@@ -38,16 +38,16 @@ module _ {types book tys : List ℕ} {at n count j : ℕ} (c : CountingBools typ
   unfolding bools
   counted l =
       record {
-        is = omega (arith, rw (decls-none types book tys at n j l) at c.same);
+        is = omega (arith, rw (decls_none types book tys at n j l) at c.same);
         most = omega (arith, c.most, c.done);
       }
 
   -- the j-th member adds one to the count where it is a BOOL, else nothing
-  pub count-on : j < n → {d : Decl} {b : Bool} → d ≡ decl_at types book tys at j → b ≡ is_bool d.ty → {r : ℕ}
+  pub count_on : j < n → {d : Decl} {b : Bool} → d ≡ decl_at types book tys at j → b ≡ is_bool d.ty → {r : ℕ}
       → OneIf b r
       → CountingBools types book tys at n (count + r) (j + 1)
   unfolding bools
-  count-on l {d} {b} e f {r} o =
+  count_on l {d} {b} e f {r} o =
       let g : r ≡ cond (is_bool (decl_at types book tys at j).ty) 1 0 =
       o.is ∙ ap (λ (x : Bool). cond x 1 0) (f ∙ ap (λ (x : Decl). is_bool x.ty) e) in
       record {
@@ -55,21 +55,21 @@ module _ {types book tys : List ℕ} {at n count j : ℕ} (c : CountingBools typ
         few = c.few;
         done = omega arith;
         most = omega (arith, c.most, o.most);
-        same = omega (arith, g, rw (decls-cons types book tys at n j l) at c.same);
+        same = omega (arith, g, rw (decls_cons types book tys at n j l) at c.same);
       }
 
 -- ---- hosts
 
-hosts-cons : (h i : ℕ) → i < h
+hosts_cons : (h i : ℕ) → i < h
     → host_parts i (h - i) ≡ named (bit_host_name i) (bit_host_at i) ∷ host_parts (i + 1) (h - (i + 1))
 unfolding host_parts
-hosts-cons h i l =
+hosts_cons h i l =
     let e : h - i ≡ suc (h - (i + 1)) = omega arith in
     rw e
 
-hosts-none : (h i : ℕ) → h ≤ i → host_parts i (h - i) ≡ []
+hosts_none : (h i : ℕ) → h ≤ i → host_parts i (h - i) ≡ []
 unfolding host_parts
-hosts-none h i l =
+hosts_none h i l =
     let e : h - i ≡ 0 = omega arith in
     rw e
 
@@ -79,14 +79,15 @@ pub record Hosting (h row place : ℕ) (m₀ t₀ m t : List ℕ) (at i : ℕ) :
   pub room : row + h ≤ most_members
   pub bytes : at + length (names_of (host_parts i (h - i))) ≤ most_names
   pub next : place + length (names_of (host_parts 0 h)) ≡ at + length (names_of (host_parts i (h - i)))
-  pub rows : sets m₀ (8 * row) (rows_of place (host_parts 0 h)) ≡ sets m (8 * (row + i)) (rows_of at (host_parts i (h - i)))
+  pub rows : sets m₀ (8 * row) (rows_of place (host_parts 0 h)) ≡ sets m (8 * (row + i))
+      (rows_of at (host_parts i (h - i)))
   pub names : sets t₀ place (names_of (host_parts 0 h)) ≡ sets t at (names_of (host_parts i (h - i)))
 
 -- before the first host the tables are as they were, with room for all hosts
-pub hosts-start : (h row place : ℕ) (m t : List ℕ) → row + h ≤ most_members
+pub hosts_start : (h row place : ℕ) (m t : List ℕ) → row + h ≤ most_members
     → place + length (names_of (host_parts 0 h)) ≤ most_names
     → Hosting h row place m t m t place 0
-hosts-start h row place m t r b =
+hosts_start h row place m t r b =
     record {
       done = omega arith;
       room = r;
@@ -98,10 +99,10 @@ hosts-start h row place m t r b =
 
 module _ {h row place at i : ℕ} {m₀ t₀ m t : List ℕ} (s : Hosting h row place m₀ t₀ m t at i) where
   -- after the last host all of them are stored
-  pub hosts-done : h ≤ i → PartsPut (host_parts 0 h) row place m₀ t₀ m t at
+  pub hosts_done : h ≤ i → PartsPut (host_parts 0 h) row place m₀ t₀ m t at
   unfolding names_of rows_of
-  hosts-done l =
-      let e = hosts-none h i l in
+  hosts_done l =
+      let e = hosts_none h i l in
       record {
         next = sym (rw e at s.next ∙ add-zero at);
         rows = sym (rw e at s.rows);
@@ -113,21 +114,21 @@ module _ {h row place at i : ℕ} {m₀ t₀ m t : List ℕ} (s : Hosting h row 
 
   module _ (l : i < h) where
     -- the names have room for that of the i-th host
-    pub host-room : at + length (bit_host_name i) ≤ most_names
+    pub host_room : at + length (bit_host_name i) ≤ most_names
     unfolding names_of
-    host-room = omega (arith, simp length-append at (rw (hosts-cons h i l) at s.bytes))
+    host_room = omega (arith, simp length-append at (rw (hosts_cons h i l) at s.bytes))
 
     -- where the i-th host was stored, storing goes on with the next
-    pub host-on : {m' t' : List ℕ} {r : ℕ} → HostPut i (row + i) at m t m' t' r
+    pub host_on : {m' t' : List ℕ} {r : ℕ} → HostPut i (row + i) at m t m' t' r
         → Hosting h row place m₀ t₀ m' t' (at + r) (i + 1)
-    host-on {m'} {t'} {r} p =
-        let e = hosts-cons h i l in
+    host_on {m'} {t'} {r} p =
+        let e = hosts_cons h i l in
         let rest = host_parts (i + 1) (h - (i + 1)) in
         let f : length (names_of (host ∷ [])) ≡ r =
         sym (ap length (one_name (bit_host_name i) (bit_host_at i))) ∙ sym p.long in
         let g : row + i + 1 ≡ row + (i + 1) = omega arith in
         let k : length (names_of (host ∷ rest)) ≡ r + length (names_of rest) =
-        ap length (names-append (host ∷ []) rest) ∙ length-append (names_of (host ∷ [])) (names_of rest) ∙ ap
+        ap length (names_append (host ∷ []) rest) ∙ length-append (names_of (host ∷ [])) (names_of rest) ∙ ap
         (◌+ length (names_of rest)) f in
         record {
           done = omega arith;
@@ -135,21 +136,21 @@ module _ {h row place at i : ℕ} {m₀ t₀ m t : List ℕ} (s : Hosting h row 
           bytes = omega (arith, k, rw e at s.bytes);
           next = omega (arith, k, rw e at s.next);
           rows = rw e at s.rows ∙ rows_then m (row + i) at (host ∷ []) rest ∙ rw (p.rows, f, g);
-          names = rw e at s.names ∙ names-then t at (host ∷ []) rest ∙ rw (p.names, f);
+          names = rw e at s.names ∙ names_then t at (host ∷ []) rest ∙ rw (p.names, f);
         }
 
 -- two parts stored one after the other are both stored
-pub two-put : (a b : Part) (row place : ℕ) {m₀ t₀ m₁ t₁ m t : List ℕ} {r : ℕ}
+pub two_put : (a b : Part) (row place : ℕ) {m₀ t₀ m₁ t₁ m t : List ℕ} {r : ℕ}
     → r ≡ place + length (names_of (a ∷ b ∷ []))
     → m₁ ≡ sets m₀ (8 * row) (rows_of place (a ∷ [])) → t₁ ≡ sets t₀ place (names_of (a ∷ []))
     → (at : ℕ) → at ≡ place + length (names_of (a ∷ []))
     → m ≡ sets m₁ (8 * (row + 1)) (rows_of at (b ∷ [])) → t ≡ sets t₁ at (names_of (b ∷ []))
     → PartsPut (a ∷ b ∷ []) row place m₀ t₀ m t r
-two-put a b row place {m₀} {t₀} n p q at e u v =
+two_put a b row place {m₀} {t₀} n p q at e u v =
     record {
       next = n;
       rows = rw (u, p, e) (sym (rows_then m₀ row place (a ∷ []) (b ∷ [])));
-      names = rw (v, q, e) (sym (names-then t₀ place (a ∷ []) (b ∷ [])));
+      names = rw (v, q, e) (sym (names_then t₀ place (a ∷ []) (b ∷ [])));
     }
 
 -- ---- the hosts' names
@@ -162,26 +163,26 @@ pub record Adding (h long i : ℕ) : Type 0 where
   pub same : length (names_of (host_parts 0 h)) ≡ long + length (names_of (host_parts i (h - i)))
 
 -- before the first host the sum is 0
-pub adding-start : (h : ℕ) → h ≤ 131072 → Adding h 0 0
-adding-start h l = record { done = omega arith; few = l; most = omega arith; same = rw (sub-zero, zero-add) }
+pub adding_start : (h : ℕ) → h ≤ 131072 → Adding h 0 0
+adding_start h l = record { done = omega arith; few = l; most = omega arith; same = rw (sub-zero, zero-add) }
 
 module _ {h long i : ℕ} (s : Adding h long i) where
   -- after the last host the sum is the length of all hosts' names
-  pub adding-done : h ≤ i → HostsLong h long
+  pub adding_done : h ≤ i → HostsLong h long
   unfolding names_of
-  adding-done l =
+  adding_done l =
       record {
-        is = sym (rw (hosts-none h i l) at s.same ∙ add-zero long);
+        is = sym (rw (hosts_none h i l) at s.same ∙ add-zero long);
         most = omega (arith, s.most, s.done);
       }
 
   -- with the length of the i-th host's name added, the sum has come one host further
-  pub adding-on : i < h → {r : ℕ} → BitHostLong i r → Adding h (long + r) (i + 1)
+  pub adding_on : i < h → {r : ℕ} → BitHostLong i r → Adding h (long + r) (i + 1)
   unfolding names_of
-  adding-on l b =
+  adding_on l b =
       record {
         done = omega arith;
         few = s.few;
         most = omega (arith, s.most, b.most);
-        same = omega (arith, b.is, simp length-append at (rw (hosts-cons h i l) at s.same));
+        same = omega (arith, b.is, simp length-append at (rw (hosts_cons h i l) at s.same));
       }

@@ -12,8 +12,8 @@ use Rattle.types.specs.layout.HostNames.{host_name}
 use Rattle.types.specs.layout.Structs.{names_of, rows_of, named_in, host_parts, enable_parts, aoi_start}
 use Rattle.types.specs.tables.Defs.{Part}
 use Rattle.types.specs.tables.Limits.{most_members, most_names}
-use Rattle.types.proofs.layout.BoundLaws.{hosts-count}
-use Rattle.types.proofs.layout.StoreLaws.{names-append, rows_then, names-then}
+use Rattle.types.proofs.layout.BoundLaws.{hosts_count}
+use Rattle.types.proofs.layout.StoreLaws.{names_append, rows_then, names_then}
 
 module _ {types book tys type : List ℕ} {at n h row place : ℕ} (s : StorableAoi types book tys type at n h row place)
   where
@@ -25,32 +25,32 @@ module _ {types book tys type : List ℕ} {at n h row place : ℕ} (s : Storable
     parts = rw s.hosts
 
     -- how many rows and bytes of names the three take
-    pub rows-room : row + (h + (2 + length rest)) ≤ most_members
-    rows-room = omega (arith, hosts-count 0 h, simp (length-append, length-append) at (rw parts at s.rows))
+    pub rows_room : row + (h + (2 + length rest)) ≤ most_members
+    rows_room = omega (arith, hosts_count 0 h, simp (length-append, length-append) at (rw parts at s.rows))
 
     -- the names have room for the hosts' names, 17 bytes of EnableIn and EnableOut, and the members' names
-    pub names-room : place + (length (names_of (host_parts 0 h)) + (17 + length (names_of rest))) ≤ most_names
+    pub names_room : place + (length (names_of (host_parts 0 h)) + (17 + length (names_of rest))) ≤ most_names
     unfolding names_of
-    names-room =
-        omega (arith, simp (names-append, length-append, names-append, length-append) at (rw parts at s.names))
+    names_room =
+        omega (arith, simp (names_append, length-append, names_append, length-append) at (rw parts at s.names))
 
     -- the declared members can be stored after the hosts, EnableIn and EnableOut
-    pub rest-storable : (at₂ : ℕ) → at₂ ≡ place + length (names_of (host_parts 0 h)) + 17
+    pub rest_storable : (at₂ : ℕ) → at₂ ≡ place + length (names_of (host_parts 0 h)) + 17
         → Storable types book tys type at n (aoi_start h) (row + h + 2) at₂
-    rest-storable at₂ e =
+    rest_storable at₂ e =
         record {
           found = s.found;
           passed = most_members;
           few = omega (arith, s.few);
           far = record {
-            offset = omega (arith, rows-room);
-            members = omega (arith, rows-room);
+            offset = omega (arith, rows_room);
+            members = omega (arith, rows_room);
             bits = omega arith;
             names = omega arith;
           };
           inside = s.inside;
-          rows = omega (arith, rows-room);
-          names = omega (arith, e, names-room);
+          rows = omega (arith, rows_room);
+          names = omega (arith, e, names_room);
         }
 
     module _ {m₀ t₀ m₁ t₁ m₂ t₂ : List ℕ} {p₁ p₂ : ℕ} (a : PartsPut (host_parts 0 h) row place m₀ t₀ m₁ t₁ p₁)
@@ -61,16 +61,16 @@ module _ {types book tys type : List ℕ} {at n h row place : ℕ} (s : Storable
       third = b.next ∙ rw a.next
 
       -- the hosts, EnableIn and EnableOut, and the declared members, one after the other, are all parts
-      pub all-rows : {m : List ℕ} → m ≡ sets m₂ (8 * (row + h + 2)) (rows_of p₂ rest)
+      pub all_rows : {m : List ℕ} → m ≡ sets m₂ (8 * (row + h + 2)) (rows_of p₂ rest)
           → m ≡ sets m₀ (8 * row) (rows_of place (aoi_parts (named_in book) type (decls_from types book tys at 0 n)))
-      all-rows u =
+      all_rows u =
           rw (u, b.rows, a.rows, parts, b.next, a.next)
           (sym (rows_then m₀ row place (host_parts 0 h) (enable_parts ++ rest)
-          ∙ rw (hosts-count 0 h) (rows_then _ (row + h) _ enable_parts rest)))
+          ∙ rw (hosts_count 0 h) (rows_then _ (row + h) _ enable_parts rest)))
 
       -- their names, one after the other, are the names of all parts
-      pub all-names : {t : List ℕ} → t ≡ sets t₂ p₂ (names_of rest)
+      pub all_names : {t : List ℕ} → t ≡ sets t₂ p₂ (names_of rest)
           → t ≡ sets t₀ place (names_of (aoi_parts (named_in book) type (decls_from types book tys at 0 n)))
-      all-names u =
+      all_names u =
           rw (u, b.names, a.names, parts, b.next, a.next)
-          (sym (names-then t₀ place (host_parts 0 h) (enable_parts ++ rest) ∙ names-then _ _ enable_parts rest))
+          (sym (names_then t₀ place (host_parts 0 h) (enable_parts ++ rest) ∙ names_then _ _ enable_parts rest))

@@ -8,13 +8,13 @@ use mathlib.Core.List.{List, [], ◌∷◌}
 use lib.ListN.{length, take, drop}
 use lib.Seq.{sets}
 use Rattle.words.specs.Words.{part}
-use Rattle.words.proofs.Lists.{length_part, length-between}
+use Rattle.words.proofs.Lists.{length_part, length_between}
 use Rattle.types.specs.inside.layout.Structs.{pairs}
 use Rattle.types.specs.layout.Structs.{named, names_of, rows_of, dint_at, data_of, string_parts, ctl_at, status_at}
 use Rattle.types.specs.layout.Structs.{status_parts, control_parts}
 use Rattle.types.specs.tables.Defs.{Part}
 use Rattle.types.specs.declared.tables.member.Member.{Member}
-use Rattle.types.proofs.layout.StoreLaws.{one_name, rows_then, names-then}
+use Rattle.types.proofs.layout.StoreLaws.{one_name, rows_then, names_then}
 
 -- one part whose name has k bytes, and then others
 pub rows_on : (t : List ℕ) (row at : ℕ) (n : List ℕ) (m : Member) (k : ℕ) (ps : List Part) → length n ≡ k
@@ -24,11 +24,11 @@ rows_on t row at n m k ps l =
     let e : k ≡ length (names_of (named n m ∷ [])) = sym l ∙ ap length (one_name n m) in
     rw e (rows_then t row at (named n m ∷ []) ps)
 
-pub names-on : (t : List ℕ) (at : ℕ) (n : List ℕ) (m : Member) (k : ℕ) (ps : List Part) → length n ≡ k
+pub names_on : (t : List ℕ) (at : ℕ) (n : List ℕ) (m : Member) (k : ℕ) (ps : List Part) → length n ≡ k
     → sets t at (names_of (named n m ∷ ps)) ≡ sets (sets t at (names_of (named n m ∷ []))) (at + k) (names_of ps)
-names-on t at n m k ps l =
+names_on t at n m k ps l =
     let e : k ≡ length (names_of (named n m ∷ [])) = sym l ∙ ap length (one_name n m) in
-    rw e (names-then t at (named n m ∷ []) ps)
+    rw e (names_then t at (named n m ∷ []) ps)
 
 -- ---- strings
 
@@ -39,31 +39,32 @@ abbrev pub data_name : List ℕ
 data_name = 68 ∷ 65 ∷ 84 ∷ 65 ∷ []
 
 -- the row of LEN and then that of DATA are a string's rows
-pub string-rows : (t : List ℕ) (row at c : ℕ)
+pub string_rows : (t : List ℕ) (row at c : ℕ)
     → sets (sets t (8 * row) (rows_of at (named len_name (dint_at 0) ∷ []))) (8 * (row + 1))
     (rows_of (at + 3) (named data_name (data_of c) ∷ []))
     ≡ sets t (8 * row) (rows_of at (string_parts c))
 unfolding string_parts
-string-rows t row at c = sym (rows_on t row at len_name (dint_at 0) 3 (named data_name (data_of c) ∷ []) refl)
+string_rows t row at c = sym (rows_on t row at len_name (dint_at 0) 3 (named data_name (data_of c) ∷ []) refl)
 
 -- the name LEN and then DATA are a string's names
-pub string-names : (t : List ℕ) (at c : ℕ)
-    → sets (sets t at (names_of (named len_name (dint_at 0) ∷ []))) (at + 3) (names_of (named data_name (data_of c) ∷ []))
+pub string_names : (t : List ℕ) (at c : ℕ)
+    → sets (sets t at (names_of (named len_name (dint_at 0) ∷ []))) (at + 3)
+    (names_of (named data_name (data_of c) ∷ []))
     ≡ sets t at (names_of (string_parts c))
 unfolding string_parts
-string-names t at c = sym (names-on t at len_name (dint_at 0) 3 (named data_name (data_of c) ∷ []) refl)
+string_names t at c = sym (names_on t at len_name (dint_at 0) 3 (named data_name (data_of c) ∷ []) refl)
 
 -- ---- status bits
 
-pairs-cons : (s : List ℕ) (n i : ℕ) → i < n → pairs s i (n - i) ≡ part s (2 * i) 2 ∷ pairs s (i + 1) (n - (i + 1))
+pairs_cons : (s : List ℕ) (n i : ℕ) → i < n → pairs s i (n - i) ≡ part s (2 * i) 2 ∷ pairs s (i + 1) (n - (i + 1))
 unfolding pairs
-pairs-cons s n i l =
+pairs_cons s n i l =
     let e : n - i ≡ suc (n - (i + 1)) = omega arith in
     rw e
 
-pairs-none : (s : List ℕ) (n i : ℕ) → n ≤ i → pairs s i (n - i) ≡ []
+pairs_none : (s : List ℕ) (n i : ℕ) → n ≤ i → pairs s i (n - i) ≡ []
 unfolding pairs
-pairs-none s n i l =
+pairs_none s n i l =
     let e : n - i ≡ 0 = omega arith in
     rw e
 
@@ -76,8 +77,8 @@ pub record PuttingBits (bits m₀ t₀ : List ℕ) (row place n : ℕ) (m t : Li
       ≡ sets t (place + 2 * i) (names_of (status_parts i (pairs bits i (n - i))))
 
 -- it is so before the first status bit
-pub bits-start : (bits m t : List ℕ) (row place : ℕ) {n : ℕ} → PuttingBits bits m t row place n m t 0
-bits-start bits m t row place {n} =
+pub bits_start : (bits m t : List ℕ) (row place : ℕ) {n : ℕ} → PuttingBits bits m t row place n m t 0
+bits_start bits m t row place {n} =
     record {
       done = omega arith;
       rows = rw (add-zero, add-zero, sub-zero);
@@ -86,14 +87,14 @@ bits-start bits m t row place {n} =
 
 module _ {bits m₀ t₀ m t : List ℕ} {row place n i : ℕ} (s : PuttingBits bits m₀ t₀ row place n m t i) where
   -- after the last status bit the rows of all are stored
-  pub bits-rows : n ≤ i → m ≡ sets m₀ (8 * row) (rows_of place (status_parts 0 (pairs bits 0 n)))
+  pub bits_rows : n ≤ i → m ≡ sets m₀ (8 * row) (rows_of place (status_parts 0 (pairs bits 0 n)))
   unfolding status_parts rows_of
-  bits-rows l = sym (rw (pairs-none bits n i l) at s.rows)
+  bits_rows l = sym (rw (pairs_none bits n i l) at s.rows)
 
   -- after the last status bit the names of all are stored
-  pub bits-names : n ≤ i → t ≡ sets t₀ place (names_of (status_parts 0 (pairs bits 0 n)))
+  pub bits_names : n ≤ i → t ≡ sets t₀ place (names_of (status_parts 0 (pairs bits 0 n)))
   unfolding status_parts names_of
-  bits-names l = sym (rw (pairs-none bits n i l) at s.names)
+  bits_names l = sym (rw (pairs_none bits n i l) at s.names)
 
   module _ (l : i < n) (h : 2 * i + 2 ≤ length bits) where
     abbrev rest : List Part
@@ -101,14 +102,14 @@ module _ {bits m₀ t₀ m t : List ℕ} {row place n i : ℕ} (s : PuttingBits 
 
     split : status_parts i (pairs bits i (n - i)) ≡ named (part bits (2 * i) 2) (status_at i) ∷ rest
     unfolding status_parts
-    split = rw (pairs-cons bits n i l)
+    split = rw (pairs_cons bits n i l)
 
     -- where the i-th status bit was stored, it is so at the next
-    pub bits-on : {m' t' : List ℕ}
+    pub bits_on : {m' t' : List ℕ}
         → m' ≡ sets m (8 * (row + i)) (rows_of (place + 2 * i) (named (part bits (2 * i) 2) (status_at i) ∷ []))
         → t' ≡ sets t (place + 2 * i) (names_of (named (part bits (2 * i) 2) (status_at i) ∷ []))
         → PuttingBits bits m₀ t₀ row place n m' t' (i + 1)
-    bits-on v w =
+    bits_on v w =
         let name = part bits (2 * i) 2 in
         let e : row + (i + 1) ≡ row + i + 1 = omega arith in
         let f : place + 2 * (i + 1) ≡ place + 2 * i + 2 = omega arith in
@@ -116,7 +117,7 @@ module _ {bits m₀ t₀ m t : List ℕ} {row place n i : ℕ} (s : PuttingBits 
         record {
           done = omega arith;
           rows = s.rows ∙ rw (split, e, f, v) (rows_on m (row + i) (place + 2 * i) name (status_at i) 2 rest k);
-          names = s.names ∙ rw (split, f, w) (names-on t (place + 2 * i) name (status_at i) 2 rest k);
+          names = s.names ∙ rw (split, f, w) (names_on t (place + 2 * i) name (status_at i) 2 rest k);
         }
 
 -- ---- control types
@@ -132,7 +133,7 @@ module _ (words : List ℕ) (l : length words ≡ 6) (bits : List (List ℕ)) (t
   two = take 3 (drop 3 words)
 
   -- the rows of CTL, of the two words and of the status bits, one after the other, are a control type's
-  pub control-rows : (row at : ℕ)
+  pub control_rows : (row at : ℕ)
       → sets
       (sets
       (sets (sets t (8 * row) (rows_of at (named ctl_name ctl_at ∷ []))) (8 * (row + 1))
@@ -141,18 +142,18 @@ module _ (words : List ℕ) (l : length words ≡ 6) (bits : List (List ℕ)) (t
       (8 * (row + 3)) (rows_of (at + 9) (status_parts 0 bits))
       ≡ sets t (8 * row) (rows_of at (control_parts (part words 0 3) (part words 3 3) bits))
   unfolding control_parts part
-  control-rows row at =
+  control_rows row at =
       let e : row + 2 ≡ row + 1 + 1 = omega arith in
       let f : row + 3 ≡ row + 1 + 1 + 1 = omega arith in
       let g : at + 6 ≡ at + 3 + 3 = omega arith in
       let h : at + 9 ≡ at + 3 + 3 + 3 = omega arith in
       rw (e, f, g, h)
       (sym (rows_on t row at ctl_name ctl_at 3 _ refl
-      ∙ rows_on _ (row + 1) (at + 3) one (dint_at 4) 3 _ (length-between words 0 3 (omega arith))
-      ∙ rows_on _ (row + 1 + 1) (at + 3 + 3) two (dint_at 8) 3 _ (length-between words 3 3 (omega arith))))
+      ∙ rows_on _ (row + 1) (at + 3) one (dint_at 4) 3 _ (length_between words 0 3 (omega arith))
+      ∙ rows_on _ (row + 1 + 1) (at + 3 + 3) two (dint_at 8) 3 _ (length_between words 3 3 (omega arith))))
 
   -- the names of CTL, of the two words and of the status bits, one after the other, are a control type's
-  pub control-names : (at : ℕ)
+  pub control_names : (at : ℕ)
       → sets
       (sets
       (sets (sets t at (names_of (named ctl_name ctl_at ∷ []))) (at + 3) (names_of (named one (dint_at 4) ∷ [])))
@@ -160,10 +161,10 @@ module _ (words : List ℕ) (l : length words ≡ 6) (bits : List (List ℕ)) (t
       (at + 9) (names_of (status_parts 0 bits))
       ≡ sets t at (names_of (control_parts (part words 0 3) (part words 3 3) bits))
   unfolding control_parts part
-  control-names at =
+  control_names at =
       let g : at + 6 ≡ at + 3 + 3 = omega arith in
       let h : at + 9 ≡ at + 3 + 3 + 3 = omega arith in
       rw (g, h)
-      (sym (names-on t at ctl_name ctl_at 3 _ refl
-      ∙ names-on _ (at + 3) one (dint_at 4) 3 _ (length-between words 0 3 (omega arith))
-      ∙ names-on _ (at + 3 + 3) two (dint_at 8) 3 _ (length-between words 3 3 (omega arith))))
+      (sym (names_on t at ctl_name ctl_at 3 _ refl
+      ∙ names_on _ (at + 3) one (dint_at 4) 3 _ (length_between words 0 3 (omega arith))
+      ∙ names_on _ (at + 3 + 3) two (dint_at 8) 3 _ (length_between words 3 3 (omega arith))))

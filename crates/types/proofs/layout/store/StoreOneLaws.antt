@@ -1,5 +1,5 @@
 -- Laws of one stored member: what its parts ask of the tables, and what they leave there.
-use Prim.Native.Nat.{ℕ, ◌+◌, ◌-◌, ◌*◌, ◌≤◌}
+use Prim.Native.Nat.{ℕ, ◌+◌, ◌*◌, ◌≤◌}
 use native.Mathlib.Omega.{arith}
 use mathlib.Core.Path.{◌≡◌, sym, ap, ◌∙◌}
 use mathlib.Core.List.{List, [], ◌∷◌}
@@ -20,8 +20,8 @@ use Rattle.types.specs.declared.layout.placing.Placed.{Placed}
 use Rattle.types.specs.declared.layout.placing.Placed.TheVariants.{Hosted, One, AccessWrong, TooFar}
 use Rattle.types.specs.declared.layout.store.StoreNext.TheVariants.{Next, Stop}
 use Rattle.types.specs.declared.tables.member.Member.{Member}
-use Rattle.types.proofs.layout.PlaceLaws.{place-cases}
-use Rattle.types.proofs.layout.StoreLaws.{one_name, rows_then, names-then}
+use Rattle.types.proofs.layout.PlaceLaws.{place_cases}
+use Rattle.types.proofs.layout.StoreLaws.{one_name, rows_then, names_then}
 
 -- the types of what a step places
 abbrev AllFit : Placed → Type 0
@@ -33,7 +33,7 @@ AllFit TooFar = Unit {0}
 all_fit : (c : Cursor) (d : Decl) → TyFits d.ty → AllFit (placed c d)
 unfolding opened next_bit
 all_fit c d f =
-    place-cases AllFit c d
+    place_cases AllFit c d
     (record {
       wrong = λ a. tt;
       opens = λ b w. (tt, tt);
@@ -76,9 +76,9 @@ module _ (book type : List ℕ) (c : Cursor) (d : Decl) (row at : ℕ) {p : Plac
     long = length_part book d.name.at d.name.long f.name
 
     -- where a host opens, the tables have room for it and the member
-    pub two-fit : {h m : Member} {c' : Cursor} → p ≡ Hosted h m c' → TwoFit book type c d row at h m
+    pub two_fit : {h m : Member} {c' : Cursor} → p ≡ Hosted h m c' → TwoFit book type c d row at h m
     unfolding names_of
-    two-fit {h} {m} {c'} q =
+    two_fit {h} {m} {c'} q =
         let s = hosted q in
         let a : AllFit (Hosted h m c') = rw (← e, q) at (all_fit c d f.ty) in
         record {
@@ -89,9 +89,9 @@ module _ (book type : List ℕ) (c : Cursor) (d : Decl) (row at : ℕ) {p : Plac
         }
 
     -- where the member is placed alone, the tables have room for it
-    pub one-fits : {m : Member} {c' : Cursor} → p ≡ One m c' → OneFits d row at m
+    pub one_fits : {m : Member} {c' : Cursor} → p ≡ One m c' → OneFits d row at m
     unfolding names_of
-    one-fits {m} q =
+    one_fits {m} q =
         let s = alone q in
         record {
           rows = rw s at f.rows;
@@ -100,52 +100,52 @@ module _ (book type : List ℕ) (c : Cursor) (d : Decl) (row at : ℕ) {p : Plac
         }
 
   -- after a host and its member the next row is two further, the next name after both names
-  pub next-hosted : {h m : Member} {c' : Cursor} {k : ℕ} → p ≡ Hosted h m c' → k ≡ length host
+  pub next_hosted : {h m : Member} {c' : Cursor} {k : ℕ} → p ≡ Hosted h m c' → k ≡ length host
       → Next c' (row + 2) (at + k + d.name.long) ≡ stored_one type c d row at
   unfolding stored_one
-  next-hosted q l = rw (← e, q, l)
+  next_hosted q l = rw (← e, q, l)
 
   -- after a member alone the next row is one further, the next name after its name
-  pub next-alone : {m : Member} {c' : Cursor} → p ≡ One m c'
+  pub next_alone : {m : Member} {c' : Cursor} → p ≡ One m c'
       → Next c' (row + 1) (at + d.name.long) ≡ stored_one type c d row at
   unfolding stored_one
-  next-alone q = rw (← e, q)
+  next_alone q = rw (← e, q)
 
   -- storing stops at a wrong access
-  pub stop-access : p ≡ AccessWrong → Stop ≡ stored_one type c d row at
+  pub stop_access : p ≡ AccessWrong → Stop ≡ stored_one type c d row at
   unfolding stored_one
-  stop-access q = rw (← e, q)
+  stop_access q = rw (← e, q)
 
   -- storing stops at a member that ends too far
-  pub stop-far : p ≡ TooFar → Stop ≡ stored_one type c d row at
+  pub stop_far : p ≡ TooFar → Stop ≡ stored_one type c d row at
   unfolding stored_one
-  stop-far q = rw (← e, q)
+  stop_far q = rw (← e, q)
 
   -- a host's part and then the member's are both
-  pub rows-hosted : {h m : Member} {c' : Cursor} (t : List ℕ) {k : ℕ} → p ≡ Hosted h m c' → k ≡ length host
+  pub rows_hosted : {h m : Member} {c' : Cursor} (t : List ℕ) {k : ℕ} → p ≡ Hosted h m c' → k ≡ length host
       → sets (sets t (8 * row) (rows_of at (named host h ∷ []))) (8 * (row + 1)) (rows_of (at + k) (named name m ∷ []))
       ≡ sets t (8 * row) (rows_of at (one_parts book type c d))
-  rows-hosted {h} {m} t {k} q l =
+  rows_hosted {h} {m} t {k} q l =
       let n : k ≡ length (names_of (named host h ∷ [])) = l ∙ ap length (one_name host h) in
       rw (hosted q, n) (sym (rows_then t row at (named host h ∷ []) (named name m ∷ [])))
 
   -- a host's name and then the member's are the names of both parts
-  pub names-hosted : {h m : Member} {c' : Cursor} (t : List ℕ) {k : ℕ} → p ≡ Hosted h m c' → k ≡ length host
+  pub names_hosted : {h m : Member} {c' : Cursor} (t : List ℕ) {k : ℕ} → p ≡ Hosted h m c' → k ≡ length host
       → sets (sets t at (names_of (named host h ∷ []))) (at + k) (names_of (named name m ∷ []))
       ≡ sets t at (names_of (one_parts book type c d))
-  names-hosted {h} {m} t {k} q l =
+  names_hosted {h} {m} t {k} q l =
       let n : k ≡ length (names_of (named host h ∷ [])) = l ∙ ap length (one_name host h) in
-      rw (hosted q, n) (sym (names-then t at (named host h ∷ []) (named name m ∷ [])))
+      rw (hosted q, n) (sym (names_then t at (named host h ∷ []) (named name m ∷ [])))
 
   -- the row of a member alone is all the rows that the step stores
-  pub rows-alone : {m : Member} {c' : Cursor} (t : List ℕ) → p ≡ One m c'
+  pub rows_alone : {m : Member} {c' : Cursor} (t : List ℕ) → p ≡ One m c'
       → sets t (8 * row) (rows_of at (named name m ∷ [])) ≡ sets t (8 * row) (rows_of at (one_parts book type c d))
-  rows-alone t q = rw (alone q)
+  rows_alone t q = rw (alone q)
 
   -- the name of a member alone is all the names that the step stores
-  pub names-alone : {m : Member} {c' : Cursor} (t : List ℕ) → p ≡ One m c'
+  pub names_alone : {m : Member} {c' : Cursor} (t : List ℕ) → p ≡ One m c'
       → sets t at (names_of (named name m ∷ [])) ≡ sets t at (names_of (one_parts book type c d))
-  names-alone t q = rw (alone q)
+  names_alone t q = rw (alone q)
 
   -- nothing is stored where the step is refused
   access : p ≡ AccessWrong → one_parts book type c d ≡ []
@@ -160,12 +160,12 @@ module _ (book type : List ℕ) (c : Cursor) (d : Decl) (row at : ℕ) {p : Plac
   refused w = ⊎_elim access far w
 
   -- where the step is refused, the rows stay as they were
-  pub rows-kept : (t : List ℕ) → (p ≡ AccessWrong) ⊎ (p ≡ TooFar)
+  pub rows_kept : (t : List ℕ) → (p ≡ AccessWrong) ⊎ (p ≡ TooFar)
       → t ≡ sets t (8 * row) (rows_of at (one_parts book type c d))
   unfolding rows_of
-  rows-kept t w = rw (refused w)
+  rows_kept t w = rw (refused w)
 
   -- where the step is refused, the names stay as they were
-  pub names-kept : (t : List ℕ) → (p ≡ AccessWrong) ⊎ (p ≡ TooFar) → t ≡ sets t at (names_of (one_parts book type c d))
+  pub names_kept : (t : List ℕ) → (p ≡ AccessWrong) ⊎ (p ≡ TooFar) → t ≡ sets t at (names_of (one_parts book type c d))
   unfolding names_of
-  names-kept t w = rw (refused w)
+  names_kept t w = rw (refused w)

@@ -25,10 +25,10 @@ use Rattle.types.specs.declared.layout.placing.Placed.{Placed}
 use Rattle.types.specs.declared.layout.placing.Placed.TheVariants.{Hosted, One, AccessWrong, TooFar}
 use Rattle.types.specs.declared.layout.store.StoreNext.{StoreNext}
 use Rattle.types.specs.declared.layout.store.StoreNext.TheVariants.{Next, Stop}
-use Rattle.types.proofs.book.DeclLaws.{decls-cons, decls-none, found_first, decl-fair, decl-ty}
-use Rattle.types.proofs.layout.DigitLaws.{host-most}
-use Rattle.types.proofs.layout.MeasureLaws.{far-on, near}
-use Rattle.types.proofs.layout.StoreLaws.{names-append, rows_then, names-then}
+use Rattle.types.proofs.book.DeclLaws.{decls_cons, decls_none, found_first, decl_fair, decl_ty}
+use Rattle.types.proofs.layout.DigitLaws.{host_most}
+use Rattle.types.proofs.layout.MeasureLaws.{far_on, near}
+use Rattle.types.proofs.layout.StoreLaws.{names_append, rows_then, names_then}
 
 -- ---- one step, by the ways that placing can go
 
@@ -99,7 +99,8 @@ pub record Storing (types book tys type : List ℕ) (at n : ℕ) (c₀ : Cursor)
       (parts_from (named_in book) (host_name type) c₀ (decls_from types book tys at 0 n)))
       ≡ sets m (8 * row) (rows_of place
       (parts_from (named_in book) (host_name type) c (decls_from types book tys at j (n - j))))
-  pub names : sets t₀ place₀ (names_of (parts_from (named_in book) (host_name type) c₀ (decls_from types book tys at 0 n)))
+  pub names : sets t₀ place₀
+      (names_of (parts_from (named_in book) (host_name type) c₀ (decls_from types book tys at 0 n)))
       ≡ sets t place (names_of (parts_from (named_in book) (host_name type) c (decls_from types book tys at j (n - j))))
 
 -- it is so before the first member, where all can be stored
@@ -126,14 +127,14 @@ module _ {types book tys type m₀ t₀ m t : List ℕ} {at n row₀ place₀ ro
   all = parts_from (named_in book) (host_name type) c₀ (decls_from types book tys at 0 n)
 
   -- after the last member the rows of all parts are stored
-  pub rows-done : n ≤ j → m ≡ sets m₀ (8 * row₀) (rows_of place₀ all)
+  pub rows_done : n ≤ j → m ≡ sets m₀ (8 * row₀) (rows_of place₀ all)
   unfolding parts_from rows_of
-  rows-done l = sym (rw (decls-none types book tys at n j l) at s.rows)
+  rows_done l = sym (rw (decls_none types book tys at n j l) at s.rows)
 
   -- after the last member the names of all parts are stored
-  pub names-done : n ≤ j → t ≡ sets t₀ place₀ (names_of all)
+  pub names_done : n ≤ j → t ≡ sets t₀ place₀ (names_of all)
   unfolding parts_from names_of
-  names-done l = sym (rw (decls-none types book tys at n j l) at s.names)
+  names_done l = sym (rw (decls_none types book tys at n j l) at s.names)
 
   module _ (l : j < n) (b : Bytes book) where
     abbrev d : Decl
@@ -150,7 +151,7 @@ module _ {types book tys type m₀ t₀ m t : List ℕ} {at n row₀ place₀ ro
     split : parts_from (named_in book) (host_name type) c (decls_from types book tys at j (n - j))
         ≡ then_parts (placed c d) (host_name type c.members) (named_in book d) rest
     unfolding parts_from
-    split = rw (decls-cons types book tys at n j l)
+    split = rw (decls_cons types book tys at n j l)
 
     long : length (named_in book d) ≡ d.name.long
     long = length_part book d.name.at d.name.long (s.inside j l)
@@ -163,22 +164,22 @@ module _ {types book tys type m₀ t₀ m t : List ℕ} {at n row₀ place₀ ro
     least AccessWrong host name next = omega arith
     least TooFar host name next = omega arith
 
-    least-names : (p : Placed) (host name : List ℕ) (next : Cursor → List Part)
+    least_names : (p : Placed) (host name : List ℕ) (next : Cursor → List Part)
         → length (names_of (then_parts p host name (λ x. []))) ≤ length (names_of (then_parts p host name next))
     unfolding names_of
-    least-names (Hosted h k x) host name next = simp (length-append, length-append) (omega arith)
-    least-names (One k x) host name next = simp (length-append, length-append) (omega arith)
-    least-names AccessWrong host name next = omega arith
-    least-names TooFar host name next = omega arith
+    least_names (Hosted h k x) host name next = simp (length-append, length-append) (omega arith)
+    least_names (One k x) host name next = simp (length-append, length-append) (omega arith)
+    least_names AccessWrong host name next = omega arith
+    least_names TooFar host name next = omega arith
 
     -- the book and the tables have what the parts of the j-th member ask
-    pub one-fits : StepFits book type c d row place
+    pub one_fits : StepFits book type c d row place
     unfolding one_parts
-    one-fits =
+    one_fits =
         record {
-          near = near (s.passed + j) c 0 d (omega (arith, s.few)) s.far (decl-fair types book tys at j b);
+          near = near (s.passed + j) c 0 d (omega (arith, s.few)) s.far (decl_fair types book tys at j b);
           name = s.inside j l;
-          ty = decl-ty types book tys at n j l s.found;
+          ty = decl_ty types book tys at n j l s.found;
           rows =
               omega (
                 arith,
@@ -189,7 +190,7 @@ module _ {types book tys type m₀ t₀ m t : List ℕ} {at n row₀ place₀ ro
           names = omega (
             arith,
             rw split at s.bytes,
-            least-names (placed c d) (host_name type c.members) (named_in book d) rest,
+            least_names (placed c d) (host_name type c.members) (named_in book d) rest,
           );
         }
 
@@ -203,16 +204,16 @@ module _ {types book tys type m₀ t₀ m t : List ℕ} {at n row₀ place₀ ro
       nothing q = stops (placed c d) _ _ _ _ (λ x. []) row place (sym e ∙ q)
 
       -- where storing stops at the j-th member, the rows of all parts are stored
-      pub rows-stopped : {m' : List ℕ} → one ≡ Stop → m' ≡ sets m (8 * row) (rows_of place (one_parts book type c d))
+      pub rows_stopped : {m' : List ℕ} → one ≡ Stop → m' ≡ sets m (8 * row) (rows_of place (one_parts book type c d))
           → m' ≡ sets m₀ (8 * row₀) (rows_of place₀ all)
       unfolding rows_of
-      rows-stopped q v = rw (nothing q) at v ∙ sym (rw (stopped q) at s.rows)
+      rows_stopped q v = rw (nothing q) at v ∙ sym (rw (stopped q) at s.rows)
 
       -- where storing stops at the j-th member, the names of all parts are stored
-      pub names-stopped : {t' : List ℕ} → one ≡ Stop → t' ≡ sets t place (names_of (one_parts book type c d))
+      pub names_stopped : {t' : List ℕ} → one ≡ Stop → t' ≡ sets t place (names_of (one_parts book type c d))
           → t' ≡ sets t₀ place₀ (names_of all)
       unfolding names_of
-      names-stopped q w = rw (nothing q) at w ∙ sym (rw (stopped q) at s.names)
+      names_stopped q w = rw (nothing q) at w ∙ sym (rw (stopped q) at s.names)
 
       moved : {c' : Cursor} {row' place' : ℕ} → one ≡ Next c' row' place'
           → StoreMoved row place row' place' (one_parts book type c d)
@@ -228,8 +229,8 @@ module _ {types book tys type m₀ t₀ m t : List ℕ} {at n row₀ place₀ ro
       farther q =
           let g = goes (placed c d) _ _ row place (sym e ∙ q) in
           let h : s.passed + j + 1 ≡ s.passed + (j + 1) = omega arith in
-          let f = far-on (host_name type) (s.passed + j) c 0 d s.far (decl-fair types book tys at j b)
-          (host-most type c.members) g.1 in
+          let f = far_on (host_name type) (s.passed + j) c 0 d s.far (decl_fair types book tys at j b)
+          (host_most type c.members) g.1 in
           rw (← h) (record { offset = f.offset; members = f.members; bits = f.bits; names = omega arith })
 
       -- where the parts of the j-th member were stored, it is so at the next
@@ -248,7 +249,7 @@ module _ {types book tys type m₀ t₀ m t : List ℕ} {at n row₀ place₀ ro
             far = farther q;
             inside = s.inside;
             room = omega (arith, o.rows, simp length-append at (rw o.parts at s.room));
-            bytes = omega (arith, o.place, simp (names-append, length-append) at (rw o.parts at s.bytes));
+            bytes = omega (arith, o.place, simp (names_append, length-append) at (rw o.parts at s.bytes));
             rows = s.rows ∙ rw (o.parts, o.rows, o.place, v) (rows_then m row place one (rest c'));
-            names = s.names ∙ rw (o.parts, o.place, w) (names-then t place one (rest c'));
+            names = s.names ∙ rw (o.parts, o.place, w) (names_then t place one (rest c'));
           }

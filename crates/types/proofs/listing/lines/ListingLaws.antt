@@ -1,13 +1,13 @@
 -- Laws of the lines that the program `layout` prints (document 01, end of "Reference cases"): fields put one after
 -- the other, and how long a line can be.
-use Prim.Native.Nat.{ℕ, ◌+◌, ◌-◌, ◌≤◌, ◌<◌}
+use Prim.Native.Nat.{ℕ, ◌+◌, ◌≤◌, ◌<◌}
 use native.Mathlib.Omega.{arith}
 use mathlib.Core.Path.{◌≡◌, refl, sym, ap, ◌∙◌}
 use mathlib.Core.Bool.{Bool, true, false}
 use mathlib.Core.List.{List, [], ◌∷◌, ◌++◌}
 use lib.ListN.{length, length-append}
 use lib.Seq.{length-sets}
-use Rattle.words.proofs.Lists.{sets-append, drop-set, part-most}
+use Rattle.words.proofs.Lists.{sets_append, part_most}
 use Rattle.types.specs.atomics.Atomic.{name_of}
 use Rattle.types.specs.inside.listing.Lines.{Short, StructNamed, TypeNamed, Listable, FieldFits, FieldPut, Lined}
 use Rattle.types.specs.layout.HostNames.{digits}
@@ -26,27 +26,27 @@ use Rattle.types.specs.declared.tables.member.Span.{Span}
 use Rattle.types.specs.declared.tables.member.StructDef.{StructDef}
 use Rattle.types.specs.declared.tables.member.Ty.{Ty}
 use Rattle.types.specs.declared.tables.member.Ty.TheVariants.{Atomic, Struct}
-use Rattle.types.proofs.layout.DigitLaws.{digits-most}
+use Rattle.types.proofs.layout.DigitLaws.{digits_most}
 
 -- ---- bytes put one after the other
 
 -- bytes put, and others put after them, are both put as one
-pub added-both : {s t : List ℕ} {at m r : ℕ} {out mid left : List ℕ} → FieldPut s at out m mid → FieldPut t m mid r left
+pub added_both : {s t : List ℕ} {at m r : ℕ} {out mid left : List ℕ} → FieldPut s at out m mid → FieldPut t m mid r left
     → FieldPut (s ++ t) at out r left
-added-both {s} {t} {at} {m} {r} {out} {mid} {left} a b =
+added_both {s} {t} {at} {m} {r} {out} {mid} {left} a b =
     record {
       next = omega (arith, a.next, b.next, length-append s t);
-      bytes = b.bytes ∙ rw (a.bytes, a.next) (sym (sets-append out at s t));
+      bytes = b.bytes ∙ rw (a.bytes, a.next) (sym (sets_append out at s t));
     }
 
 -- some bytes fit where more do, and so do the others after them
-pub fits-first : {at : ℕ} {out : List ℕ} (s t : List ℕ) → FieldFits (s ++ t) at out → FieldFits s at out
-fits-first s t h = record { room = omega (arith, h.room, length-append s t) }
+pub fits_first : {at : ℕ} {out : List ℕ} (s t : List ℕ) → FieldFits (s ++ t) at out → FieldFits s at out
+fits_first s t h = record { room = omega (arith, h.room, length-append s t) }
 
 -- where bytes fit with others after them and were put, the others fit after them
-pub fits-then : {s t : List ℕ} {at m : ℕ} {out mid : List ℕ} → FieldFits (s ++ t) at out → FieldPut s at out m mid
+pub fits_then : {s t : List ℕ} {at m : ℕ} {out mid : List ℕ} → FieldFits (s ++ t) at out → FieldPut s at out m mid
     → FieldFits t m mid
-fits-then {s} {t} {at} {m} {out} {mid} h a =
+fits_then {s} {t} {at} {m} {out} {mid} h a =
     let n : length mid ≡ length out = ap length a.bytes ∙ length-sets out at s in
     record { room = omega (arith, h.room, length-append s t, a.next, n) }
 
@@ -54,9 +54,9 @@ pub lined : {s : List ℕ} {r : ℕ} {out left : List ℕ} → FieldFits s 0 out
 lined h a = record { long = omega (arith, a.next); room = omega (arith, h.room); bytes = a.bytes }
 
 -- any number's digits fit into twenty places
-pub digits-20 : (x : ℕ) → length (digits x) ≤ 20
+pub digits_20 : (x : ℕ) → length (digits x) ≤ 20
 unfolding digits
-digits-20 x = digits-most 20 x
+digits_20 x = digits_most 20 x
 
 -- ---- the fields of a line, one after the other
 
@@ -66,84 +66,86 @@ pub record FieldsLeft (whole : List ℕ) (start : ℕ) (first : List ℕ) (fs : 
   pub fits : FieldFits (line fs) at now
   pub then : (r : ℕ) (last : List ℕ) → FieldPut (line fs) at now r last → FieldPut whole start first r last
 
-pub left-all : {at : ℕ} {out : List ℕ} (fs : List (List ℕ)) → FieldFits (line fs) at out
+pub left_all : {at : ℕ} {out : List ℕ} (fs : List (List ℕ)) → FieldFits (line fs) at out
     → FieldsLeft (line fs) at out fs at out
-left-all fs h = record { fits = h; then = λ r last a. a }
+left_all fs h = record { fits = h; then = λ r last a. a }
 
 module _ {whole : List ℕ} {start : ℕ} {first f : List ℕ} {at : ℕ} {now : List ℕ} where
   module _ {g : List ℕ} {fs : List (List ℕ)} (l : FieldsLeft whole start first (f ∷ g ∷ fs) at now) where
     -- the next field of what is left fits, with its space
-    pub left-room : FieldFits (with_stop f 32) at now
+    pub left_room : FieldFits (with_stop f 32) at now
     unfolding line
-    left-room = fits-first (with_stop f 32) (line (g ∷ fs)) l.fits
+    left_room = fits_first (with_stop f 32) (line (g ∷ fs)) l.fits
 
     -- where the next field was put, the fields after it are left
-    pub left-on : {r : ℕ} {next : List ℕ} → FieldPut (with_stop f 32) at now r next
+    pub left_on : {r : ℕ} {next : List ℕ} → FieldPut (with_stop f 32) at now r next
         → FieldsLeft whole start first (g ∷ fs) r next
     unfolding line
-    left-on a = record { fits = fits-then l.fits a; then = λ r last b. l.then r last (added-both a b) }
+    left_on a = record { fits = fits_then l.fits a; then = λ r last b. l.then r last (added_both a b) }
 
   module _ (l : FieldsLeft whole start first (f ∷ []) at now) where
     -- the last field of what is left fits, with its newline
-    pub last-room : FieldFits (with_stop f 10) at now
+    pub last_room : FieldFits (with_stop f 10) at now
     unfolding line
-    last-room = l.fits
+    last_room = l.fits
 
     -- where the last field was put, the whole line is
-    pub left-done : {r : ℕ} {last : List ℕ} → FieldPut (with_stop f 10) at now r last → FieldPut whole start first r last
+    pub left_done : {r : ℕ} {last : List ℕ} → FieldPut (with_stop f 10) at now r last
+        → FieldPut whole start first r last
     unfolding line
-    left-done {r} {last} a = l.then r last a
+    left_done {r} {last} a = l.then r last a
 
 -- all of a line's end is left, as the code has its fields
-pub numbers-left : (d : StructDef) (bits : ℕ) {id size count long bytes at : ℕ} {out : List ℕ} → id ≡ d.id
+pub numbers_left : (d : StructDef) (bits : ℕ) {id size count long bytes at : ℕ} {out : List ℕ} → id ≡ d.id
     → size ≡ d.size → count ≡ d.count → long ≡ bytes
     → FieldFits (line (type_numbers d.id d.size d.count bytes bits)) at out
     → FieldsLeft (line (type_numbers d.id d.size d.count bytes bits)) at out
     (type_numbers id size count long bits)
     at out
-numbers-left d bits {bytes = bytes} p q r s h =
-    rw (p, q, r, s) (left-all (type_numbers d.id d.size d.count bytes bits) h)
+numbers_left d bits {bytes = bytes} p q r s h =
+    rw (p, q, r, s) (left_all (type_numbers d.id d.size d.count bytes bits) h)
 
 -- all of a member's count, offset, bit and name is left, as the code has the count and the offset
-pub place-left : (m : Member) (name : List ℕ) {count offset at : ℕ} {out : List ℕ} → count ≡ m.count
+pub place_left : (m : Member) (name : List ℕ) {count offset at : ℕ} {out : List ℕ} → count ≡ m.count
     → offset ≡ m.offset → FieldFits (line (member_place m name)) at out
     → FieldsLeft (line (member_place m name)) at out (digits count ∷ digits offset ∷ bit_text m.bit ∷ name ∷ []) at out
-place-left m name p q h = rw (p, q) (left-all (member_place m name) h)
+place_left m name p q h = rw (p, q) (left_all (member_place m name) h)
 
 -- ---- lines of 512 bytes
 
-bit-20 : (b : Bit) → length (bit_text b) ≤ 20
-bit-20 None = omega arith
-bit-20 (At k) = digits-20 k
+bit_20 : (b : Bit) → length (bit_text b) ≤ 20
+bit_20 None = omega arith
+bit_20 (At k) = digits_20 k
 
-seen-1 : (b : Bool) → length (seen_letter b) ≡ 1
-seen-1 true = refl
-seen-1 false = refl
+seen_1 : (b : Bool) → length (seen_letter b) ≡ 1
+seen_1 true = refl
+seen_1 false = refl
 
-atomic-5 : (a : AtomicType) → length (name_of a) ≤ 5
+atomic_5 : (a : AtomicType) → length (name_of a) ≤ 5
 unfolding name_of
-atomic-5 BOOL = omega arith
-atomic-5 SInt = omega arith
-atomic-5 Int = omega arith
-atomic-5 DInt = omega arith
-atomic-5 LInt = omega arith
-atomic-5 USInt = omega arith
-atomic-5 UInt = omega arith
-atomic-5 UDInt = omega arith
-atomic-5 ULInt = omega arith
-atomic-5 Real = omega arith
-atomic-5 LReal = omega arith
-atomic-5 Byte = omega arith
-atomic-5 Word = omega arith
-atomic-5 DWord = omega arith
-atomic-5 LWord = omega arith
+atomic_5 BOOL = omega arith
+atomic_5 SInt = omega arith
+atomic_5 Int = omega arith
+atomic_5 DInt = omega arith
+atomic_5 LInt = omega arith
+atomic_5 USInt = omega arith
+atomic_5 UInt = omega arith
+atomic_5 UDInt = omega arith
+atomic_5 ULInt = omega arith
+atomic_5 Real = omega arith
+atomic_5 LReal = omega arith
+atomic_5 Byte = omega arith
+atomic_5 Word = omega arith
+atomic_5 DWord = omega arith
+atomic_5 LWord = omega arith
 
-short-long : (names : List ℕ) {s : Span} → Short s → length (name_in names s) ≤ 200
-short-long names {s} h = omega (arith, part-most names s.at s.long, h.most)
+short_long : (names : List ℕ) {s : Span} → Short s → length (name_in names s) ≤ 200
+short_long names {s} h = omega (arith, part_most names s.at s.long, h.most)
 
-type-long : (types names : List ℕ) (t : Ty) → TypeNamed types t → length (printed_type (struct_names types names) t) ≤ 200
-type-long types names (Atomic a) h = omega (arith, atomic-5 a)
-type-long types names (Struct n) h = short-long names h.name
+type_long : (types names : List ℕ) (t : Ty) → TypeNamed types t
+    → length (printed_type (struct_names types names) t) ≤ 200
+type_long types names (Atomic a) h = omega (arith, atomic_5 a)
+type_long types names (Struct n) h = short_long names h.name
 
 -- a type's line
 module _ (names : List ℕ) (d : StructDef) (bytes bits : ℕ) where
@@ -152,29 +154,29 @@ module _ (names : List ℕ) (d : StructDef) (bytes bits : ℕ) where
   type_fields = type_word ∷ name_in names d.name ∷ type_numbers d.id d.size d.count bytes bits
 
   -- a type's line with a short name fits into 512 bytes, and all of it is left
-  pub type-left : {out : List ℕ} → Short d.name → 512 ≤ length out
+  pub type_left : {out : List ℕ} → Short d.name → 512 ≤ length out
       → FieldsLeft (line type_fields) 0 out type_fields 0 out
   unfolding line
-  type-left h k =
-      left-all type_fields record {
+  type_left h k =
+      left_all type_fields record {
         room = simp length-append
             (omega (
               arith,
-              short-long names h,
-              digits-20 d.id,
-              digits-20 d.size,
-              digits-20 d.count,
-              digits-20 bytes,
-              digits-20 bits,
+              short_long names h,
+              digits_20 d.id,
+              digits_20 d.size,
+              digits_20 d.count,
+              digits_20 bytes,
+              digits_20 bits,
             ));
       }
 
   -- the fields of a type put one after the other are its line
-  pub type-lined : {r : ℕ} {out left : List ℕ} → FieldsLeft (line type_fields) 0 out type_fields 0 out
+  pub type_lined : {r : ℕ} {out left : List ℕ} → FieldsLeft (line type_fields) 0 out type_fields 0 out
       → FieldPut (line type_fields) 0 out r left
       → Lined (type_line (name_in names d.name) d.id d.size d.count bytes bits) out r left
   unfolding type_line
-  type-lined l a = lined l.fits a
+  type_lined l a = lined l.fits a
 
 -- a member's line
 module _ (types names : List ℕ) (number : ℕ) (m : Member) (name : Span) where
@@ -184,30 +186,30 @@ module _ (types names : List ℕ) (number : ℕ) (m : Member) (name : Span) wher
       digits number ∷ seen_letter m.hidden ∷ printed_type (struct_names types names) m.ty
       ∷ member_place m (name_in names name)
 
-  pub member-left : {out : List ℕ} → TypeNamed types m.ty → Short name → 512 ≤ length out
+  pub member_left : {out : List ℕ} → TypeNamed types m.ty → Short name → 512 ≤ length out
       → FieldsLeft (line member_fields) 0 out member_fields 0 out
   unfolding line
-  member-left t h k =
-      left-all member_fields record {
+  member_left t h k =
+      left_all member_fields record {
         room = simp length-append
             (omega (
               arith,
-              type-long types names m.ty t,
-              short-long names h,
-              seen-1 m.hidden,
-              bit-20 m.bit,
-              digits-20 number,
-              digits-20 m.count,
-              digits-20 m.offset,
+              type_long types names m.ty t,
+              short_long names h,
+              seen_1 m.hidden,
+              bit_20 m.bit,
+              digits_20 number,
+              digits_20 m.count,
+              digits_20 m.offset,
             ));
       }
 
   -- the fields of a member put one after the other are its line
-  pub member-lined : {r : ℕ} {out left : List ℕ} → FieldsLeft (line member_fields) 0 out member_fields 0 out
+  pub member_lined : {r : ℕ} {out left : List ℕ} → FieldsLeft (line member_fields) 0 out member_fields 0 out
       → FieldPut (line member_fields) 0 out r left
       → Lined (member_line number (printed_type (struct_names types names) m.ty) m (name_in names name)) out r left
   unfolding member_line
-  member-lined l a = lined l.fits a
+  member_lined l a = lined l.fits a
 
 -- a refusal's line
 module _ (number place : ℕ) where
@@ -216,19 +218,19 @@ module _ (number place : ℕ) where
   refused_fields = refused_word ∷ digits number ∷ digits place ∷ []
 
   -- a refusal's line fits into 512 bytes, and all of it is left
-  pub refused-left : {out : List ℕ} → 512 ≤ length out → FieldsLeft (line refused_fields) 0 out refused_fields 0 out
+  pub refused_left : {out : List ℕ} → 512 ≤ length out → FieldsLeft (line refused_fields) 0 out refused_fields 0 out
   unfolding line
-  refused-left k =
-      left-all refused_fields record {
-        room = simp length-append (omega (arith, digits-20 number, digits-20 place));
+  refused_left k =
+      left_all refused_fields record {
+        room = simp length-append (omega (arith, digits_20 number, digits_20 place));
       }
 
   -- the fields of a refusal put one after the other are its line
-  pub refused-lined : {r : ℕ} {out left : List ℕ} → FieldsLeft (line refused_fields) 0 out refused_fields 0 out
+  pub refused_lined : {r : ℕ} {out left : List ℕ} → FieldsLeft (line refused_fields) 0 out refused_fields 0 out
       → FieldPut (line refused_fields) 0 out r left
       → Lined (refused_line number place) out r left
   unfolding refused_line
-  refused-lined l a = lined l.fits a
+  refused_lined l a = lined l.fits a
 
 -- ---- rows
 
@@ -237,8 +239,8 @@ pub listed : {types members : List ℕ} {d e : StructDef} → d ≡ e → Listab
 listed q h = rw q h
 
 -- a type that can be printed and is structure n: n is a row, and the name there is short
-pub struct-named : {types : List ℕ} {t : Ty} {n : ℕ} → t ≡ Struct n → TypeNamed types t → StructNamed types n
-struct-named e h = rw e at h
+pub struct_named : {types : List ℕ} {t : Ty} {n : ℕ} → t ≡ Struct n → TypeNamed types t → StructNamed types n
+struct_named e h = rw e at h
 
 -- the k-th row of the structure that was read
 module _ {types members : List ℕ} {d e : StructDef} {first k : ℕ} (q : d ≡ e) (p : first ≡ d.first) (l : k < e.count)
@@ -252,15 +254,15 @@ module _ {types members : List ℕ} {d e : StructDef} {first k : ℕ} (q : d ≡
   row_below = rw row_same (omega (arith, h.rows.rows.rows))
 
   -- the name in the k-th row is short
-  pub row-short : {name : Span} → name ≡ name_at members (first + k) → Short name
-  row-short n = rw (n, row_same) (h.names k l)
+  pub row_short : {name : Span} → name ≡ name_at members (first + k) → Short name
+  row_short n = rw (n, row_same) (h.names k l)
 
   -- the type in the k-th row is an atomic, or a structure with a short name
   pub row_named : {m : Member} → m ≡ member_at members (first + k) → TypeNamed types m.ty
   row_named n = rw (n, row_same) (h.tys k l)
 
   -- before the first field of a member's line all of it is left
-  pub row-left : (names : List ℕ) {m : Member} {name : Span} {out : List ℕ} → m ≡ member_at members (first + k)
+  pub row_left : (names : List ℕ) {m : Member} {name : Span} {out : List ℕ} → m ≡ member_at members (first + k)
       → name ≡ name_at members (first + k) → 512 ≤ length out
       → FieldsLeft (line (member_fields types names k m name)) 0 out (member_fields types names k m name) 0 out
-  row-left names {m} {name} a b g = member-left types names k m name (row_named a) (row-short b) g
+  row_left names {m} {name} a b g = member_left types names k m name (row_named a) (row_short b) g

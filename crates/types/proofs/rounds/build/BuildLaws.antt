@@ -29,10 +29,10 @@ use Rattle.types.specs.declared.rounds.build.Built.{Built}
 use Rattle.types.specs.declared.rounds.build.Built.TheVariants.{Types, Refused}
 use Rattle.types.specs.declared.rounds.round.Round.{Round}
 use Rattle.types.specs.declared.rounds.round.Round.TheVariants.{Refused as Stopped, Went}
-use Rattle.types.proofs.rounds.OneRoundLaws.{Const, const-kept, reached-shown, reached-round}
-use Rattle.types.proofs.rounds.RoundLaws.{round-fewer}
-use Rattle.types.proofs.rounds.RunLaws.{Outer, outer_start, outer-end, outer-stop, outer-stuck, outer-next}
-use Rattle.types.proofs.rounds.SearchLaws.{tries-start}
+use Rattle.types.proofs.rounds.OneRoundLaws.{Const, const_kept, reached_shown, reached_round}
+use Rattle.types.proofs.rounds.RoundLaws.{round_fewer}
+use Rattle.types.proofs.rounds.RunLaws.{Outer, outer_start, outer_end, outer_stop, outer_stuck, outer_next}
+use Rattle.types.proofs.rounds.SearchLaws.{tries_start}
 
 -- ---- what the loop keeps
 
@@ -59,30 +59,30 @@ going_start p bytes reached s =
           (rw p.is (p.scratch.flags p.okay));
       words = refl;
       flags = refl;
-      tries = tries-start (p.scratch.members p.okay) (p.scratch.rows p.okay) p.scratch.untried;
+      tries = tries_start (p.scratch.members p.okay) (p.scratch.rows p.okay) p.scratch.untried;
       members = refl;
       rows = refl;
     }
 
 -- ---- the ways out
 
-ended-refused : {t m n : List ℕ} (a : Answer (List Def) Why) (x : Refusal) → a ≡ refused (why_of x) → Cleared t m n
+ended_refused : {t m n : List ℕ} (a : Answer (List Def) Why) (x : Refusal) → a ≡ refused (why_of x) → Cleared t m n
     → Ended a t m n (Refused x)
-ended-refused a x e c =
+ended_refused a x e c =
     record { is = rw e; types = rw e c.types; members = rw e c.members; names = rw e c.names }
 
 -- between rounds at most 200 types are used
-pub going-few : {book tys₀ f₀ k₀ r₀ t m n tys f k r : List ℕ} {start : List Def} {T left : ℕ} {u : Used}
+pub going_few : {book tys₀ f₀ k₀ r₀ t m n tys f k r : List ℕ} {start : List Def} {T left : ℕ} {u : Used}
     → Going book start T tys₀ f₀ k₀ r₀ t m n tys f k r u left → u.types ≤ most_types
-going-few g = rw g.outer.stands.used (reached-shown g.const.bytes g.outer.reached).few
+going_few g = rw g.outer.stands.used (reached_shown g.const.bytes g.outer.reached).few
 
 -- where no type is left, the rounds end with so many types, and the tables are theirs
-pub ended-all : {book tys₀ f₀ k₀ r₀ t m n tys f k r : List ℕ} {start : List Def} {T left : ℕ} {u : Used}
+pub ended_all : {book tys₀ f₀ k₀ r₀ t m n tys f k r : List ℕ} {start : List Def} {T left : ℕ} {u : Used}
     → Going book start T tys₀ f₀ k₀ r₀ t m n tys f k r u left → left ≡ 0
     → Ended (rounds_from book start) t m n (Types u.types)
-ended-all g l =
+ended_all g l =
     let o = g.outer in
-    let e = outer-end o l in
+    let e = outer_end o l in
     let s = o.stands in
     record { is = rw (e, s.used); types = rw e s.types; members = rw e s.members; names = rw e s.names }
 
@@ -91,8 +91,8 @@ ended-all g l =
 module _ {book tys₀ f₀ k₀ r₀ t m n tys f k r : List ℕ} {start : List Def} {T left : ℕ} {u : Used}
     (g : Going book start T tys₀ f₀ k₀ r₀ t m n tys f k r u left) where
   -- between rounds the next one finds what it asks
-  pub going-in : RoundIn book T u left t m n tys f k r
-  going-in =
+  pub going_in : RoundIn book T u left t m n tys f k r
+  going_in =
       let o = g.outer in
       record {
         okay = g.const.okay;
@@ -109,12 +109,12 @@ module _ {book tys₀ f₀ k₀ r₀ t m n tys f k r : List ℕ} {start : List D
   module _ {t' m' n' f' k' r' : List ℕ} {x : Round}
       (h : RoundMade book T u t m n f t' m' n' f' k' r' x) (l : 0 < left) where
     -- where a round refused a type, the rounds end with its refusal and tables of zeros
-    pub ended-no : {a b c : List ℕ} (y : Refusal) → x ≡ Stopped y → Cleared a b c
+    pub ended_no : {a b c : List ℕ} (y : Refusal) → x ≡ Stopped y → Cleared a b c
         → Ended (rounds_from book start) a b c (Refused y)
-    ended-no y e =
+    ended_no y e =
         let o = g.outer in
-        ended-refused (rounds_from book start) y
-        (outer-stop o l (why_of y) ((rw e at h).each o.ds o.reached o.stands))
+        ended_refused (rounds_from book start) y
+        (outer_stop o l (why_of y) ((rw e at h).each o.ds o.reached o.stands))
 
     -- a round that refused no type
     module _ (u' : Used) (left' : ℕ) (e : x ≡ Went u' left') where
@@ -127,8 +127,8 @@ module _ {book tys₀ f₀ k₀ r₀ t m n tys f k r : List ℕ} {start : List D
       pub ended_stuck : {a b c : List ℕ} (p : ℕ) → left' ≡ left → FirstWaits f' T p → Cleared a b c
           → Ended (rounds_from book start) a b c (Refused (TypesUnknown p))
       ended_stuck p q w =
-          ended-refused (rounds_from book start) (TypesUnknown p)
-          (outer-stuck g.outer l goes.is (sym goes.count ∙ q) ∙ rw w.is)
+          ended_refused (rounds_from book start) (TypesUnknown p)
+          (outer_stuck g.outer l goes.is (sym goes.count ∙ q) ∙ rw w.is)
 
       -- a round that left another number of types left fewer
       pub going_less : (left' ≡ left → ⊥) → left' < left
@@ -137,7 +137,7 @@ module _ {book tys₀ f₀ k₀ r₀ t m n tys f k r : List ℕ} {start : List D
             arith,
             goes.count,
             g.outer.count,
-            round-fewer stuck_at (ready_in book) (add_in book) g.outer.ds (waits f 0 T) goes.defs
+            round_fewer stuck_at (ready_in book) (add_in book) g.outer.ds (waits f 0 T) goes.defs
                 goes.is,
             q,
           )
@@ -146,37 +146,37 @@ module _ {book tys₀ f₀ k₀ r₀ t m n tys f k r : List ℕ} {start : List D
       pub going_next : {tys' : List ℕ} → (left' ≡ left → ⊥) → length tys' ≡ length tys → length f' ≡ length f
           → length k' ≡ length k → length r' ≡ length r
           → Going book start T tys₀ f₀ k₀ r₀ t' m' n' tys' f' k' r' u' left'
-      going_next q kept kept-f kept-k kept-r =
+      going_next q kept kept_f kept_k kept_r =
           let o = g.outer in
           record {
-            const = const-kept g.const kept;
-            outer = outer-next o l goes.is (reached-round _ o.reached goes.is) goes.stands
-                goes.count (rw kept-f o.flags) (going_less q);
+            const = const_kept g.const kept;
+            outer = outer_next o l goes.is (reached_round _ o.reached goes.is) goes.stands
+                goes.count (rw kept_f o.flags) (going_less q);
             words = kept ∙ g.words;
-            flags = kept-f ∙ g.flags;
+            flags = kept_f ∙ g.flags;
             tries = goes.tries;
-            members = kept-k ∙ g.members;
-            rows = kept-r ∙ g.rows;
+            members = kept_k ∙ g.members;
+            rows = kept_r ∙ g.rows;
           }
 
 -- ---- before the rounds
 
 module _ (ids : PredefinedIds) (book : List ℕ) where
   -- where the predefined ids are wrong, the build ends with 22 and tables of zeros
-  pub ended-ids : {t m n : List ℕ} → predefined_ids ids ≡ false → Cleared t m n
+  pub ended_ids : {t m n : List ℕ} → predefined_ids ids ≡ false → Cleared t m n
       → Ended (build_of ids book) t m n (Refused ids_wrong)
   unfolding build_of
-  ended-ids q = ended-refused _ ids_wrong (rw q)
+  ended_ids q = ended_refused _ ids_wrong (rw q)
 
   module _ (q : predefined_ids ids ≡ true) where
     -- where the ids are right but the book is malformed, the build ends with 1 and tables of zeros
-    pub ended-book : {t m n : List ℕ} → book_ok book ≡ false → Cleared t m n
+    pub ended_book : {t m n : List ℕ} → book_ok book ≡ false → Cleared t m n
         → Ended (build_of ids book) t m n (Refused BookMalformed)
     unfolding build_of
-    ended-book p = ended-refused _ BookMalformed (rw (q, p))
+    ended_book p = ended_refused _ BookMalformed (rw (q, p))
 
     -- where ids and book are right, the build ends as the rounds after the predefined types do
-    pub ended-run : {t m n : List ℕ} {r : Built} → book_ok book ≡ true
+    pub ended_run : {t m n : List ℕ} {r : Built} → book_ok book ≡ true
         → Ended (rounds_from book (predefined ids)) t m n r → Ended (build_of ids book) t m n r
     unfolding build_of
-    ended-run p h = rw (q, p) h
+    ended_run p h = rw (q, p) h

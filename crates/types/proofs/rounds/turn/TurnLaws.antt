@@ -35,11 +35,11 @@ use Rattle.types.specs.declared.atomics.lookup.FoundTy.{FoundTy}
 use Rattle.types.specs.declared.atomics.lookup.FoundTy.TheVariants.{Is, Nothing}
 use Rattle.types.specs.declared.layout.placing.Decl.{Decl}
 use Rattle.types.specs.declared.tables.member.Ty.{Ty}
-use Rattle.types.proofs.adding.AddStoreLaws.{took-so}
-use Rattle.types.proofs.rounds.ResolveLaws.{found-earlier}
-use Rattle.types.proofs.rounds.SearchLaws.{one-unknown, first-unknown, tries-again, tries-new}
-use Rattle.types.proofs.tables.AgreeLaws.{declared_same, length-list, get_d-list}
-use Rattle.types.proofs.tables.TableLaws.{ty-back}
+use Rattle.types.proofs.adding.AddStoreLaws.{took_so}
+use Rattle.types.proofs.rounds.ResolveLaws.{found_earlier}
+use Rattle.types.proofs.rounds.SearchLaws.{one_unknown, first_unknown, tries_again, tries_new}
+use Rattle.types.proofs.tables.AgreeLaws.{declared_same, length_list, get_d_list}
+use Rattle.types.proofs.tables.TableLaws.{ty_back}
 
 -- ---- how many were found
 
@@ -62,14 +62,14 @@ pub record KnownName (known : List (List ℕ)) (s : List ℕ) : Type 0 where
   pub ty : Ty
   pub is : type_among known s ≡ Is ty
 
-known-one : (known : List (List ℕ)) (s : List ℕ) (f : FoundTy) (b : Bool) → type_among known s ≡ f
+known_one : (known : List (List ℕ)) (s : List ℕ) (f : FoundTy) (b : Bool) → type_among known s ≡ f
     → (is_found f && b) ≡ true → KnownName known s
-known-one known s (Is ty) b e q = record { ty = ty; is = e }
-known-one known s Nothing b e q = absurd (true≢false (sym q))
+known_one known s (Is ty) b e q = record { ty = ty; is = e }
+known_one known s Nothing b e q = absurd (true≢false (sym q))
 
-known-rest : (f : FoundTy) {b : Bool} → (is_found f && b) ≡ true → b ≡ true
-known-rest (Is ty) {b} q = q
-known-rest Nothing {b} q = absurd (true≢false (sym q))
+known_rest : (f : FoundTy) {b : Bool} → (is_found f && b) ≡ true → b ≡ true
+known_rest (Is ty) {b} q = q
+known_rest Nothing {b} q = absurd (true≢false (sym q))
 
 module _ (known : List (List ℕ)) (f : ℕ → List ℕ) where
   -- the first word, and a later one
@@ -81,25 +81,25 @@ module _ (known : List (List ℕ)) (f : ℕ → List ℕ) where
   unfolding list_from found_words
   first_word j n w = let e : j + 0 ≡ j = omega arith in rw e (w, rw w.is)
 
-  later-word : (j n k : ℕ) → KnownName known (f j) → WordAt (j + 1) n k → WordAt j (suc n) (suc k)
+  later_word : (j n k : ℕ) → KnownName known (f j) → WordAt (j + 1) n k → WordAt j (suc n) (suc k)
   unfolding list_from found_words
-  later-word j n k w r = let e : j + suc k ≡ j + 1 + k = omega arith in rw e (r.0, rw w.is r.1)
+  later_word j n k w r = let e : j + suc k ≡ j + 1 + k = omega arith in rw e (r.0, rw w.is r.1)
 
-  words-at : (j n : ℕ) → all_known has_name known (list_from f j n) ≡ true → (k : ℕ) → k < n → WordAt j n k
+  words_at : (j n : ℕ) → all_known has_name known (list_from f j n) ≡ true → (k : ℕ) → k < n → WordAt j n k
   unfolding list_from every
-  words-at j zero a k l = absurd (let z : ⊥ = omega arith in z)
-  words-at j (suc n) a zero l = first_word j n (known-one known (f j) (type_among known (f j)) _ refl a)
-  words-at j (suc n) a (suc k) l =
-      later-word j n k (known-one known (f j) (type_among known (f j)) _ refl a)
-      (words-at (j + 1) n (known-rest (type_among known (f j)) a) k (omega arith))
+  words_at j zero a k l = absurd (let z : ⊥ = omega arith in z)
+  words_at j (suc n) a zero l = first_word j n (known_one known (f j) (type_among known (f j)) _ refl a)
+  words_at j (suc n) a (suc k) l =
+      later_word j n k (known_one known (f j) (type_among known (f j)) _ refl a)
+      (words_at (j + 1) n (known_rest (type_among known (f j)) a) k (omega arith))
 
   words_long : (j n : ℕ) → all_known has_name known (list_from f j n) ≡ true
       → length (found_words known (list_from f j n)) ≡ n
   unfolding list_from every found_words
   words_long j zero a = refl
   words_long j (suc n) a =
-      let w = known-one known (f j) (type_among known (f j)) _ refl a in
-      rw w.is (ap suc (words_long (j + 1) n (known-rest (type_among known (f j)) a)))
+      let w = known_one known (f j) (type_among known (f j)) _ refl a in
+      rw w.is (ap suc (words_long (j + 1) n (known_rest (type_among known (f j)) a)))
 
 -- ---- the scratch after a turn's search
 
@@ -120,42 +120,42 @@ module _ (types names book tys : List ℕ) (u : Used) (at n : ℕ) where
         let long = words_long view.names (type_name book at) 0 n a in
         let r : (w : KnownName view.names (type_name book at k))
         × (get_or (found_words view.names uses) k 0 ≡ ty_word w.ty)
-        = rw zero-add at (words-at view.names (type_name book at) 0 n a k h) in
+        = rw zero-add at (words_at view.names (type_name book at) 0 n a k h) in
         let s : get_or scratch k 0 ≡ get_or (found_words view.names uses) k 0
         = rw zero-add at (get_d_sets tys 0 (found_words view.names uses) k 0 (omega (arith, long)) (omega
         (arith, long)))
         in
-        (r.0, ap ty_of_word (s ∙ r.1) ∙ ty-back r.0.ty)
+        (r.0, ap ty_of_word (s ∙ r.1) ∙ ty_back r.0.ty)
 
-    names-long : length view.names ≡ u.types
+    names_long : length view.names ≡ u.types
     unfolding view_in
-    names-long = length-list (row_name types names) 0 u.types
+    names_long = length_list (row_name types names) 0 u.types
 
-    word-earlier : (k : ℕ) → k < n → Earlier u.types (ty_of_word (get_or scratch k 0))
-    word-earlier k h =
+    word_earlier : (k : ℕ) → k < n → Earlier u.types (ty_of_word (get_or scratch k 0))
+    word_earlier k h =
         let r = word_at k h in
-        rw r.1 (rw names-long at (found-earlier view.names (type_name book at k) r.0.ty r.0.is))
+        rw r.1 (rw names_long at (found_earlier view.names (type_name book at k) r.0.ty r.0.is))
 
     -- the declared members can be laid out
-    pub turn-declared : EntriesInside book at n → n ≤ 65536 → Declared book scratch u.types at n
-    turn-declared i f =
+    pub turn_declared : EntriesInside book at n → n ≤ 65536 → Declared book scratch u.types at n
+    turn_declared i f =
         record {
           inside = i;
           few = f;
           room = rw (length-sets tys 0 (found_words view.names uses)) l;
-          earlier = word-earlier;
+          earlier = word_earlier;
         }
 
-    sizes-same : (k : ℕ) → k < u.types → sizes_in types k ≡ size_at view k
+    sizes_same : (k : ℕ) → k < u.types → sizes_in types k ≡ size_at view k
     unfolding view_in
-    sizes-same k h = sym (get_d-list (sizes_in types) u.types k 0 h)
+    sizes_same k h = sym (get_d_list (sizes_in types) u.types k 0 h)
 
     -- and are the definition's
-    decls-from : (j m : ℕ) → j + m ≤ n
+    decls_from_lem : (j m : ℕ) → j + m ≤ n
         → decls_from types book scratch at j m ≡ decls_of view book (entries_from book at j m)
     unfolding decls_from decls_of list_from decl_at
-    decls-from j zero h = refl
-    decls-from j (suc m) h = go (word_at j (omega arith)) (decls-from (j + 1) m (omega arith))
+    decls_from_lem j zero h = refl
+    decls_from_lem j (suc m) h = go (word_at j (omega arith)) (decls_from_lem (j + 1) m (omega arith))
       where
         go : ((w : KnownName view.names (type_name book at j)) × (ty_of_word (get_or scratch j 0) ≡ w.ty))
             → decls_from types book scratch at (j + 1) m ≡ decls_of view book (entries_from book at (j + 1) m)
@@ -168,11 +168,11 @@ module _ (types names book tys : List ℕ) (u : Used) (at n : ℕ) where
         go (w, q) rest =
             rw (w.is, q, rest)
             (ap (λ (d : Decl). d ∷ decls_of view book (entries_from book at (j + 1) m))
-            (declared_same (sizes_in types) (size_at view) u.types sizes-same w.ty (entry_of book at j)
-            (rw names-long at (found-earlier view.names (type_name book at j) w.ty w.is))))
+            (declared_same (sizes_in types) (size_at view) u.types sizes_same w.ty (entry_of book at j)
+            (rw names_long at (found_earlier view.names (type_name book at j) w.ty w.is))))
 
-    pub turn-decls : decls_from types book scratch at 0 n ≡ decls_of view book (entries_from book at 0 n)
-    turn-decls = decls-from 0 n (omega arith)
+    pub turn_decls : decls_from types book scratch at 0 n ≡ decls_of view book (entries_from book at 0 n)
+    turn_decls = decls_from_lem 0 n (omega arith)
 
 -- ---- the ways out of a turn
 
@@ -185,20 +185,20 @@ module _ (types members names book : List ℕ) (u : Used) (i at n : ℕ) (e : n 
       add_to (view_in types names u) book i at
       (decls_of (view_in types names u) book (entries_from book at 0 (count_of book i)))
 
-  uses-long : length (type_names book at 0 n) ≡ n
-  uses-long = length-list (type_name book at) 0 n
+  uses_long : length (type_names book at 0 n) ≡ n
+  uses_long = length_list (type_name book at) 0 n
 
   rows_long : length (row_names types names u.types) ≡ u.types
-  rows_long = length-list (row_name types names) 0 u.types
+  rows_long = length_list (row_name types names) 0 u.types
 
   -- one member's type is not known
-  turn-idle : (k : ℕ) → k < count_of book i → type_among (row_names types names u.types) (type_name book at k) ≡ Nothing
+  turn_idle : (k : ℕ) → k < count_of book i → type_among (row_names types names u.types) (type_name book at k) ≡ Nothing
       → Turned known verdict u types members names types members names Waits
-  turn-idle k l o =
+  turn_idle k l o =
       let c = count_of book i in
       let f : known ≡ false
-      = one-unknown (row_names types names u.types) (type_names book at 0 c) k
-      (omega (arith, length-list (type_name book at) 0 c)) (rw (get_d-list (type_name book at) c k [] l) o)
+      = one_unknown (row_names types names u.types) (type_names book at 0 c) k
+      (omega (arith, length_list (type_name book at) 0 c)) (rw (get_d_list (type_name book at) c k [] l) o)
       in
       record { waits = λ q. (refl, (refl, (refl, refl))); takes = λ q. absurd (true≢false (sym q ∙ f)) }
 
@@ -208,8 +208,8 @@ module _ (types members names book : List ℕ) (u : Used) (i at n : ℕ) (e : n 
       missed q = rw (a, b) (p.tries.missed i p.among (rw b at q))
 
       -- what is known of an earlier turn
-      pub turn-looks : StillIn types names book at k from u.types
-      turn-looks =
+      pub turn_looks : StillIn types names book at k from u.types
+      turn_looks =
           record {
             rows = p.usable.rows;
             inside = λ q. omega (arith, p.inside.inside, (missed q).below);
@@ -218,13 +218,13 @@ module _ (types members names book : List ℕ) (u : Used) (i at n : ℕ) (e : n 
           }
 
       -- the same member's type is still not known
-      pub turn-still : Still types names book at k from u.types
+      pub turn_still : Still types names book at k from u.types
           → Turned known verdict u types members names types members names Waits
           × Tries book (row_names types names u.types) stuck (set tried i u.types)
-      turn-still s =
+      turn_still s =
           let l = (missed s.past).below in (
-            turn-idle k l s.missing,
-            tries-again p.tries i u.types p.among (sym rows_long) k l (rw (← p.place) s.missing) (sym a),
+            turn_idle k l s.missing,
+            tries_again p.tries i u.types p.among (sym rows_long) k l (rw (← p.place) s.missing) (sym a),
           )
 
   module _ {tys tys' : List ℕ} (r : ℕ)
@@ -232,42 +232,43 @@ module _ (types members names book : List ℕ) (u : Used) (i at n : ℕ) (e : n 
     -- the member after those that were found is not known
     stops : r < n → type_among (row_names types names u.types) (type_name book at r) ≡ Nothing
     stops l =
-        let f = first-unknown (row_names types names u.types) (type_names book at 0 n)
-        (omega (arith, w.is, uses-long)) in
-        rw (get_d-list (type_name book at) n r [] l) at (rw (← w.is) at f)
+        let f = first_unknown (row_names types names u.types) (type_names book at 0 n)
+        (omega (arith, w.is, uses_long)) in
+        rw (get_d_list (type_name book at) n r [] l) at (rw (← w.is) at f)
 
     -- where a member's type is not found, the type waits, and it is remembered which and among how many types
-    pub turn-waits : {ws stuck tried : List ℕ} → TurnIn types members names book ws stuck tried i at u → r < n
+    pub turn_waits : {ws stuck tried : List ℕ} → TurnIn types members names book ws stuck tried i at u → r < n
         → Turned known verdict u types members names types members names Waits
         × Tries book (row_names types names u.types) (set stuck i r) (set tried i u.types)
-    turn-waits p l = (
-      turn-idle r (omega (arith, e)) (stops l),
-      tries-new p.tries i u.types p.among (sym rows_long) r (omega (arith, e)) (rw (← p.place) (stops l)),
+    turn_waits p l = (
+      turn_idle r (omega (arith, e)) (stops l),
+      tries_new p.tries i u.types p.among (sym rows_long) r (omega (arith, e)) (rw (← p.place) (stops l)),
     )
 
     module _ (l : n ≤ r) where
       found_all : all_known has_name (row_names types names u.types) (type_names book at 0 n) ≡ true
-      found_all = all_found (row_names types names u.types) (type_names book at 0 n) (omega (arith, w.is, uses-long))
+      found_all = all_found (row_names types names u.types) (type_names book at 0 n) (omega (arith, w.is, uses_long))
 
       -- where all member types are found, the declared members lie in the book and have earlier types
-      pub turn-ready : n ≤ length tys → EntriesInside book at n → n ≤ 65536 → Declared book tys' u.types at n
+      pub turn_ready : n ≤ length tys → EntriesInside book at n → n ≤ 65536 → Declared book tys' u.types at n
       unfolding view_in
-      turn-ready k h f = rw w.words (turn-declared types names book tys u at n found_all k h f)
+      turn_ready k h f = rw w.words (turn_declared types names book tys u at n found_all k h f)
 
       -- where all member types are found, the turn was taken once the verdict on the entry is carried out
-      pub turn-takes : n ≤ length tys → {t' m' n' : List ℕ} {x : Progress}
-          → Took (add_entry (view_in types names u) book i at (type_entry book i) (name_in book (type_entry book i).name)
+      pub turn_takes : n ≤ length tys → {t' m' n' : List ℕ} {x : Progress}
+          → Took (add_entry (view_in types names u) book i at (type_entry book i)
+          (name_in book (type_entry book i).name)
           (decls_from types book tys' at 0 n)) u types members names t' m' n' x
           → Turned known verdict u types members names t' m' n' x
       unfolding view_in
-      turn-takes k t =
+      turn_takes k t =
           let f : known ≡ true = rw (← e) found_all in
           let d : decls_from types book tys' at 0 n
           ≡ decls_of (view_in types names u) book (entries_from book at 0 (count_of book i))
           = ap (λ (z : List ℕ). decls_from types book z at 0 n) w.words
-          ∙ turn-decls types names book tys u at n found_all k
+          ∙ turn_decls types names book tys u at n found_all k
           ∙ ap (λ (m : ℕ). decls_of (view_in types names u) book (entries_from book at 0 m)) e in
           record {
             waits = λ q. absurd (true≢false (sym f ∙ q));
-            takes = λ q. took-so (ap (λ (z : List Decl). add_to (view_in types names u) book i at z) (sym d)) t;
+            takes = λ q. took_so (ap (λ (z : List Decl). add_to (view_in types names u) book i at z) (sym d)) t;
           }

@@ -10,7 +10,8 @@ use Rattle.types.specs.declared.layout.placing.Decl.{Decl}
 
 -- a type's members stand one after the other from a place on; the type of the j-th is the j-th of those found
 unfoldable pub decl_at : List ℕ → List ℕ → List ℕ → ℕ → ℕ → Decl
-decl_at types book tys at j = declared (sizes_in types) (ty_of_word (get_or tys j 0)) (member_entry_at book (at + 16 * j))
+decl_at types book tys at j =
+    declared (sizes_in types) (ty_of_word (get_or tys j 0)) (member_entry_at book (at + 16 * j))
 
 -- n of them, from the j-th on
 unfoldable pub decls_from : List ℕ → List ℕ → List ℕ → ℕ → ℕ → ℕ → List Decl

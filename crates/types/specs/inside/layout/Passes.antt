@@ -132,8 +132,10 @@ pub record Storable (types book tys type : List ℕ) (at n : ℕ) (c : Cursor) (
   pub far : Far passed c 0
   pub inside : (k : ℕ) → k < n
       → (decl_at types book tys at k).name.at + (decl_at types book tys at k).name.long ≤ length book
-  pub rows : row + length (parts_from (named_in book) (host_name type) c (decls_from types book tys at 0 n)) ≤ most_members
-  pub names : place + length (names_of (parts_from (named_in book) (host_name type) c (decls_from types book tys at 0 n)))
+  pub rows : row + length (parts_from (named_in book) (host_name type) c (decls_from types book tys at 0 n)) ≤
+      most_members
+  pub names : place
+      + length (names_of (parts_from (named_in book) (host_name type) c (decls_from types book tys at 0 n)))
       ≤ most_names
 
 -- ---- what an AOI's functions answer

@@ -3,7 +3,6 @@
 use Rattle.std.specs.Prelude.{ℕ, zero, suc, ◌+◌, ◌<◌, ◌≤◌, true, cond, List, [], ◌∷◌, ◌≡◌, eqb, length, get_or}
 use Rattle.types.specs.book.Contents.{types_in, members_in, book_ok}
 use Rattle.types.specs.layout.Predefined.{predefined_ids}
-use Rattle.types.specs.refusals.Said.{done}
 use Rattle.types.specs.tables.Registry.{no_types, no_members, no_names}
 use Rattle.types.specs.declared.layout.predefined.PredefinedIds.{PredefinedIds}
 

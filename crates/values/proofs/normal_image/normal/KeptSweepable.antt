@@ -18,10 +18,10 @@ use Rattle.values.specs.inside.normal_image.InPlace.{is_plain, past_tree}
 use Rattle.values.specs.inside.normal_image.Placed.{Disjoint, If, TreePlaced, Stairs, Sweepable}
 use Rattle.values.specs.inside.writing.Rows.{member_tree, tree_in}
 use Rattle.values.specs.reading.Trees.{members_at}
-use Rattle.values.proofs.normal_image.DisjointLaws.{member-placed}
-use Rattle.values.proofs.normal_image.KeptPlaced.{kept-disjoint, laid-all}
-use Rattle.values.proofs.normal_image.SweepableLaws.{plain-is}
-use Rattle.values.proofs.reading.SpanLaws.{bit-span, sound-all, sound-below}
+use Rattle.values.proofs.normal_image.DisjointLaws.{member_placed}
+use Rattle.values.proofs.normal_image.KeptPlaced.{kept_disjoint, laid_all}
+use Rattle.values.proofs.normal_image.SweepableLaws.{plain_is}
+use Rattle.values.proofs.reading.SpanLaws.{bit_span, sound_all, sound_below}
 
 -- ---- rows that rise
 
@@ -35,31 +35,32 @@ unfolding PlainFrom
 from_start [] = tt
 from_start (p ∷ ps) = (λ v. omega arith, from_start ps)
 
-from_past : (sizes : ℕ → ℕ) (m : Member) (ps : List Part) → Plain m → Rising sizes m ps → PlainFrom (past_bit sizes m) ps
+from_past : (sizes : ℕ → ℕ) (m : Member) (ps : List Part) → Plain m → Rising sizes m ps
+    → PlainFrom (past_bit sizes m) ps
 unfolding PlainFrom Rising
 from_past sizes m [] v r = tt
 from_past sizes m (p ∷ ps) v (r, rs) = (r v, from_past sizes m ps v rs)
 
 -- ---- the tables
 
-earlier-low : {i : ℕ} (t : Ty) → i < most_types → Earlier i t → Earlier most_types t
-earlier-low (ty.Atomic a) low l = tt
-earlier-low (ty.Struct n) low l = omega arith
+earlier_low : {i : ℕ} (t : Ty) → i < most_types → Earlier i t → Earlier most_types t
+earlier_low (ty.Atomic a) low l = tt
+earlier_low (ty.Struct n) low l = omega arith
 
 module _ {types members : List ℕ} (k : KeptRows types members) where
   disjoint : Disjoint types members
-  disjoint = kept-disjoint k.kept
+  disjoint = kept_disjoint k.kept
 
   module _ (i : ℕ) (low : i < most_types) where
     -- the plain ones of some rows, from bit c on
-    rows-stairs : (row n c : ℕ) → c ≤ 8 * sizes_in types i → PlainFrom c (parts_at members k.names row n)
+    rows_stairs : (row n c : ℕ) → c ≤ 8 * sizes_in types i → PlainFrom c (parts_at members k.names row n)
         → Laid (sizes_in types) i (sizes_in types i) (parts_at members k.names row n)
         → Stairs (tree_in types members) (8 * sizes_in types i) (members_at members row n) c
     unfolding PlainFrom Laid parts_at part_at members_at Stairs
-    rows-stairs row zero c l f d = l
-    rows-stairs row (suc n) c l (f, fs) (d, ds) =
-        go (is_plain m) refl (rows-stairs (row + 1) n c l fs ds)
-        (λ v. rows-stairs (row + 1) n (past_tree (tree_in types members) m) (omega (arith, past, d.inside))
+    rows_stairs row zero c l f d = l
+    rows_stairs row (suc n) c l (f, fs) (d, ds) =
+        go (is_plain m) refl (rows_stairs (row + 1) n c l fs ds)
+        (λ v. rows_stairs (row + 1) n (past_tree (tree_in types members) m) (omega (arith, past, d.inside))
         (subst (λ (b : ℕ). PlainFrom b (parts_at members k.names (row + 1) n)) (sym past)
         (from_past (sizes_in types) m (parts_at members k.names (row + 1) n) v d.rising)) ds)
       where
@@ -69,8 +70,8 @@ module _ {types members : List ℕ} (k : KeptRows types members) where
         past : past_tree (tree_in types members) m ≡ past_bit (sizes_in types) m
         past =
             ap (first_bit m +◌)
-            (bit-span types members (tree_in types members) i
-            (sound-below i (omega arith) (sound-all types members disjoint.walkable)) m.bit m d.earlier)
+            (bit_span types members (tree_in types members) i
+            (sound_below i (omega arith) (sound_all types members disjoint.walkable)) m.bit m d.earlier)
 
         go : (b : Bool) → is_plain m ≡ b
             → Stairs (tree_in types members) (8 * sizes_in types i) (members_at members (row + 1) n) c
@@ -83,22 +84,22 @@ module _ {types members : List ℕ} (k : KeptRows types members) where
             (Stairs (tree_in types members) (8 * sizes_in types i) (members_at members (row + 1) n) c)
         go false e same next = same
         go true e same next = (
-          f (plain-is m e),
+          f (plain_is m e),
           (
-            member-placed (tree_in types members) most_types disjoint.placed m.bit m.ty m.count
-                (earlier-low m.ty low d.earlier),
-            next (plain-is m e),
+            member_placed (tree_in types members) most_types disjoint.placed m.bit m.ty m.count
+                (earlier_low m.ty low d.earlier),
+            next (plain_is m e),
           ),
         )
 
     -- its plain members stand in order
-    all-stairs : Stairs (tree_in types members) (8 * sizes_in types i)
+    all_stairs : Stairs (tree_in types members) (8 * sizes_in types i)
         (members_at members (type_at types i).first (type_at types i).count) 0
-    all-stairs =
-        rows-stairs (type_at types i).first (type_at types i).count 0 (omega arith)
+    all_stairs =
+        rows_stairs (type_at types i).first (type_at types i).count 0 (omega arith)
         (from_start (parts_at members k.names (type_at types i).first (type_at types i).count))
-        (laid-all k.kept i)
+        (laid_all k.kept i)
 
   -- kept tables can be swept
-  pub kept-sweepable : Sweepable types members
-  kept-sweepable = record { disjoint = disjoint; stairs = all-stairs }
+  pub kept_sweepable : Sweepable types members
+  kept_sweepable = record { disjoint = disjoint; stairs = all_stairs }

@@ -9,7 +9,7 @@ use mathlib.Core.List.{List}
 use lib.ListN.{length}
 use Rattle.words.specs.Bits.{Bits, flat, inside}
 use Rattle.words.specs.Words.{Bytes}
-use Rattle.words.proofs.StampLaws.{yes-inside}
+use Rattle.words.proofs.StampLaws.{yes_inside}
 use Rattle.types.specs.refusals.Said.{done, why}
 use Rattle.types.specs.tables.There.{is_there}
 use Rattle.types.specs.declared.atomics.atomic.Atomic.{Atomic}
@@ -29,11 +29,11 @@ use Rattle.values.specs.reading.Read.{image_fits}
 use Rattle.values.specs.reading.Tree.{Tree, array, items, span}
 use Rattle.values.specs.reading.Trees.{atomics_tree, known_in, structs_tree, tree_of_value}
 use Rattle.values.specs.declared.writing.write.Taken.TheVariants.{Refused, Whole}
-use Rattle.values.proofs.normal_image.CharLaws.{chars-ext}
+use Rattle.values.proofs.normal_image.CharLaws.{chars_ext}
 use Rattle.values.proofs.normal_image.MadeLaws.{made_inside}
-use Rattle.values.proofs.normal_image.SweepableLaws.{sweepable-walkable}
-use Rattle.values.proofs.reading.ImageLaws.{fit-long, fit-there, unfit}
-use Rattle.values.proofs.reading.SpanLaws.{tree-value-span}
+use Rattle.values.proofs.normal_image.SweepableLaws.{sweepable_walkable}
+use Rattle.values.proofs.reading.ImageLaws.{fit_long, fit_there, unfit}
+use Rattle.values.proofs.reading.SpanLaws.{tree_value_span}
 use Rattle.values.proofs.writing.WrittenLaws.{bytes_bits}
 
 -- ---- a value's image
@@ -44,62 +44,62 @@ module _ {types members : List ℕ} (s : Sweepable types members) {t : Ty} {n : 
   tree = tree_of_value (known_in types members) t n
 
   -- each of its bits is one of the tree's
-  all-inside : (k : ℕ) → k < 8 * length image → inside 0 (span tree) k ≡ true
-  all-inside k l =
-      yes-inside 0 (span tree) k (omega arith)
-      (omega (arith, l, v.long, tree-value-span types members (sweepable-walkable s) t n v.fits))
+  all_inside : (k : ℕ) → k < 8 * length image → inside 0 (span tree) k ≡ true
+  all_inside k l =
+      yes_inside 0 (span tree) k (omega arith)
+      (omega (arith, l, v.long, tree_value_span types members (sweepable_walkable s) t n v.fits))
 
-  made-value : {new : List ℕ} → length new ≡ length image → Bytes new → flat new ≡ made tree 0 (flat image)
+  made_value : {new : List ℕ} → length new ≡ length image → Bytes new → flat new ≡ made tree 0 (flat image)
       → new ≡ value_normal types members t n image
   unfolding normal_image
-  made-value {new} long b e =
+  made_value {new} long b e =
       sym (bytes_bits new b) ∙ ap (λ (m : ℕ). chars m (flat new)) long
-      ∙ chars-ext (length image) (flat new) (normal (items tree 0) (flat image))
-      (λ k l. ap (λ (x : Bits). x k) e ∙ made_inside tree 0 (flat image) k (all-inside k l))
+      ∙ chars_ext (length image) (flat new) (normal (items tree 0) (flat image))
+      (λ k l. ap (λ (x : Bits). x k) e ∙ made_inside tree 0 (flat image) k (all_inside k l))
 
   module _ {new : List ℕ} (long : length new ≡ length image) (b : Bytes new) where
     -- a value of atomics made normal is its normal image
-    pub atomics-normal : {a : Atomic} → t ≡ ty.Atomic a → flat new ≡ made (atomics_tree a n) 0 (flat image)
+    pub atomics_normal : {a : Atomic} → t ≡ ty.Atomic a → flat new ≡ made (atomics_tree a n) 0 (flat image)
         → new ≡ value_normal types members t n image
     unfolding tree_of_value
-    atomics-normal is e = made-value long b (e ∙ rw is refl)
+    atomics_normal is e = made_value long b (e ∙ rw is refl)
 
     -- one structure made normal is the value's normal image
-    pub one-normal : {i : ℕ} → t ≡ ty.Struct i → n ≡ 0 → flat new ≡ made (tree_in types members i) 0 (flat image)
+    pub one_normal : {i : ℕ} → t ≡ ty.Struct i → n ≡ 0 → flat new ≡ made (tree_in types members i) 0 (flat image)
         → new ≡ value_normal types members t n image
     unfolding tree_of_value structs_tree
-    one-normal is none e = made-value long b (e ∙ rw (is, eq-eqb n 0 none) refl)
+    one_normal is none e = made_value long b (e ∙ rw (is, eq-eqb n 0 none) refl)
 
     -- an array of structures made normal is the value's normal image
-    pub all-normal : {i : ℕ} → t ≡ ty.Struct i → (n ≡ 0 → ⊥)
+    pub all_normal : {i : ℕ} → t ≡ ty.Struct i → (n ≡ 0 → ⊥)
         → flat new ≡ made (array n (tree_in types members i)) 0 (flat image)
         → new ≡ value_normal types members t n image
     unfolding tree_of_value structs_tree
-    all-normal is some e = made-value long b (e ∙ rw (is, ne_eqb n 0 some) refl)
+    all_normal is some e = made_value long b (e ∙ rw (is, ne_eqb n 0 some) refl)
 
 -- ---- the call
 
 module _ (types members : List ℕ) (t : Ty) (n : ℕ) (image : List ℕ) where
-  no-type : is_there types t ≡ false → MadeNormal types members t n image (Refused NoSuchType) image
+  no_type : is_there types t ≡ false → MadeNormal types members t n image (Refused NoSuchType) image
   unfolding normal_result
-  no-type e = record { answer = rw e refl; leaves = rw e refl }
+  no_type e = record { answer = rw e refl; leaves = rw e refl }
 
-  no-image : is_there types t ≡ true → image_fits types t n image ≡ false
+  no_image : is_there types t ≡ true → image_fits types t n image ≡ false
       → MadeNormal types members t n image (Refused ImageLength) image
   unfolding normal_result
-  no-image e f = record { answer = rw (e, f) refl; leaves = rw (e, f) refl }
+  no_image e f = record { answer = rw (e, f) refl; leaves = rw (e, f) refl }
 
   -- the ways out with 15 and 14: the image is not one of the type, and it is as it was
-  pub unfit-normal : {w : Refusal} → why w ≡ said_of_image types t n (length image)
+  pub unfit_normal : {w : Refusal} → why w ≡ said_of_image types t n (length image)
       → MadeNormal types members t n image (Refused w) image
-  unfit-normal {w} e =
-      unfit types t n image (λ w. MadeNormal types members t n image (Refused w) image) no-type no-image w e
+  unfit_normal {w} e =
+      unfit types t n image (λ w. MadeNormal types members t n image (Refused w) image) no_type no_image w e
 
   -- the answer where the image is one of the type: nothing is refused, and the normal image is left
-  pub whole-normal : {new : List ℕ} → done tt ≡ said_of_image types t n (length image)
+  pub whole_normal : {new : List ℕ} → done tt ≡ said_of_image types t n (length image)
       → new ≡ value_normal types members t n image → MadeNormal types members t n image Whole new
   unfolding normal_result
-  whole-normal e w =
-      let f = fit-there types t n image e in
-      let g = fit-long types t n image e in
+  whole_normal e w =
+      let f = fit_there types t n image e in
+      let g = fit_long types t n image e in
       record { answer = rw (f, g) refl; leaves = w ∙ rw (f, g) refl }

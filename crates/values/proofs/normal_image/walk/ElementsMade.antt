@@ -7,7 +7,7 @@ use mathlib.Core.Path.{◌≡◌, refl, sym, ap, ◌∙◌, fun_ext, subst}
 use mathlib.Core.List.{List}
 use lib.ListN.{length}
 use Rattle.words.specs.Bits.{Bits, flat}
-use Rattle.words.proofs.StampLaws.{not-inside}
+use Rattle.words.proofs.StampLaws.{not_inside}
 use Rattle.types.specs.tables.Limits.{most_types}
 use Rattle.types.specs.tables.Sizes.{sizes_in}
 use Rattle.values.specs.inside.normal_image.InPlace.{each_made, made}
@@ -15,27 +15,27 @@ use Rattle.values.specs.inside.normal_image.Placed.{Sweepable}
 use Rattle.values.specs.inside.writing.Rows.{AllHere, Here, tree_in}
 use Rattle.values.specs.reading.Tree.{Tree, array, span}
 use Rattle.values.proofs.normal_image.ArrayMade.{array_made}
-use Rattle.values.proofs.normal_image.MadeLaws.{made-beside}
-use Rattle.values.proofs.normal_image.SweepableLaws.{sweepable-walkable}
-use Rattle.values.proofs.reading.SpanLaws.{tree-span}
+use Rattle.values.proofs.normal_image.MadeLaws.{made_beside}
+use Rattle.values.proofs.normal_image.SweepableLaws.{sweepable_walkable}
+use Rattle.values.proofs.reading.SpanLaws.{tree_span}
 
 -- n elements of a tree from a bit on
 abbrev elements_made : ℕ → Tree → ℕ → Bits → Bits
 elements_made n tree p x = each_made n (made tree) (span tree) p x
 
 -- elements of no bytes have no bit
-pub elements-none : {types members : List ℕ} {i size : ℕ} (count : ℕ) → Sweepable types members → i < most_types
+pub elements_none : {types members : List ℕ} {i size : ℕ} (count : ℕ) → Sweepable types members → i < most_types
     → size ≡ sizes_in types i → size ≡ 0 → (p : ℕ) {x : Bits} → x ≡ made (array count (tree_in types members i)) p x
 unfolding span
-elements-none {types} {members} {i} count s low z n p {x} =
-    fun_ext (λ k. sym (made-beside (array count tree) p x k
-    (not-inside p (count * span tree) k (λ a b. omega (arith, all)))))
+elements_none {types} {members} {i} count s low z n p {x} =
+    fun_ext (λ k. sym (made_beside (array count tree) p x k
+    (not_inside p (count * span tree) k (λ a b. omega (arith, all)))))
   where
     tree : Tree
     tree = tree_in types members i
 
     one : span tree ≡ 0
-    one = omega (arith, tree-span types members (sweepable-walkable s) i low, z, n)
+    one = omega (arith, tree_span types members (sweepable_walkable s) i low, z, n)
 
     all : count * span tree ≡ 0
     all = ap (count *◌) one ∙ mul-zero count
@@ -51,9 +51,9 @@ pub record ElementsNormal (types members : List ℕ) (i count : ℕ) (image : Li
       ≡ elements_made count (tree_in types members i) (8 * base) (flat image)
 
 -- before the first element all are still to be made normal
-pub elements-start : {types members : List ℕ} {i count : ℕ} {image : List ℕ} {base size : ℕ} → size ≡ sizes_in types i
+pub elements_start : {types members : List ℕ} {i count : ℕ} {image : List ℕ} {base size : ℕ} → size ≡ sizes_in types i
     → ElementsNormal types members i count image base size 0 image
-elements-start {types} {members} {i} {count} {image} {base} {size} z =
+elements_start {types} {members} {i} {count} {image} {base} {size} z =
     let e : 8 * (base + size * 0) ≡ 8 * base = omega arith in
     record {
       long = z;
@@ -73,9 +73,9 @@ module _ {types members : List ℕ} {i count : ℕ} {image : List ℕ} {base siz
   place = 8 * (base + size * e)
 
   -- past the last place the whole array is made normal
-  pub elements-done : count ≤ e → flat now ≡ made (array count tree) (8 * base) (flat image)
+  pub elements_done : count ≤ e → flat now ≡ made (array count tree) (8 * base) (flat image)
   unfolding each_made
-  elements-done l = go v.left v.all v.bits
+  elements_done l = go v.left v.all v.bits
     where
       go : (left : ℕ) → e + left ≡ count
           → elements_made left tree place (flat now) ≡ elements_made count tree (8 * base) (flat image)
@@ -85,26 +85,26 @@ module _ {types members : List ℕ} {i count : ℕ} {image : List ℕ} {base siz
 
   module _ (l : e < count) where
     -- its bytes lie in the image
-    pub element-inside : base + size * e + size ≤ length image
-    element-inside =
+    pub element_inside : base + size * e + size ≤ length image
+    element_inside =
         let h : size * e + size ≤ size * count = subst (◌≤ size * count) (mul-suc size e) (mul-le-mul_left size l) in
         let q : size * count ≡ sizes_in types i * count = ap (λ (z : ℕ). z * count) v.long in
         omega (arith, here.inside)
 
     -- the element's structure lies in the image as it stands
-    pub element-here : Here types i (base + size * e) now
-    element-here = record { low = here.low; inside = omega (arith, element-inside, v.whole, v.long) }
+    pub element_here : Here types i (base + size * e) now
+    element_here = record { low = here.low; inside = omega (arith, element_inside, v.whole, v.long) }
 
     next_place : place + span tree ≡ 8 * (base + size * (e + 1))
     next_place =
         let a : size * (e + 1) ≡ size * e + size = mul-add size e 1 ∙ ap (size * e +◌) (mul-one size) in
-        omega (arith, tree-span types members (sweepable-walkable sweepable) i here.low, v.long)
+        omega (arith, tree_span types members (sweepable_walkable sweepable) i here.low, v.long)
 
     -- and the element made normal is one less to do
-    pub element-made : (new : List ℕ) → flat new ≡ made tree place (flat now) → length new ≡ length now
+    pub element_made : (new : List ℕ) → flat new ≡ made tree place (flat now) → length new ≡ length now
         → ElementsNormal types members i count image base size (e + 1) new
     unfolding each_made
-    element-made new h same = go v.left v.all v.bits
+    element_made new h same = go v.left v.all v.bits
       where
         go : (left : ℕ) → e + left ≡ count
             → elements_made left tree place (flat now) ≡ elements_made count tree (8 * base) (flat image)

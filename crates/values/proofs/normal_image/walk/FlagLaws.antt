@@ -1,13 +1,13 @@
 -- The BOOLs of a structure put back (document 01, "Normal image"): each bit that a visible BOOL holds is as it was, and
 -- every other stands.
-use Prim.Native.Nat.{ℕ, zero, suc, ◌+◌, ◌-◌, ◌<◌}
+use Prim.Native.Nat.{ℕ, zero, suc, ◌+◌, ◌<◌}
 use native.Mathlib.Nat.{zero-add}
 use native.Mathlib.Omega.{arith}
 use mathlib.Core.Path.{◌≡◌, refl, ◌∙◌}
 use mathlib.Core.Bool.{Bool, true, false, cond}
 use mathlib.Core.List.{List, [], ◌∷◌}
 use Rattle.words.specs.Bits.{Bits, from, stamp}
-use Rattle.words.proofs.StampLaws.{one-back}
+use Rattle.words.proofs.StampLaws.{one_back}
 use Rattle.types.specs.layout.Laid.{first_bit}
 use Rattle.types.specs.tables.Lent.{member_at}
 use Rattle.types.specs.declared.tables.member.Member.{Member}
@@ -32,17 +32,17 @@ back_step : (b x : Bits) (q j : ℕ) (is : List Item) (y : Bits) (k : ℕ) (c : 
     → cond (held is k) (x k) (cond c (stamp q 1 (from j b) y) y k)
     ≡ cond (held (cond c (at q flag ∷ is) is) k) (x k) (y k)
 unfolding held
-back_step b x q j is y k true e = one-back b x q j y k (held is k) (e refl)
+back_step b x q j is y k true e = one_back b x q j y k (held is k) (e refl)
 back_step b x q j is y k false e = refl
 
 -- with the BOOLs put back, each bit that one of them holds is as it was, and every other stands
-pub flagged-is : (b x : Bits) (p j : ℕ) (ms : List Member) → SameFlags b x p j ms → (y : Bits) (k : ℕ)
+pub flagged_is : (b x : Bits) (p j : ℕ) (ms : List Member) → SameFlags b x p j ms → (y : Bits) (k : ℕ)
     → flagged b p j ms y k ≡ cond (held (flag_items p ms) k) (x k) (y k)
 unfolding flagged flag_items SameFlags held
-flagged-is b x p j [] s y k = refl
-flagged-is b x p j (m ∷ ms) s y k =
+flagged_is b x p j [] s y k = refl
+flagged_is b x p j (m ∷ ms) s y k =
     let e : j + 1 ≡ suc j = omega arith in
-    flagged-is b x p (suc j) ms (rw e at s.1) (cond (is_flag m) (stamp (p + first_bit m) 1 (from j b) y) y) k
+    flagged_is b x p (suc j) ms (rw e at s.1) (cond (is_flag m) (stamp (p + first_bit m) 1 (from j b) y) y) k
     ∙ back_step b x (p + first_bit m) j (flag_items p ms) y k (is_flag m) s.0
 
 -- the same by rows, from number j on

@@ -21,67 +21,68 @@ use Rattle.values.specs.inside.reading.Walkable.{WalkableType, MemberWithin}
 use Rattle.values.specs.inside.writing.Rows.{Here, member_tree, tree_in}
 use Rattle.values.specs.reading.Tree.{Tree}
 use Rattle.values.specs.reading.Trees.{members_at}
-use Rattle.values.proofs.normal_image.SweepableLaws.{sweepable-walkable}
-use Rattle.values.proofs.writing.ClearLaws.{zeros-cleared}
+use Rattle.values.proofs.normal_image.SweepableLaws.{sweepable_walkable}
+use Rattle.values.proofs.writing.ClearLaws.{zeros_cleared}
 
 -- ---- one member before others
 
 module _ (trees : ℕ → Tree) (size c : ℕ) (m : Member) (ms : List Member) where
-  stairs-past : is_plain m ≡ false → Stairs trees size (m ∷ ms) c → Stairs trees size ms c
+  stairs_past : is_plain m ≡ false → Stairs trees size (m ∷ ms) c → Stairs trees size ms c
   unfolding Stairs
-  stairs-past e s = rw e at s
+  stairs_past e s = rw e at s
 
-  stairs-on : is_plain m ≡ true → Stairs trees size (m ∷ ms) c
+  stairs_on : is_plain m ≡ true → Stairs trees size (m ∷ ms) c
       → (c ≤ first_bit m) × (TreePlaced (member_tree trees m) × Stairs trees size ms (past_tree trees m))
   unfolding Stairs
-  stairs-on e s = rw e at s
+  stairs_on e s = rw e at s
 
-  swept-past : is_plain m ≡ false → (p : ℕ) (x : Bits)
+  swept_past : is_plain m ≡ false → (p : ℕ) (x : Bits)
       → swept trees p size (m ∷ ms) c x ≡ swept trees p size ms c x
   unfolding swept
-  swept-past e p x = rw e refl
+  swept_past e p x = rw e refl
 
-  swept-on : is_plain m ≡ true → (p : ℕ) (x : Bits)
+  swept_on : is_plain m ≡ true → (p : ℕ) (x : Bits)
       → swept trees p size (m ∷ ms) c x ≡ swept trees p size ms (past_tree trees m) (onward trees p m c x)
   unfolding swept
-  swept-on e p x = rw e refl
+  swept_on e p x = rw e refl
 
 -- ---- rows
 
 -- the size in a structure's row is how many bytes it has
-pub size-of-type : (types : List ℕ) (i : ℕ) {size : ℕ} {d : StructDef} → d ≡ type_at types i → size ≡ d.size
+pub size_of_type : (types : List ℕ) (i : ℕ) {size : ℕ} {d : StructDef} → d ≡ type_at types i → size ≡ d.size
     → size ≡ sizes_in types i
-size-of-type types i is e = e ∙ ap (λ (x : StructDef). x.size) is
+size_of_type types i is e = e ∙ ap (λ (x : StructDef). x.size) is
 
 -- what is left of the rows of structure i before row k, from byte c of it on: `left` rows, over the image as it stands
 pub record Sweeping (types members : List ℕ) (i : ℕ) (image : List ℕ) (base first count : ℕ) (now : List ℕ) (c k : ℕ)
     : Type 0 where
   pub sweepable : Sweepable types members
   pub here : Here types i base image
-  pub first-is : first ≡ (type_at types i).first
-  pub count-is : count ≡ (type_at types i).count
+  pub first_row_is : first ≡ (type_at types i).first
+  pub count_is : count ≡ (type_at types i).count
   pub left : ℕ
   pub all : k + left ≡ count
   pub long : length now ≡ length image
   pub stairs : Stairs (tree_in types members) (8 * sizes_in types i) (members_at members (first + k) left) (8 * c)
-  pub same : swept (tree_in types members) (8 * base) (8 * sizes_in types i) (members_at members (first + k) left) (8 * c)
+  pub same : swept (tree_in types members) (8 * base) (8 * sizes_in types i) (members_at members (first + k) left)
+      (8 * c)
       (flat now)
       ≡ swept (tree_in types members) (8 * base) (8 * sizes_in types i)
       (members_at members (type_at types i).first (type_at types i).count) 0 (flat image)
 
 -- before the first row the whole structure is still to be swept
-pub sweep-start : {types members : List ℕ} {i : ℕ} {image : List ℕ} {base first count : ℕ} {d : StructDef}
+pub sweep_start : {types members : List ℕ} {i : ℕ} {image : List ℕ} {base first count : ℕ} {d : StructDef}
     → Sweepable types members → Here types i base image → d ≡ type_at types i → first ≡ d.first → count ≡ d.count
     → Sweeping types members i image base first count image 0 0
-sweep-start {types} {members} {i} {image} {base} {first} {count} s h is f n =
+sweep_start {types} {members} {i} {image} {base} {first} {count} s h is f n =
     let a : first ≡ (type_at types i).first = f ∙ ap (λ (x : StructDef). x.first) is in
     let b : count ≡ (type_at types i).count = n ∙ ap (λ (x : StructDef). x.count) is in
     let e : first + 0 ≡ (type_at types i).first = omega arith in
     record {
       sweepable = s;
       here = h;
-      first-is = a;
-      count-is = b;
+      first_row_is = a;
+      count_is = b;
       left = count;
       all = omega arith;
       long = refl;
@@ -91,19 +92,19 @@ sweep-start {types} {members} {i} {image} {base} {first} {count} s h is f n =
 
 module _ {types members : List ℕ} {i : ℕ} {image : List ℕ} {base first count : ℕ} {now : List ℕ} {c k : ℕ}
     (v : Sweeping types members i image base first count now c k) where
-  type-is : WalkableType types members i
-  type-is = (sweepable-walkable v.sweepable).each i v.here.low
+  type_is : WalkableType types members i
+  type_is = (sweepable_walkable v.sweepable).each i v.here.low
 
   -- the structure lies in the image as it now stands
-  pub sweep-here : Here types i base now
-  sweep-here = record { low = v.here.low; inside = omega (arith, v.here.inside, v.long) }
+  pub sweep_here : Here types i base now
+  sweep_here = record { low = v.here.low; inside = omega (arith, v.here.inside, v.long) }
 
   -- ---- a row
 
   module _ (l : k < count) where
     -- the next row is a row of the table
-    pub sweep-row : first + k < most_members
-    sweep-row = omega (arith, type-is.rows, v.first-is, v.count-is)
+    pub sweep_row : first + k < most_members
+    sweep_row = omega (arith, type_is.rows, v.first_row_is, v.count_is)
 
     abbrev more : ℕ
     more = v.left - 1
@@ -117,9 +118,9 @@ module _ {types members : List ℕ} {i : ℕ} {image : List ℕ} {base first cou
         ap (members_at members (first + k)) e
         ∙ ap (λ (row : ℕ). member_at members (first + k) ∷ members_at members row more) n
 
-    rows-stairs : Stairs (tree_in types members) (8 * sizes_in types i)
+    rows_stairs : Stairs (tree_in types members) (8 * sizes_in types i)
         (member_at members (first + k) ∷ members_at members (first + (k + 1)) more) (8 * c)
-    rows-stairs =
+    rows_stairs =
         subst (λ (ms : List Member). Stairs (tree_in types members) (8 * sizes_in types i) ms (8 * c)) rows_are
         v.stairs
 
@@ -133,24 +134,24 @@ module _ {types members : List ℕ} {i : ℕ} {image : List ℕ} {base first cou
         ∙ v.same
 
     -- a row that is not plain is passed
-    pub sweep-past : is_plain (member_at members (first + k)) ≡ false
+    pub sweep_past : is_plain (member_at members (first + k)) ≡ false
         → Sweeping types members i image base first count now c (k + 1)
-    sweep-past e =
+    sweep_past e =
         let ms : List Member = members_at members (first + (k + 1)) more in
         record {
           sweepable = v.sweepable;
           here = v.here;
-          first-is = v.first-is;
-          count-is = v.count-is;
+          first_row_is = v.first_row_is;
+          count_is = v.count_is;
           left = more;
           all = omega (arith, v.all, l);
           long = v.long;
           stairs =
-              stairs-past (tree_in types members) (8 * sizes_in types i) (8 * c) (member_at members (first + k)) ms e
-              rows-stairs;
+              stairs_past (tree_in types members) (8 * sizes_in types i) (8 * c) (member_at members (first + k)) ms e
+              rows_stairs;
           same =
               sym
-              (swept-past (tree_in types members) (8 * sizes_in types i) (8 * c) (member_at members (first + k)) ms e
+              (swept_past (tree_in types members) (8 * sizes_in types i) (8 * c) (member_at members (first + k)) ms e
               (8 * base) (flat now))
               ∙ rows_same;
         }
@@ -162,32 +163,32 @@ module _ {types members : List ℕ} {i : ℕ} {image : List ℕ} {base first cou
           × Stairs (tree_in types members) (8 * sizes_in types i) (members_at members (first + (k + 1)) more)
           (past_tree (tree_in types members) (member_at members (first + k))))
       after =
-          stairs-on (tree_in types members) (8 * sizes_in types i) (8 * c) (member_at members (first + k))
-          (members_at members (first + (k + 1)) more) e rows-stairs
+          stairs_on (tree_in types members) (8 * sizes_in types i) (8 * c) (member_at members (first + k))
+          (members_at members (first + (k + 1)) more) e rows_stairs
 
       -- a plain member in the next row begins at or after the byte swept up to
-      pub sweep-plain : PlainRow types members i (first + k) c
-      sweep-plain =
+      pub sweep_plain : PlainRow types members i (first + k) c
+      sweep_plain =
           record {
-            row_of = record { low = v.here.low; inside = sweep-row; within = within };
+            row_of = record { low = v.here.low; inside = sweep_row; within = within };
             plain = e;
             after = after.0;
           }
         where
           within : MemberWithin types i (sizes_in types i) (member_at members (first + k))
-          within = rw v.first-is (type-is.each k (omega (arith, l, v.count-is)))
+          within = rw v.first_row_is (type_is.each k (omega (arith, l, v.count_is)))
 
       -- a plain row is made normal, with what is before it cleared: one row more
-      pub sweep-on : {new : List ℕ} {r : ℕ}
+      pub sweep_on : {new : List ℕ} {r : ℕ}
           → OnwardTo (tree_in types members) base c (member_at members (first + k)) now new r → length new ≡ length now
           → Sweeping types members i image base first count new r (k + 1)
-      sweep-on {new} {r} o g =
+      sweep_on {new} {r} o g =
           let ms : List Member = members_at members (first + (k + 1)) more in
           record {
             sweepable = v.sweepable;
             here = v.here;
-            first-is = v.first-is;
-            count-is = v.count-is;
+            first_row_is = v.first_row_is;
+            count_is = v.count_is;
             left = more;
             all = omega (arith, v.all, l);
             long = g ∙ v.long;
@@ -196,7 +197,7 @@ module _ {types members : List ℕ} {i : ℕ} {image : List ℕ} {base first cou
             same =
                 ap₂ (swept (tree_in types members) (8 * base) (8 * sizes_in types i) ms) o.next o.bits
                 ∙ sym
-                (swept-on (tree_in types members) (8 * sizes_in types i) (8 * c) (member_at members (first + k)) ms e
+                (swept_on (tree_in types members) (8 * sizes_in types i) (8 * c) (member_at members (first + k)) ms e
                 (8 * base) (flat now))
                 ∙ rows_same;
           }
@@ -211,26 +212,27 @@ module _ {types members : List ℕ} {i : ℕ} {image : List ℕ} {base first cou
         ap (members_at members (first + k)) e
 
     -- after the last row the byte swept up to is at most the size
-    pub sweep-low : c ≤ sizes_in types i
+    pub sweep_low : c ≤ sizes_in types i
     unfolding Stairs
-    sweep-low =
+    sweep_low =
         let h : 8 * c ≤ 8 * sizes_in types i
         = subst (λ (ms : List Member). Stairs (tree_in types members) (8 * sizes_in types i) ms (8 * c)) none_left
         v.stairs in
         omega arith
 
     -- after the last row, with the rest cleared, the structure is swept
-    pub sweep-done : {new : List ℕ} {size : ℕ} → size ≡ sizes_in types i
+    pub sweep_done : {new : List ℕ} {size : ℕ} → size ≡ sizes_in types i
         → new ≡ sets now (base + c) (replicate (size - c) 0)
         → flat new
         ≡ swept (tree_in types members) (8 * base) (8 * sizes_in types i)
         (members_at members (type_at types i).first (type_at types i).count) 0 (flat image)
     unfolding swept
-    sweep-done {new} {size} e q =
+    sweep_done {new} {size} e q =
         let p : 8 * (base + c) ≡ 8 * base + 8 * c = omega arith in
         let n : 8 * (size - c) ≡ 8 * sizes_in types i - 8 * c = omega arith in
-        ap flat q ∙ zeros-cleared now (base + c) (size - c) (omega (arith, sweep-low, sweep-here.inside))
+        ap flat q ∙ zeros_cleared now (base + c) (size - c) (omega (arith, sweep_low, sweep_here.inside))
         ∙ ap₂ (λ (a b : ℕ). cleared a b (flat now)) p n
-        ∙ ap (λ (ms : List Member). swept (tree_in types members) (8 * base) (8 * sizes_in types i) ms (8 * c) (flat now))
+        ∙ ap (λ (ms : List Member). swept (tree_in types members) (8 * base) (8 * sizes_in types i) ms (8 * c)
+        (flat now))
         (sym none_left)
         ∙ v.same

@@ -9,23 +9,23 @@ use Rattle.types.specs.declared.tables.member.Ty.TheVariants as ty
 use Rattle.values.specs.inside.reading.Walk.{is_nested}
 
 -- a hidden row holds no visible structure
-pub nested-hidden : {m n : Member} → m ≡ n → m.hidden ≡ true → false ≡ is_nested n
+pub nested_hidden : {m n : Member} → m ≡ n → m.hidden ≡ true → false ≡ is_nested n
 unfolding is_nested
-nested-hidden e h = rw (← e, h)
+nested_hidden e h = rw (← e, h)
 
 -- a visible row with a bit holds no structure
-pub nested-bit : {m n : Member} {k : ℕ} → m ≡ n → m.hidden ≡ false → m.bit ≡ At k → false ≡ is_nested n
+pub nested_bit : {m n : Member} {k : ℕ} → m ≡ n → m.hidden ≡ false → m.bit ≡ At k → false ≡ is_nested n
 unfolding is_nested
-nested-bit e h b = rw (← e, h, b)
+nested_bit e h b = rw (← e, h, b)
 
 -- a visible row without a bit whose type is an atomic holds no structure
-pub nested-atomic : {m n : Member} {a : Atomic} → m ≡ n → m.hidden ≡ false → m.bit ≡ None → m.ty ≡ ty.Atomic a
+pub nested_atomic : {m n : Member} {a : Atomic} → m ≡ n → m.hidden ≡ false → m.bit ≡ None → m.ty ≡ ty.Atomic a
     → false ≡ is_nested n
 unfolding is_nested
-nested-atomic e h b t = rw (← e, h, b, t)
+nested_atomic e h b t = rw (← e, h, b, t)
 
 -- a visible row without a bit whose type is a structure holds a visible structure
-pub nested-struct : {m n : Member} {i : ℕ} → m ≡ n → m.hidden ≡ false → m.bit ≡ None → m.ty ≡ ty.Struct i
+pub nested_struct : {m n : Member} {i : ℕ} → m ≡ n → m.hidden ≡ false → m.bit ≡ None → m.ty ≡ ty.Struct i
     → true ≡ is_nested n
 unfolding is_nested
-nested-struct e h b t = rw (← e, h, b, t)
+nested_struct e h b t = rw (← e, h, b, t)

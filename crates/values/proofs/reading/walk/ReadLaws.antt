@@ -8,7 +8,6 @@ use mathlib.Core.List.{List, ◌∷◌}
 use lib.ListN.{length}
 use lib.Seq.{sets}
 use Rattle.types.specs.tables.Lent.{member_at, type_at}
-use Rattle.types.specs.tables.Limits.{most_types}
 use Rattle.types.specs.tables.Sizes.{sizes_in}
 use Rattle.types.specs.declared.tables.member.Member.{Member}
 use Rattle.types.specs.declared.tables.member.StructDef.{StructDef}
@@ -21,14 +20,14 @@ use Rattle.values.specs.reading.Trees.{is_string_kind}
 use Rattle.values.specs.stream.Stream.{Token, member, entry_bytes}
 use Rattle.values.specs.declared.reading.rows.Nested.{Nested}
 use Rattle.values.specs.declared.stream.place.Place.{Place}
-use Rattle.values.proofs.reading.LeafLaws.{textless-leaf}
-use Rattle.values.proofs.reading.MemberLaws.{nested-shown, member-leaf, row_of}
-use Rattle.values.proofs.reading.PartLaws.{lent, element-fits, element-image, element-is, HeldRow, one-image}
-use Rattle.values.proofs.reading.PartLaws.{one-is, some-images, some_is}
-use Rattle.values.proofs.reading.WalkLaws.{struct-out}
-use Rattle.values.proofs.stream.LayingLaws.{room-one, room-all, room_as, wrote_as, value_room, value-wrote}
-use Rattle.values.proofs.stream.LayingLaws.{EntriesRun, run-start, run_room, run-turn, run_end}
-use Rattle.values.proofs.stream.PutLaws.{put-wrote}
+use Rattle.values.proofs.reading.LeafLaws.{textless_leaf}
+use Rattle.values.proofs.reading.MemberLaws.{nested_shown, member_leaf, row_of}
+use Rattle.values.proofs.reading.PartLaws.{lent, element_fits, element_image, element_is, HeldRow, one_image}
+use Rattle.values.proofs.reading.PartLaws.{one_is, some_images, some_is}
+use Rattle.values.proofs.reading.WalkLaws.{struct_out_lem}
+use Rattle.values.proofs.stream.LayingLaws.{room_one, room_all, room_as, wrote_as, value_room, value_wrote}
+use Rattle.values.proofs.stream.LayingLaws.{EntriesRun, run_start, run_room, run_turn, run_end}
+use Rattle.values.proofs.stream.PutLaws.{put_wrote}
 
 -- ---- a structure, where d was read from its row
 
@@ -38,43 +37,43 @@ module _ {types members : List ℕ} (w : Walkable types members) {i : ℕ} {imag
       ≡ cond b (text_out (capacity_at members d.first) image)
       (members_by types members (struct_out types members) i image)
   unfolding struct_by
-  struct_is = struct-out types members w i image whole.low ∙ rw (test, is)
+  struct_is = struct_out_lem types members w i image whole.low ∙ rw (test, is)
 
   -- a structure that is no string gives its members
-  pub members-are : b ≡ false
+  pub members_are : b ≡ false
       → struct_out types members i image ≡ members_by types members (struct_out types members) i image
-  members-are e = struct_is ∙ rw e
+  members_are e = struct_is ∙ rw e
 
   module _ (string : b ≡ true) {first : ℕ} (p : first ≡ d.first) where
-    type-string : IsString members (type_at types i)
-    type-string =
+    type_string : IsString members (type_at types i)
+    type_string =
         (w.each i whole.low).string (ap (λ (x : StructDef). is_string_kind x.kind) (sym is) ∙ sym test ∙ string)
 
-    first-is : first ≡ (type_at types i).first
-    first-is = p ∙ ap (λ (x : StructDef). x.first) is
+    first_row_is : first ≡ (type_at types i).first
+    first_row_is = p ∙ ap (λ (x : StructDef). x.first) is
 
     -- its second row is in the table
-    pub string-rows : first < 1999
-    string-rows = omega (arith, first-is, (w.each i whole.low).rows, type-string.rows)
+    pub string_rows : first < 1999
+    string_rows = omega (arith, first_row_is, (w.each i whole.low).rows, type_string.rows)
 
     module _ {capacity : ℕ} (q : capacity ≡ capacity_at members first) where
       -- LEN and a string's capacity lie in its image
-      pub string-fits : 4 + capacity ≤ length image
-      string-fits =
-          let e : capacity ≡ capacity_at members (type_at types i).first = q ∙ ap (capacity_at members) first-is in
-          omega (arith, whole.long, type-string.size)
+      pub string_fits : 4 + capacity ≤ length image
+      string_fits =
+          let e : capacity ≡ capacity_at members (type_at types i).first = q ∙ ap (capacity_at members) first_row_is in
+          omega (arith, whole.long, type_string.size)
 
       -- a string gives its text
-      pub string-is : struct_out types members i image ≡ text_out capacity image
-      string-is = struct_is ∙ rw (string, q, p)
+      pub string_is : struct_out types members i image ≡ text_out capacity image
+      string_is = struct_is ∙ rw (string, q, p)
 
 -- ---- its members
 
 -- the open bracket has room
-pub members-room : (types members : List ℕ) (rec : ℕ → List ℕ → List Token) (i : ℕ) (image : List ℕ)
+pub members_room : (types members : List ℕ) (rec : ℕ → List ℕ → List Token) (i : ℕ) (image : List ℕ)
     {long base at text : ℕ} → StreamRoom long base at text (members_by types members rec i image) → at + 12 ≤ long
 unfolding members_by
-members-room types members rec i image r = (room-one r).0
+members_room types members rec i image r = (room_one r).0
 
 rows_are : (types members : List ℕ) (rec : ℕ → List ℕ → List Token) (i : ℕ) (image : List ℕ) {first n : ℕ}
     {d : StructDef} → d ≡ type_at types i → first ≡ d.first → n ≡ d.count
@@ -100,7 +99,7 @@ module _ {types members image : List ℕ} {i first n : ℕ} {d : StructDef} (is 
   rows_start w whole =
       let e = rows_are types members (struct_out types members) i image is f c in
       record {
-        run = run-start out (room_as e room) put;
+        run = run_start out (room_as e room) put;
         walk = w;
         whole = whole;
         rows = λ k h.
@@ -125,7 +124,7 @@ module _ {types members image out new : List ℕ} {i first n base at text j p t 
       (member_by types members (struct_out types members) j (member_at members (first + j)) image)
       last r
       → RowsRead types members i image first n out base at text (j + 1) last r.at r.text
-  on v = record { run = run-turn w.run h v; walk = w.walk; whole = w.whole; rows = w.rows }
+  on v = record { run = run_turn w.run h v; walk = w.walk; whole = w.whole; rows = w.rows }
 
   -- row j is a structure, or an array of structures
   module _ (nested : b ≡ true) where
@@ -137,38 +136,38 @@ module _ {types members image out new : List ℕ} {i first n base at text j p t 
         ((w.walk, (record { row_of = w.rows j h; nested = sym test ∙ nested }, w.whole)), run_room w.run h)
 
     -- a nested row is written: one row more
-    pub nested-on : {last : List ℕ} {r : Place}
+    pub nested_on : {last : List ℕ} {r : Place}
         → TokensLaid new base p t
         (member_by types members (struct_out types members) j (member_at members (first + j)) image)
         last r
         → RowsRead types members i image first n out base at text (j + 1) last r.at r.text
-    nested-on v = on v
+    nested_on v = on v
 
   -- it is neither
   module _ (leaf : b ≡ false) where
-    row-leaf : member_by types members (struct_out types members) j (member_at members (first + j)) image
+    row_leaf : member_by types members (struct_out types members) j (member_at members (first + j)) image
         ≡ leaf_out j (member_at members (first + j)) image
-    row-leaf =
-        member-leaf types members (struct_out types members) j (member_at members (first + j)) image (sym test ∙ leaf)
+    row_leaf =
+        member_leaf types members (struct_out types members) j (member_at members (first + j)) image (sym test ∙ leaf)
 
     -- a row that is no structure, in its turn: the row and the image are right, and it has room
-    pub leaf-asks : (RowOf types members i (first + j) × ImageOf types i image)
+    pub leaf_asks : (RowOf types members i (first + j) × ImageOf types i image)
         × (p + 12 * length (leaf_out j (member_at members (first + j)) image) ≤ length new)
-    leaf-asks = ((w.rows j h, w.whole), room-all (room_as row-leaf (run_room w.run h)))
+    leaf_asks = ((w.rows j h, w.whole), room_all (room_as row_leaf (run_room w.run h)))
 
     -- a row that is no structure is put: one row more
-    pub leaf-on : {last : List ℕ} {r : ℕ} → EntriesPut new p (leaf_out j (member_at members (first + j)) image) last r
+    pub leaf_on : {last : List ℕ} {r : ℕ} → EntriesPut new p (leaf_out j (member_at members (first + j)) image) last r
         → RowsRead types members i image first n out base at text (j + 1) last r t
-    leaf-on v = on (wrote_as row-leaf (put-wrote base t (textless-leaf j image _) v))
+    leaf_on v = on (wrote_as row_leaf (put_wrote base t (textless_leaf j image _) v))
 
 -- ---- a structure, or an array of structures, in a row
 
 -- where a nested row's entries have room, its number has
-pub nested-room : (types members : List ℕ) (rec : ℕ → List ℕ → List Token) (j : ℕ) (x : Member) (image : List ℕ)
+pub nested_room : (types members : List ℕ) (rec : ℕ → List ℕ → List Token) (j : ℕ) (x : Member) (image : List ℕ)
     {long base at text : ℕ} → is_nested x ≡ true → StreamRoom long base at text (member_by types members rec j x image)
     → at + 12 ≤ long
 unfolding member_by
-nested-room types members rec j x image e r = (room-one (rw (nested-shown x e) at r)).0
+nested_room types members rec j x image e r = (room_one (rw (nested_shown x e) at r)).0
 
 -- its number is put
 pub record Nesting (types members : List ℕ) (i row j : ℕ) (image out : List ℕ) (base at text : ℕ) (mid : List ℕ)
@@ -200,31 +199,31 @@ module _ {types members : List ℕ} {i row j : ℕ} {image out : List ℕ} {base
 
   module _ (none : r.count ≡ 0) where
     one : all ≡ member j ∷ struct
-    one = sym (one-is w.held none (struct_out types members) j)
+    one = sym (one_is w.held none (struct_out types members) j)
 
     -- one structure in a row: its bytes are an image of it, and it has room after the number
-    pub one-asks : (Walkable types members × ImageOf types r.structure alone)
+    pub one_asks : (Walkable types members × ImageOf types r.structure alone)
         × StreamRoom (length mid) base (at + 12) text struct
-    one-asks = ((w.walk, one-image w.held none), value_room out (room_as one w.room) w.put)
+    one_asks = ((w.walk, one_image w.held none), value_room out (room_as one w.room) w.put)
 
     -- one structure in a row: the number and then the structure are written, the whole member
-    pub one-wrote : {new : List ℕ} {p : Place} → TokensLaid mid base (at + 12) text struct new p
+    pub one_wrote : {new : List ℕ} {p : Place} → TokensLaid mid base (at + 12) text struct new p
         → TokensLaid out base at text all new p
-    one-wrote v = wrote_as one (value-wrote out (room_as one w.room) w.put v)
+    one_wrote v = wrote_as one (value_wrote out (room_as one w.room) w.put v)
 
   module _ (many : r.count ≡ 0 → ⊥) where
     some : all ≡ member j ∷ elements
     some = sym (some_is w.held many (struct_out types members) j)
 
     -- an array of structures in a row: its bytes are an image of them, and it has room after the number
-    pub some-asks : (Walkable types members × ImagesOf types r.structure r.count together)
+    pub some_asks : (Walkable types members × ImagesOf types r.structure r.count together)
         × StreamRoom (length mid) base (at + 12) text elements
-    some-asks = ((w.walk, some-images w.held many), value_room out (room_as some w.room) w.put)
+    some_asks = ((w.walk, some_images w.held many), value_room out (room_as some w.room) w.put)
 
     -- an array of structures in a row: the number and then the array are written, the whole member
-    pub some-wrote : {new : List ℕ} {p : Place} → TokensLaid mid base (at + 12) text elements new p
+    pub some_wrote : {new : List ℕ} {p : Place} → TokensLaid mid base (at + 12) text elements new p
         → TokensLaid out base at text all new p
-    some-wrote v = wrote_as some (value-wrote out (room_as some w.room) w.put v)
+    some_wrote v = wrote_as some (value_wrote out (room_as some w.room) w.put v)
 
 -- ---- an array of structures
 
@@ -238,47 +237,47 @@ pub record ElementsRead (types members : List ℕ) (i n : ℕ) (image : List ℕ
   pub long : size ≡ sizes_in types i
 
 -- the open bracket has room
-pub elements-room : (types members : List ℕ) (rec : ℕ → List ℕ → List Token) (i n : ℕ) (image : List ℕ)
+pub elements_room : (types members : List ℕ) (rec : ℕ → List ℕ → List Token) (i n : ℕ) (image : List ℕ)
     {long base at text : ℕ} → StreamRoom long base at text (elements_by types members rec i n image) → at + 12 ≤ long
 unfolding elements_by
-elements-room types members rec i n image r = (room-one r).0
+elements_room types members rec i n image r = (room_one r).0
 
 module _ {types members image : List ℕ} {i n : ℕ} (out : List ℕ) {mid : List ℕ} {base at text : ℕ}
     (room : StreamRoom (length out) base at text (elements_by types members (struct_out types members) i n image))
     (put : mid ≡ sets out at (entry_bytes 10 0)) where
   -- the open bracket is put, and no element is written yet
-  pub elements-start : {size : ℕ} → Walkable types members → ImagesOf types i n image → size ≡ sizes_in types i
+  pub elements_start : {size : ℕ} → Walkable types members → ImagesOf types i n image → size ≡ sizes_in types i
       → ElementsRead types members i n image size mid base (at + 12) text 0 mid (at + 12) text
   unfolding elements_by
-  elements-start w whole z = record { run = run-start out room put; walk = w; whole = whole; long = z }
+  elements_start w whole z = record { run = run_start out room put; walk = w; whole = whole; long = z }
 
   -- all elements are written and the close bracket is put: the array
-  pub elements-end : {size k p t : ℕ} {new last : List ℕ}
+  pub elements_end : {size k p t : ℕ} {new last : List ℕ}
       → ElementsRead types members i n image size mid base (at + 12) text k new p t → n ≤ k
       → last ≡ sets new p (entry_bytes 11 0)
       → TokensLaid out base at text (elements_by types members (struct_out types members) i n image) last
       (record { at = p + 12; text = t })
   unfolding elements_by
-  elements-end w h e = run_end room put w.run h e
+  elements_end w h e = run_end room put w.run h e
 
 module _ {types members image out new : List ℕ} {i n size base at text k p t : ℕ}
     (w : ElementsRead types members i n image size out base at text k new p t) (h : k < n) where
   -- the next element lies in the image
-  pub element-inside : size * k + size ≤ length image
-  element-inside = element-fits w.whole w.long k h
+  pub element_inside : size * k + size ≤ length image
+  element_inside = element_fits w.whole w.long k h
 
   element : element_by types members (struct_out types members) i image k
       ≡ struct_out types members i (lent image (size * k) (size * k + size))
-  element = sym (element-is w.whole w.long members (struct_out types members) k)
+  element = sym (element_is w.whole w.long members (struct_out types members) k)
 
   -- the next element: its bytes are an image of its structure, and it has room
-  pub element-asks : (Walkable types members × ImageOf types i (lent image (size * k) (size * k + size)))
+  pub element_asks : (Walkable types members × ImageOf types i (lent image (size * k) (size * k + size)))
       × StreamRoom (length new) base p t (struct_out types members i (lent image (size * k) (size * k + size)))
-  element-asks = ((w.walk, element-image w.whole w.long k h), room_as element (run_room w.run h))
+  element_asks = ((w.walk, element_image w.whole w.long k h), room_as element (run_room w.run h))
 
   -- the next element is written: one element more
-  pub element-on : {last : List ℕ} {r : Place}
+  pub element_on : {last : List ℕ} {r : Place}
       → TokensLaid new base p t (struct_out types members i (lent image (size * k) (size * k + size))) last r
       → ElementsRead types members i n image size out base at text (k + 1) last r.at r.text
-  element-on v =
-      record { run = run-turn w.run h (wrote_as element v); walk = w.walk; whole = w.whole; long = w.long }
+  element_on v =
+      record { run = run_turn w.run h (wrote_as element v); walk = w.walk; whole = w.whole; long = w.long }

@@ -16,13 +16,13 @@ use Rattle.values.specs.reading.Tree.{Tree, array, span}
 use Rattle.values.specs.stream.Form.{stream_ok}
 use Rattle.values.specs.stream.Stream.{Token}
 use Rattle.values.specs.writing.Writing.{Outcome, opened, elements, write}
-use Rattle.values.proofs.reading.SpanLaws.{tree-span}
+use Rattle.values.proofs.reading.SpanLaws.{tree_span}
 use Rattle.values.proofs.stream.LeftLaws.{EntryThere}
-use Rattle.values.proofs.writing.ApplyLaws.{Setting, accepted-as, accepted-first, applied-as, setting-from}
-use Rattle.values.proofs.writing.ApplyLaws.{setting-on, setting-then, opened-there, opened-kept, opened-set}
-use Rattle.values.proofs.writing.ApplyLaws.{elements-there, elements-closed, elements-end}
-use Rattle.values.proofs.writing.OutcomeLaws.{in_array, array-opens}
-use Rattle.values.proofs.writing.StepLaws.{elements-go}
+use Rattle.values.proofs.writing.ApplyLaws.{Setting, accepted_as, accepted_first, applied_as, setting_from}
+use Rattle.values.proofs.writing.ApplyLaws.{setting_on, setting_then, opened_there, opened_kept, opened_set}
+use Rattle.values.proofs.writing.ApplyLaws.{elements_there, elements_closed, elements_end}
+use Rattle.values.proofs.writing.OutcomeLaws.{in_array, array_opens}
+use Rattle.values.proofs.writing.StepLaws.{elements_go}
 
 -- ---- an array of structures
 
@@ -41,23 +41,23 @@ module _ {types members : List ℕ} {i count : ℕ} {s : List ℕ} {k : ℕ} {im
 
   opens : write (array count (tree_in types members i)) (8 * base) (left_at s k) (flat image)
       ≡ opened 10 inner (left_at s k) (flat image)
-  opens = array-opens count (tree_in types members i) (8 * base) (left_at s k) (flat image)
+  opens = array_opens count (tree_in types members i) (8 * base) (left_at s k) (flat image)
 
   -- an accepted array has its entry
-  pub array-there : EntryThere s k
-  array-there = opened-there w.form 10 inner (flat image) (accepted-as opens w.set)
+  pub array_there : EntryThere s k
+  array_there = opened_there w.form 10 inner (flat image) (accepted_as opens w.set)
 
   -- null for the whole array keeps what stands
-  pub array-null : first_kind (left_at s k) ≡ 0
+  pub array_null : first_kind (left_at s k) ≡ 0
       → Applied s k (k + 1) image image (write (array count (tree_in types members i)) (8 * base) (left_at s k))
-  array-null e = applied-as opens (opened-kept w.form 10 inner array-there e)
+  array_null e = applied_as opens (opened_kept w.form 10 inner array_there e)
 
-  array-set : (first_kind (left_at s k) ≡ 0 → ⊥)
+  array_set : (first_kind (left_at s k) ≡ 0 → ⊥)
       → Setting s k image (write (array count (tree_in types members i)) (8 * base) (left_at s k)) (k + 1) image
       (inner (left_at s (k + 1)))
-  array-set n =
-      setting-on (setting-from (omega arith) refl opens w.set)
-      (opened-set w.form 10 inner array-there n (accepted-as opens w.set))
+  array_set n =
+      setting_on (setting_from (omega arith) refl opens w.set)
+      (opened_set w.form 10 inner array_there n (accepted_as opens w.set))
 
 -- the elements before element e are set, up to entry p; so many are left
 pub record ElementsSet (types members : List ℕ) (i count : ℕ) (s : List ℕ) (k : ℕ) (image : List ℕ) (base size p e : ℕ)
@@ -79,10 +79,10 @@ pub record ElementNext (types members : List ℕ) (i count : ℕ) (s : List ℕ)
       → ElementsSet types members i count s k image base size r (e + 1) new
 
 -- after the opening no element is set yet
-pub elements-start : {types members : List ℕ} {i count : ℕ} {s : List ℕ} {k : ℕ} {image : List ℕ} {base size : ℕ}
+pub elements_start : {types members : List ℕ} {i count : ℕ} {s : List ℕ} {k : ℕ} {image : List ℕ} {base size : ℕ}
     → ElementsAsked types members i count s k image base → (first_kind (left_at s k) ≡ 0 → ⊥) → size ≡ sizes_in types i
     → ElementsSet types members i count s k image base size (k + 1) 0 image
-elements-start {types} {members} {i} {count} {s} {k} {image} {base} {size} w n z =
+elements_start {types} {members} {i} {count} {s} {k} {image} {base} {size} w n z =
     let e : 8 * base ≡ 8 * (base + size * 0) = omega arith in
     record {
       asked = w;
@@ -91,7 +91,7 @@ elements-start {types} {members} {i} {count} {s} {k} {image} {base} {size} w n z
       all = omega arith;
       setting = subst
           (λ (q : ℕ). Setting s k image (write (array count (tree_in types members i)) (8 * base) (left_at s k)) (k + 1)
-          image (in_array count (tree_in types members i) q (left_at s (k + 1)))) e (array-set w n);
+          image (in_array count (tree_in types members i) q (left_at s (k + 1)))) e (array_set w n);
     }
 
 module _ {types members : List ℕ} {i count : ℕ} {s : List ℕ} {k : ℕ} {image : List ℕ} {base size p e : ℕ}
@@ -103,29 +103,29 @@ module _ {types members : List ℕ} {i count : ℕ} {s : List ℕ} {k : ℕ} {im
   place = 8 * (base + size * e)
 
   -- the next entry of the accepted elements is there
-  pub element-there : EntryThere s p
-  element-there =
-      elements-there v.asked.form v.left (write tree) (span tree) place (flat now) v.setting.taken
+  pub element_there : EntryThere s p
+  element_there =
+      elements_there v.asked.form v.left (write tree) (span tree) place (flat now) v.setting.taken
 
   -- at the close the array is set
-  pub elements-close : first_kind (left_at s p) ≡ 11
+  pub elements_close : first_kind (left_at s p) ≡ 11
       → Applied s k (p + 1) image now (write (array count tree) (8 * base) (left_at s k))
-  elements-close h =
+  elements_close h =
       v.setting.onward (p + 1) now
-      (elements-closed v.asked.form (write tree) (span tree) element-there v.left place h)
+      (elements_closed v.asked.form (write tree) (span tree) element_there v.left place h)
 
   -- past the last place the whole array is set
-  pub elements-done : count ≤ e → Applied s k (p + 1) image now (write (array count tree) (8 * base) (left_at s k))
-  elements-done l =
+  pub elements_done : count ≤ e → Applied s k (p + 1) image now (write (array count tree) (8 * base) (left_at s k))
+  elements_done l =
       let none : v.left ≡ 0 = omega (arith, v.all) in
       let h : accepted (elements 0 (write tree) (span tree) place (left_at s p) (flat now)) ≡ true
       = rw none at v.setting.taken in
-      elements-close (elements-end v.asked.form (write tree) (span tree) element-there place now h)
+      elements_close (elements_end v.asked.form (write tree) (span tree) element_there place now h)
 
   module _ (l : e < count) where
     -- its bytes lie in the image
-    pub element-inside : base + size * e + size ≤ length image
-    element-inside =
+    pub element_inside : base + size * e + size ≤ length image
+    element_inside =
         let h : size * e + size ≤ size * count = subst (◌≤ size * count) (mul-suc size e) (mul-le-mul_left size l) in
         let q : size * count ≡ sizes_in types i * count = ap (λ (z : ℕ). z * count) v.long in
         omega (arith, v.asked.here.inside)
@@ -133,7 +133,7 @@ module _ {types members : List ℕ} {i count : ℕ} {s : List ℕ} {k : ℕ} {im
     next_place : place + span tree ≡ 8 * (base + size * (e + 1))
     next_place =
         let a : size * (e + 1) ≡ size * e + size = mul-add size e 1 ∙ ap (size * e +◌) (mul-one size) in
-        omega (arith, tree-span types members v.asked.walk i v.asked.here.low, v.long)
+        omega (arith, tree_span types members v.asked.walk i v.asked.here.low, v.long)
 
     -- where a place is left, an entry that is no close is an element's
     pub element : (first_kind (left_at s p) ≡ 11 → ⊥) → ElementNext types members i count s k image base size p e now
@@ -145,15 +145,15 @@ module _ {types members : List ℕ} {i count : ℕ} {s : List ℕ} {k : ℕ} {im
             → ElementNext types members i count s k image base size p e now
         go zero a t = absurd (let x : ⊥ = omega arith in x)
         go (suc left) a t =
-            let step = elements-go v.asked.form (write tree) (span tree) left place element-there n (flat now) in
+            let step = elements_go v.asked.form (write tree) (span tree) left place element_there n (flat now) in
             record {
               here = record {
                 low = v.asked.here.low;
-                inside = omega (arith, element-inside, v.setting.long, v.long);
+                inside = omega (arith, element_inside, v.setting.long, v.long);
               };
               set =
-                  accepted-first (write tree place (left_at s p) (flat now))
-                  (elements left (write tree) (span tree) (place + span tree)) (accepted-as step t.taken);
+                  accepted_first (write tree place (left_at s p) (flat now))
+                  (elements left (write tree) (span tree) (place + span tree)) (accepted_as step t.taken);
               on = λ r new d.
                   record {
                     asked = v.asked;
@@ -164,7 +164,7 @@ module _ {types members : List ℕ} {i count : ℕ} {s : List ℕ} {k : ℕ} {im
                         subst
                         (λ (q : ℕ). Setting s k image (write (array count tree) (8 * base) (left_at s k)) r new
                         (in_array left tree q (left_at s r))) next_place
-                        (setting-on t
-                        (setting-then (elements left (write tree) (span tree) (place + span tree)) step t.taken d));
+                        (setting_on t
+                        (setting_then (elements left (write tree) (span tree) (place + span tree)) step t.taken d));
                   };
             }

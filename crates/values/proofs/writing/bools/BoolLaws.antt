@@ -8,12 +8,12 @@ use mathlib.Core.List.{List}
 use lib.Dec.{eqb}
 use lib.ListN.{get_or, length, length-set, set}
 use Rattle.words.specs.Bits.{Bits, bit_of, digit, flat, from, stamp, val}
-use Rattle.words.proofs.BitLaws.{bit_val, flat-set, digit-is}
-use Rattle.words.proofs.StampLaws.{stamp-ext, stamp-none, stamp-two, flat-bit}
+use Rattle.words.proofs.BitLaws.{bit_val, flat_set, digit_is}
+use Rattle.words.proofs.StampLaws.{stamp_ext, stamp_none, stamp_two}
 use Rattle.values.specs.inside.writing.Bools.{AtLeast, Bools, truths}
 use Rattle.values.specs.inside.writing.Passes.{Applied, left_at}
 use Rattle.values.specs.writing.Writing.{bools_in}
-use Rattle.values.proofs.writing.bools.BoolRuns.{Accepts, bools-run, later, least-few, run-byte, truths-from}
+use Rattle.values.proofs.writing.bools.BoolRuns.{Accepts, bools_run, later, least_few, run_byte, truths_from}
 
 -- ---- eight bools as a byte
 
@@ -32,12 +32,12 @@ pub record EightBytes (s : List ℕ) (at : ℕ) : Type 0 where
 
 module _ {s : List ℕ} {k : ℕ} (r : AtLeast s k 8) where
   byte_at : (i at : ℕ) → i < 8 → 8 + 12 * (k + i) ≡ at → get_or s at 0 < 2
-  byte_at i at l e = rw e at (run-byte r.run i (omega (arith, r.enough)))
+  byte_at i at l e = rw e at (run_byte r.run i (omega (arith, r.enough)))
 
   -- the first eight bools of a run of at least eight have their bytes in the stream, each 0 or 1
-  pub eight-bytes : EightBytes s (8 + 12 * k)
-  eight-bytes =
-      let few = least-few r in
+  pub eight_bytes : EightBytes s (8 + 12 * k)
+  eight_bytes =
+      let few = least_few r in
       record {
         long = omega arith;
         small = omega arith;
@@ -51,12 +51,12 @@ module _ {s : List ℕ} {k : ℕ} (r : AtLeast s k 8) where
         b7 = byte_at 7 (8 + 12 * k + 84) (omega arith) (omega arith);
       }
 
-  truth-at : (i at : ℕ) → i < 8 → 8 + 12 * (k + i) ≡ at → digit (truths s k i) ≡ get_or s at 0
+  truth_at : (i at : ℕ) → i < 8 → 8 + 12 * (k + i) ≡ at → digit (truths s k i) ≡ get_or s at 0
   unfolding truths
-  truth-at i at l e = rw e (digit-is (get_or s at 0) (byte_at i at l e))
+  truth_at i at l e = rw e (digit_is (get_or s at 0) (byte_at i at l e))
 
   -- the sum that code makes of them
-  pub eight-val :
+  pub eight_val :
       get_or s (8 + 12 * k) 0 + 2 * get_or s (8 + 12 * k + 12) 0 + 4 * get_or s (8 + 12 * k + 24) 0
       + 8 * get_or s (8 + 12 * k + 36) 0
       + 16 * get_or s (8 + 12 * k + 48) 0
@@ -65,15 +65,15 @@ module _ {s : List ℕ} {k : ℕ} (r : AtLeast s k 8) where
       + 128 * get_or s (8 + 12 * k + 84) 0
       ≡ val 8 (truths s k)
   unfolding val
-  eight-val =
-      let d0 = truth-at 0 (8 + 12 * k) (omega arith) (omega arith) in
-      let d1 = truth-at 1 (8 + 12 * k + 12) (omega arith) (omega arith) in
-      let d2 = truth-at 2 (8 + 12 * k + 24) (omega arith) (omega arith) in
-      let d3 = truth-at 3 (8 + 12 * k + 36) (omega arith) (omega arith) in
-      let d4 = truth-at 4 (8 + 12 * k + 48) (omega arith) (omega arith) in
-      let d5 = truth-at 5 (8 + 12 * k + 60) (omega arith) (omega arith) in
-      let d6 = truth-at 6 (8 + 12 * k + 72) (omega arith) (omega arith) in
-      let d7 = truth-at 7 (8 + 12 * k + 84) (omega arith) (omega arith) in
+  eight_val =
+      let d0 = truth_at 0 (8 + 12 * k) (omega arith) (omega arith) in
+      let d1 = truth_at 1 (8 + 12 * k + 12) (omega arith) (omega arith) in
+      let d2 = truth_at 2 (8 + 12 * k + 24) (omega arith) (omega arith) in
+      let d3 = truth_at 3 (8 + 12 * k + 36) (omega arith) (omega arith) in
+      let d4 = truth_at 4 (8 + 12 * k + 48) (omega arith) (omega arith) in
+      let d5 = truth_at 5 (8 + 12 * k + 60) (omega arith) (omega arith) in
+      let d6 = truth_at 6 (8 + 12 * k + 72) (omega arith) (omega arith) in
+      let d7 = truth_at 7 (8 + 12 * k + 84) (omega arith) (omega arith) in
       omega arith
 
 -- ---- bools set in an image
@@ -85,13 +85,13 @@ pub record BoolsSet (s : List ℕ) (k p : ℕ) (image : List ℕ) (n : ℕ) (new
 
 -- before the first bool the image is as it was
 pub laid_none : {s : List ℕ} {k p : ℕ} {image : List ℕ} {n : ℕ} → n ≡ 0 → BoolsSet s k p image n image
-laid_none {s} {k} {p} {image} {n} e = record { long = refl; bits = rw e (sym (stamp-none p (truths s k) (flat image))) }
+laid_none {s} {k} {p} {image} {n} e = record { long = refl; bits = rw e (sym (stamp_none p (truths s k) (flat image))) }
 
 -- where the first n bools are set, the n bits from p on are theirs
-pub laid-all : {s : List ℕ} {k p : ℕ} {image : List ℕ} {m : ℕ} {new : List ℕ} {n : ℕ} → BoolsSet s k p image m new
+pub laid_all : {s : List ℕ} {k p : ℕ} {image : List ℕ} {m : ℕ} {new : List ℕ} {n : ℕ} → BoolsSet s k p image m new
     → m ≡ n
     → flat new ≡ stamp p n (truths s k) (flat image)
-laid-all {n} a e = rw e at a.bits
+laid_all {n} a e = rw e at a.bits
 
 -- and some more
 laid_more : {s : List ℕ} {k p : ℕ} {image : List ℕ} {m : ℕ} {new : List ℕ} (q n : ℕ) (b : Bits) (newer : List ℕ)
@@ -101,26 +101,26 @@ laid_more : {s : List ℕ} {k p : ℕ} {image : List ℕ} {m : ℕ} {new : List 
 laid_more {s} {k} {p} {image} {m} {new} q n b newer sum a e f long h g =
     record {
       long = long ∙ a.long;
-      bits = h ∙ stamp-ext q n b (from m (truths s k)) (flat new) g
+      bits = h ∙ stamp_ext q n b (from m (truths s k)) (flat new) g
           ∙ ap (stamp q n (from m (truths s k))) a.bits
-          ∙ rw (e, f) (stamp-two p m n (truths s k) (flat image));
+          ∙ rw (e, f) (stamp_two p m n (truths s k) (flat image));
     }
 
 -- where a byte of eight bools is stored, eight bools more are set
-pub laid-byte : {s : List ℕ} {k : ℕ} {image new : List ℕ} (base b : ℕ) {x : ℕ}
+pub laid_byte : {s : List ℕ} {k : ℕ} {image new : List ℕ} (base b : ℕ) {x : ℕ}
     → BoolsSet s k (8 * base) image (8 * b) new → base + b < length new → x ≡ val 8 (truths s (k + 8 * b))
     → BoolsSet s k (8 * base) image (8 * (b + 1)) (set new (base + b) x)
-laid-byte {s} {k} {image} {new} base b {x} a l e =
+laid_byte {s} {k} {image} {new} base b {x} a l e =
     laid_more (8 * (base + b)) 8 (bit_of x) (set new (base + b) x) (8 * (b + 1)) a (omega arith) (omega arith)
-    (length-set new (base + b) x) (flat-set new (base + b) x l)
-    (λ i h. ap (λ y. bit_of y i) e ∙ bit_val 8 (truths s (k + 8 * b)) i h ∙ truths-from s k (8 * b) i)
+    (length-set new (base + b) x) (flat_set new (base + b) x l)
+    (λ i h. ap (λ y. bit_of y i) e ∙ bit_val 8 (truths s (k + 8 * b)) i h ∙ truths_from s k (8 * b) i)
 
 -- where the bit of a bool is stored, one bool more is set
-pub laid-bit : {s : List ℕ} {k : ℕ} {image new : List ℕ} {newer : List ℕ} (at j : ℕ) {v : Bool}
+pub laid_bit : {s : List ℕ} {k : ℕ} {image new : List ℕ} {newer : List ℕ} (at j : ℕ) {v : Bool}
     → BoolsSet s k (8 * at) image j new → length newer ≡ length new
     → flat newer ≡ stamp (8 * at + j) 1 (λ i. v) (flat new) → v ≡ eqb (get_or s (8 + 12 * (k + j)) 0) 1
     → BoolsSet s k (8 * at) image (j + 1) newer
-laid-bit {s} {k} {image} {new} {newer} at j {v} a long e t =
+laid_bit {s} {k} {image} {new} {newer} at j {v} a long e t =
     laid_more (8 * at + j) 1 (λ i. v) newer (j + 1) a refl refl long e (λ i h. t ∙ same i h)
   where
     same : (i : ℕ) → i < 1 → eqb (get_or s (8 + 12 * (k + j)) 0) 1 ≡ truths s k (j + i)
@@ -137,15 +137,15 @@ pub record Parts (s : List ℕ) (k : ℕ) (image : List ℕ) (base m : ℕ) : Ty
   pub last : 0 < m % 8 → base + m / 8 < length image
 
 -- an accepted array of bools is whole bytes and the bits of one more, and they lie in the image
-pub parts-of : {s : List ℕ} {k : ℕ} {image : List ℕ} {base : ℕ} (b : Bools s k image base) {m : ℕ}
-    → m ≡ (bools-run b).many → Parts s k image base m
-parts-of {s} {k} {image} {base} b {m} e =
-    let a = bools-run b in
+pub parts_of : {s : List ℕ} {k : ℕ} {image : List ℕ} {base : ℕ} (b : Bools s k image base) {m : ℕ}
+    → m ≡ (bools_run b).many → Parts s k image base m
+parts_of {s} {k} {image} {base} b {m} e =
+    let a = bools_run b in
     let all : AtLeast s k m = record { many = a.many; run = a.run; enough = omega arith } in
     let bits : m ≤ 8 * b.bytes = omega (arith, a.few) in
     let room = b.room in
     record {
-      small = (least-few all).small;
+      small = (least_few all).small;
       whole = record { many = a.many; run = a.run; enough = omega arith };
       room = omega arith;
       few = later all (8 * (m / 8)) (m % 8) (omega arith);
@@ -160,13 +160,13 @@ pub laid_both : {s : List ℕ} {k : ℕ} {image newer : List ℕ} (new : List �
     → BoolsSet s k (8 * base) image m newer
 laid_both {s} {k} {image} {newer} new base {m} long e more f =
     laid_more (8 * (base + m / 8)) (m % 8) (truths s (k + 8 * (m / 8))) newer m (record { long = long; bits = e })
-    (omega arith) (omega arith) more f (λ i l. truths-from s k (8 * (m / 8)) i)
+    (omega arith) (omega arith) more f (λ i l. truths_from s k (8 * (m / 8)) i)
 
 -- where all bools of an accepted array are set, the array is set up to its close
-pub bools-applied : {s : List ℕ} {k total : ℕ} {image new : List ℕ} (q base : ℕ)
+pub bools_applied : {s : List ℕ} {k total : ℕ} {image new : List ℕ} (q base : ℕ)
     → BoolsSet s k (8 * base) image (q - k) new → (a : Accepts s k total (8 * base) (flat image)) → q ≡ k + a.many
     → Applied s k (q + 1) image new (bools_in total (8 * base) (left_at s k))
-bools-applied {s} {k} {total} {image} {new} q base l a e =
+bools_applied {s} {k} {total} {image} {new} q base l a e =
     let many : a.many ≡ q - k = omega arith in
     let after : k + a.many + 1 ≡ q + 1 = omega arith in
     record {

@@ -22,20 +22,20 @@ use Rattle.values.specs.stream.Stream.{Token}
 use Rattle.values.specs.writing.Effects.{as_text, or_null}
 use Rattle.values.specs.writing.Writing.{Outcome, and_then, write_one, opened, elements, write}
 use Rattle.values.specs.declared.reading.rows.Nested.{Nested}
-use Rattle.values.proofs.stream.LeftLaws.{EntryThere, by_kind, few-entries, there}
-use Rattle.values.proofs.writing.BranchLaws.{members-tree, one-tree, some-tree, string-tree}
-use Rattle.values.proofs.writing.OutcomeLaws.{in_struct, in_array, struct-opens, array-opens}
-use Rattle.values.proofs.writing.StepLaws.{Onward, checked-as, onward-on, onward_then, refused-then}
-use Rattle.values.proofs.writing.StepLaws.{opened-keeps, opened-goes, opened-refuses, elements-missing}
-use Rattle.values.proofs.writing.StepLaws.{elements-closes, elements-refuse, elements-go}
+use Rattle.values.proofs.stream.LeftLaws.{EntryThere, by_kind, few_entries, there}
+use Rattle.values.proofs.writing.BranchLaws.{members_tree, one_tree, some_tree, string_tree}
+use Rattle.values.proofs.writing.OutcomeLaws.{in_struct, in_array, struct_opens, array_opens}
+use Rattle.values.proofs.writing.StepLaws.{Onward, checked_as, onward_on, onward_then, refused_then}
+use Rattle.values.proofs.writing.StepLaws.{opened_keeps, opened_goes, opened_refuses, elements_missing}
+use Rattle.values.proofs.writing.StepLaws.{elements_closes, elements_refuse, elements_go}
 
 -- a stream has fewer than 2^28 entries
-pub entry-small : {s : List ℕ} {n k : ℕ} → WellFormed s n → k ≤ n → k < 2 ^ 28
-entry-small {s} told l = omega (arith, told.count, few-entries s told.form)
+pub entry_small : {s : List ℕ} {n k : ℕ} → WellFormed s n → k ≤ n → k < 2 ^ 28
+entry_small {s} told l = omega (arith, told.count, few_entries s told.form)
 
 -- an answer of the check from a later entry on is one from an earlier entry on
-pub checked-earlier : {s : List ℕ} {k p r : ℕ} {f : Bits → Outcome} → k ≤ p → CheckedFrom s p r f → CheckedFrom s k r f
-checked-earlier l c =
+pub checked_earlier : {s : List ℕ} {k p r : ℕ} {f : Bits → Outcome} → k ≤ p → CheckedFrom s p r f → CheckedFrom s k r f
+checked_earlier l c =
     record {
       goes = λ h. record {
         further = let w = (c.goes h).further in omega arith;
@@ -49,43 +49,46 @@ checked-earlier l c =
 
 module _ {types members : List ℕ} (w : Walkable types members) {i : ℕ} (low : i < most_types) {d : StructDef}
     (is : d ≡ type_at types i) {b : Bool} (test : b ≡ is_string_kind d.kind) where
-  kind-is : is_string_kind (type_at types i).kind ≡ b
-  kind-is = ap (λ (x : StructDef). is_string_kind x.kind) (sym is) ∙ sym test
+  kind_is : is_string_kind (type_at types i).kind ≡ b
+  kind_is = ap (λ (x : StructDef). is_string_kind x.kind) (sym is) ∙ sym test
 
   -- no string: what the check answers of the members it answers of the structure
-  pub struct-checked : {s : List ℕ} {k r : ℕ} → b ≡ false
-      → ((p : ℕ) → CheckedFrom s k r (write (struct (8 * sizes_in types i) (branches_in types members i)) p (left_at s k)))
+  pub struct_checked : {s : List ℕ} {k r : ℕ} → b ≡ false
+      → ((p : ℕ) → CheckedFrom s k r (write (struct (8 * sizes_in types i) (branches_in types members i)) p
+      (left_at s k)))
       → (p : ℕ) → CheckedFrom s k r (write (tree_in types members i) p (left_at s k))
-  struct-checked {s} {k} e h p =
-      checked-as
-      (λ z. ap (λ (t : Tree). write t p (left_at s k) z) (members-tree types members w i low (kind-is ∙ e))) (h p)
+  struct_checked {s} {k} e h p =
+      checked_as
+      (λ z. ap (λ (t : Tree). write t p (left_at s k) z) (members_tree types members w i low (kind_is ∙ e))) (h p)
 
   module _ (string : b ≡ true) {first : ℕ} (p : first ≡ d.first) where
-    type-string : IsString members (type_at types i)
-    type-string = (w.each i low).string (kind-is ∙ string)
+    type_string : IsString members (type_at types i)
+    type_string = (w.each i low).string (kind_is ∙ string)
 
-    first-is : first ≡ (type_at types i).first
-    first-is = p ∙ ap (λ (x : StructDef). x.first) is
+    first_row_is : first ≡ (type_at types i).first
+    first_row_is = p ∙ ap (λ (x : StructDef). x.first) is
 
     -- its second row is in the table
-    pub string-inside : first < 1999
-    string-inside = omega (arith, first-is, (w.each i low).rows, type-string.rows)
+    pub string_inside : first < 1999
+    string_inside = omega (arith, first_row_is, (w.each i low).rows, type_string.rows)
 
-    text-is : (capacity q : ℕ) (ts : List Token) (z : Bits)
+    text_is : (capacity q : ℕ) (ts : List Token) (z : Bits)
         → write (leaf (str capacity)) q ts z ≡ write_one (or_null (as_text capacity)) (width (str capacity)) q ts z
     unfolding write
-    text-is capacity q ts z = refl
+    text_is capacity q ts z = refl
 
     -- a string: what the check answers of one text or null it answers of the structure
-    pub text-checked : {capacity : ℕ} {s : List ℕ} {k r : ℕ} → capacity ≡ capacity_at members first
+    pub text_checked : {capacity : ℕ} {s : List ℕ} {k r : ℕ} → capacity ≡ capacity_at members first
         → ((v q : ℕ) → CheckedFrom s k r (write_one (or_null (as_text capacity)) v q (left_at s k)))
         → (q : ℕ) → CheckedFrom s k r (write (tree_in types members i) q (left_at s k))
-    text-checked {capacity} {s} {k} c h q =
-        let same : capacity_at members (type_at types i).first ≡ capacity = sym (c ∙ ap (capacity_at members) first-is) in
-        checked-as
+    text_checked {capacity} {s} {k} c h q =
+        let same : capacity_at members (type_at types i).first ≡ capacity = sym
+        (c ∙ ap (capacity_at members) first_row_is)
+        in
+        checked_as
         (λ z. ap (λ (t : Tree). write t q (left_at s k) z)
-        (string-tree types members w i low (kind-is ∙ string) ∙ ap (λ (m : ℕ). leaf (str m)) same)
-        ∙ text-is capacity q (left_at s k) z)
+        (string_tree types members w i low (kind_is ∙ string) ∙ ap (λ (m : ℕ). leaf (str m)) same)
+        ∙ text_is capacity q (left_at s k) z)
         (h (width (str capacity)) q)
 
 -- ---- a nested row is the structure, or the array of structures, that it names
@@ -93,63 +96,65 @@ module _ {types members : List ℕ} (w : Walkable types members) {i : ℕ} (low 
 module _ {types members : List ℕ} {i row : ℕ} {h : Nested} (nested : NestedRow types members i row)
     (held : HeldIn (member_at members row) h) where
   -- count 0: what the check answers of the structure it answers of the member
-  pub one-checked : {s : List ℕ} {k r : ℕ} → h.count ≡ 0
+  pub one_checked : {s : List ℕ} {k r : ℕ} → h.count ≡ 0
       → ((p : ℕ) → CheckedFrom s k r (write (tree_in types members h.structure) p (left_at s k)))
-      → (p : ℕ) → CheckedFrom s k r (write (member_tree (tree_in types members) (member_at members row)) p (left_at s k))
-  one-checked {s} {k} e f p =
-      checked-as (λ x. ap (λ (u : Tree). write u p (left_at s k) x) (one-tree nested held e)) (f p)
+      → (p : ℕ)
+      → CheckedFrom s k r (write (member_tree (tree_in types members) (member_at members row)) p (left_at s k))
+  one_checked {s} {k} e f p =
+      checked_as (λ x. ap (λ (u : Tree). write u p (left_at s k) x) (one_tree nested held e)) (f p)
 
   -- any other count: what the check answers of the array it answers of the member
-  pub some-checked : {s : List ℕ} {k r : ℕ} → (h.count ≡ 0 → ⊥)
+  pub some_checked : {s : List ℕ} {k r : ℕ} → (h.count ≡ 0 → ⊥)
       → ((p : ℕ) → CheckedFrom s k r (write (array h.count (tree_in types members h.structure)) p (left_at s k)))
-      → (p : ℕ) → CheckedFrom s k r (write (member_tree (tree_in types members) (member_at members row)) p (left_at s k))
-  some-checked {s} {k} e f p =
-      checked-as (λ x. ap (λ (u : Tree). write u p (left_at s k) x) (some-tree nested held e)) (f p)
+      → (p : ℕ)
+      → CheckedFrom s k r (write (member_tree (tree_in types members) (member_at members row)) p (left_at s k))
+  some_checked {s} {k} e f p =
+      checked_as (λ x. ap (λ (u : Tree). write u p (left_at s k) x) (some_tree nested held e)) (f p)
 
 -- ---- a null, or an opening
 
 -- after the opening the inside is left to be checked
-pub opened-left : {s : List ℕ} {k : ℕ} {f : Bits → Outcome} (start : ℕ) (inner : List Token → Bits → Outcome)
+pub opened_left : {s : List ℕ} {k : ℕ} {f : Bits → Outcome} (start : ℕ) (inner : List Token → Bits → Outcome)
     → stream_ok s ≡ true → 1 ≤ start → start < 12 → first_kind (left_at s k) ≡ start
     → ((z : Bits) → f z ≡ opened start inner (left_at s k) z) → Onward s k f (k + 1) (inner (left_at s (k + 1)))
-opened-left {s} {k} start inner form a b e same =
+opened_left {s} {k} start inner form a b e same =
     let t = by_kind s k form (λ h. let z : ⊥ = omega arith in z) in
     record {
       further = omega arith;
       inside = let l = t.inside in omega arith;
-      onward = λ r c. checked-as same (opened-goes form start inner a b e c);
+      onward = λ r c. checked_as same (opened_goes form start inner a b e c);
     }
 
 module _ {s : List ℕ} {n k start : ℕ} (told : WellFormed s n) (is : start ≡ first_kind (left_at s k)) where
   -- null for a structure: the check goes on to the next entry
-  pub struct-null : (size : ℕ) (bs : Branches) → start ≡ 0 → (q : ℕ)
+  pub struct_null : (size : ℕ) (bs : Branches) → start ≡ 0 → (q : ℕ)
       → CheckedFrom s k (k + 1) (write (struct size bs) q (left_at s k))
-  struct-null size bs e q =
-      checked-as (λ z. struct-opens size bs q (left_at s k) z)
-      (opened-keeps told.form 8 (in_struct bs q) (sym is ∙ e))
+  struct_null size bs e q =
+      checked_as (λ z. struct_opens size bs q (left_at s k) z)
+      (opened_keeps told.form 8 (in_struct bs q) (sym is ∙ e))
 
   -- null for an array: the check goes on to the next entry
-  pub array-null : (m : ℕ) (tree : Tree) → start ≡ 0 → (q : ℕ)
+  pub array_null : (m : ℕ) (tree : Tree) → start ≡ 0 → (q : ℕ)
       → CheckedFrom s k (k + 1) (write (array m tree) q (left_at s k))
-  array-null m tree e q =
-      checked-as (λ z. array-opens m tree q (left_at s k) z)
-      (opened-keeps told.form 10 (in_array m tree q) (sym is ∙ e))
+  array_null m tree e q =
+      checked_as (λ z. array_opens m tree q (left_at s k) z)
+      (opened_keeps told.form 10 (in_array m tree q) (sym is ∙ e))
 
   module _ (l : k ≤ n) {r : ℕ} (a : start ≡ 0 → ⊥) (e : r ≡ 2 ^ 32 * 18 + k) where
     -- neither null nor an opening for a structure: the check answers 18 here
-    pub struct-other : (size : ℕ) (bs : Branches) → (start ≡ 8 → ⊥) → (q : ℕ)
+    pub struct_other : (size : ℕ) (bs : Branches) → (start ≡ 8 → ⊥) → (q : ℕ)
         → CheckedFrom s k r (write (struct size bs) q (left_at s k))
-    struct-other size bs b q =
-        checked-as (λ z. struct-opens size bs q (left_at s k) z)
-        (opened-refuses told.form 8 (in_struct bs q) (omega (arith, told.count)) (λ h. a (is ∙ h))
+    struct_other size bs b q =
+        checked_as (λ z. struct_opens size bs q (left_at s k) z)
+        (opened_refuses told.form 8 (in_struct bs q) (omega (arith, told.count)) (λ h. a (is ∙ h))
         (λ h. b (is ∙ h)) e)
 
     -- neither null nor an opening for an array: the check answers 18 here
-    pub array-other : (m : ℕ) (tree : Tree) → (start ≡ 10 → ⊥) → (q : ℕ)
+    pub array_other : (m : ℕ) (tree : Tree) → (start ≡ 10 → ⊥) → (q : ℕ)
         → CheckedFrom s k r (write (array m tree) q (left_at s k))
-    array-other m tree b q =
-        checked-as (λ z. array-opens m tree q (left_at s k) z)
-        (opened-refuses told.form 10 (in_array m tree q) (omega (arith, told.count)) (λ h. a (is ∙ h))
+    array_other m tree b q =
+        checked_as (λ z. array_opens m tree q (left_at s k) z)
+        (opened_refuses told.form 10 (in_array m tree q) (omega (arith, told.count)) (λ h. a (is ∙ h))
         (λ h. b (is ∙ h)) e)
 
 -- ---- the elements of an array of structures: e of them are checked, up to entry p
@@ -166,10 +171,10 @@ pub record ElementsChecked (types members : List ℕ) (i count : ℕ) (s : List 
       (elements rest (write (tree_in types members i)) (span (tree_in types members i)) (place q) (left_at s p))
 
 -- after the opening no element is checked yet
-pub elements-start : {types members : List ℕ} {i count : ℕ} {s : List ℕ} {n k start : ℕ} → WellFormed s n
+pub elements_start : {types members : List ℕ} {i count : ℕ} {s : List ℕ} {n k start : ℕ} → WellFormed s n
     → Walkable types members → i < most_types → start ≡ first_kind (left_at s k) → start ≡ 10
     → ElementsChecked types members i count s n k (k + 1) 0
-elements-start {types} {members} {i} {count} {s} {n} {k} told w low is e =
+elements_start {types} {members} {i} {count} {s} {n} {k} told w low is e =
     record {
       told = told;
       walk = w;
@@ -177,8 +182,8 @@ elements-start {types} {members} {i} {count} {s} {n} {k} told w low is e =
       rest = count;
       all = omega arith;
       place = λ q. q;
-      left = λ q. opened-left 10 (in_array count (tree_in types members i) q) told.form (omega arith) (omega arith)
-          (sym is ∙ e) (λ z. array-opens count (tree_in types members i) q (left_at s k) z);
+      left = λ q. opened_left 10 (in_array count (tree_in types members i) q) told.form (omega arith) (omega arith)
+          (sym is ∙ e) (λ z. array_opens count (tree_in types members i) q (left_at s k) z);
     }
 
 module _ {types members : List ℕ} {i count : ℕ} {s : List ℕ} {n k p e : ℕ}
@@ -191,44 +196,44 @@ module _ {types members : List ℕ} {i count : ℕ} {s : List ℕ} {n k p e : �
   ArrayAnswer r = (q : ℕ) → CheckedFrom s k r (write (array count tree) q (left_at s k))
 
   -- the elements are checked up to an entry, or to the end of the entries
-  pub elements-inside : p ≤ n
-  elements-inside = let l = (w.left 0).inside in omega (arith, w.told.count)
+  pub elements_inside : p ≤ n
+  elements_inside = let l = (w.left 0).inside in omega (arith, w.told.count)
 
   -- the way out with 18: no entry is left
-  pub elements-short : {r : ℕ} → n ≤ p → r ≡ 2 ^ 32 * 18 + p → ArrayAnswer r
-  elements-short {r} h e q =
+  pub elements_short : {r : ℕ} → n ≤ p → r ≡ 2 ^ 32 * 18 + p → ArrayAnswer r
+  elements_short {r} h e q =
       (w.left q).onward r
-      (elements-missing w.told.form (write tree) (span tree) w.rest (w.place q)
-      (omega (arith, elements-inside, w.told.count)) e)
+      (elements_missing w.told.form (write tree) (span tree) w.rest (w.place q)
+      (omega (arith, elements_inside, w.told.count)) e)
 
   module _ (l : p < n) {kind : ℕ} (is : kind ≡ first_kind (left_at s p)) where
     here : EntryThere s p
     here = there s p w.told.form (omega (arith, w.told.count))
 
     -- the way out at the close: the next entry is answered
-    pub elements-done : kind ≡ 11 → ArrayAnswer (p + 1)
-    elements-done h q =
+    pub elements_done : kind ≡ 11 → ArrayAnswer (p + 1)
+    elements_done h q =
         (w.left q).onward (p + 1)
-        (elements-closes w.told.form (write tree) (span tree) w.rest (w.place q) (sym is ∙ h))
+        (elements_closes w.told.form (write tree) (span tree) w.rest (w.place q) (sym is ∙ h))
 
     module _ (more_left : kind ≡ 11 → ⊥) {r : ℕ} where
       -- the way out with 20: an entry past the last place
-      pub elements-past : e ≡ count → r ≡ 2 ^ 32 * 20 + p → ArrayAnswer r
-      elements-past full h q =
+      pub elements_past : e ≡ count → r ≡ 2 ^ 32 * 20 + p → ArrayAnswer r
+      elements_past full h q =
           let none : w.rest ≡ 0 = omega (arith, w.all) in
           (w.left q).onward r
           (rw none
-          (elements-refuse w.told.form (write tree) (span tree) (w.place q) here (λ x. more_left (is ∙ x)) h))
+          (elements_refuse w.told.form (write tree) (span tree) (w.place q) here (λ x. more_left (is ∙ x)) h))
 
       module _ (more : e ≡ count → ⊥) (c : (q : ℕ) → CheckedFrom s p r (write tree q (left_at s p))) where
         step : (rest q : ℕ) (z : Bits) → elements (suc rest) (write tree) (span tree) q (left_at s p) z
             ≡ and_then (write tree q (left_at s p) z) (elements rest (write tree) (span tree) (q + span tree))
         step rest q z =
-            elements-go w.told.form (write tree) (span tree) rest q here (λ x. more_left (is ∙ x)) z
+            elements_go w.told.form (write tree) (span tree) rest q here (λ x. more_left (is ∙ x)) z
 
         -- one element that is refused
-        pub elements-refused : 2 ^ 32 ≤ r → ArrayAnswer r
-        elements-refused h q = go w.rest w.all (w.left q)
+        pub elements_refused : 2 ^ 32 ≤ r → ArrayAnswer r
+        elements_refused h q = go w.rest w.all (w.left q)
           where
             go : (rest : ℕ) → e + rest ≡ count
                 → Onward s k (write (array count tree) q (left_at s k)) p
@@ -237,12 +242,12 @@ module _ {types members : List ℕ} {i count : ℕ} {s : List ℕ} {n k p e : �
             go zero a o = absurd (more (omega arith))
             go (suc rest) a o =
                 o.onward r
-                (refused-then (elements rest (write tree) (span tree) (w.place q + span tree))
+                (refused_then (elements rest (write tree) (span tree) (w.place q + span tree))
                 (λ z. step rest (w.place q) z) h (c (w.place q)))
 
         -- where an element is taken, one element more is checked
-        pub elements-on : r < 2 ^ 32 → ElementsChecked types members i count s n k r (e + 1)
-        elements-on h = go w.rest w.all w.left
+        pub elements_on : r < 2 ^ 32 → ElementsChecked types members i count s n k r (e + 1)
+        elements_on h = go w.rest w.all w.left
           where
             go : (rest : ℕ) → e + rest ≡ count
                 → ((q : ℕ) → Onward s k (write (array count tree) q (left_at s k)) p
@@ -257,7 +262,7 @@ module _ {types members : List ℕ} {i count : ℕ} {s : List ℕ} {n k p e : �
                   rest = rest;
                   all = omega arith;
                   place = λ q. w.place q + span tree;
-                  left = λ q. onward-on (o q)
+                  left = λ q. onward_on (o q)
                       (onward_then (elements rest (write tree) (span tree) (w.place q + span tree))
                       (λ z. step rest (w.place q) z) ((c (w.place q)).goes h));
                 }

@@ -26,12 +26,12 @@ use Rattle.values.specs.stream.Form.{count_in}
 use Rattle.values.specs.stream.Stream.{Token, kind_of, payload_of}
 use Rattle.values.specs.writing.Writing.{Outcome, bad, and_then, members_in, write, write_branch}
 use Rattle.values.proofs.reading.MemberLaws.{row_of}
-use Rattle.values.proofs.stream.LeftLaws.{EntryThere, kind-there, left-long, there}
-use Rattle.values.proofs.writing.BranchLaws.{branch-is, branch-hidden, branch-past}
-use Rattle.values.proofs.writing.OutcomeLaws.{in_struct, struct-opens}
-use Rattle.values.proofs.writing.StepLaws.{Onward, onward-on, onward_then, refused-then, refuses-at}
-use Rattle.values.proofs.writing.StepLaws.{members-missing, members-closes, members-refuse, members-go}
-use Rattle.values.proofs.writing.check.CheckLaws.{checked-earlier, opened-left}
+use Rattle.values.proofs.stream.LeftLaws.{EntryThere, kind_there, left_long, there}
+use Rattle.values.proofs.writing.BranchLaws.{branch_is, branch_hidden, branch_past}
+use Rattle.values.proofs.writing.OutcomeLaws.{in_struct, struct_opens}
+use Rattle.values.proofs.writing.StepLaws.{Onward, onward_on, onward_then, refused_then, refuses_at}
+use Rattle.values.proofs.writing.StepLaws.{members_missing, members_closes, members_refuse, members_go}
+use Rattle.values.proofs.writing.check.CheckLaws.{checked_earlier, opened_left}
 
 -- ---- the row of a visible member
 
@@ -61,20 +61,20 @@ visible members first count j = go (dec_lt j count)
 
 module _ (members : List ℕ) (first count j : ℕ) where
   -- a number past the members has no visible row
-  pub row-past : count ≤ j → most_members ≡ visible_row members first count j
+  pub row_past : count ≤ j → most_members ≡ visible_row members first count j
   unfolding visible_row
-  row-past l = rw (le-ltb j count l) refl
+  row_past l = rw (le-ltb j count l) refl
 
   module _ {m : Member} (is : m ≡ member_at members (first + j)) (l : j < count) where
     -- the number of a hidden member has no visible row
-    pub row-hidden : m.hidden ≡ true → most_members ≡ visible_row members first count j
+    pub row_hidden : m.hidden ≡ true → most_members ≡ visible_row members first count j
     unfolding visible_row
-    row-hidden e = rw (lt-ltb j count l, ap (λ (x : Member). x.hidden) (sym is) ∙ e) refl
+    row_hidden e = rw (lt-ltb j count l, ap (λ (x : Member). x.hidden) (sym is) ∙ e) refl
 
     -- the number of a visible member has that member's row
-    pub row-shown : m.hidden ≡ false → first + j ≡ visible_row members first count j
+    pub row_shown : m.hidden ≡ false → first + j ≡ visible_row members first count j
     unfolding visible_row
-    row-shown e = rw (lt-ltb j count l, ap (λ (x : Member). x.hidden) (sym is) ∙ e) refl
+    row_shown e = rw (lt-ltb j count l, ap (λ (x : Member). x.hidden) (sym is) ∙ e) refl
 
 -- ---- the members: up to entry p they are checked
 
@@ -86,30 +86,30 @@ pub record MembersChecked (types members : List ℕ) (i : ℕ) (s : List ℕ) (n
   pub told : WellFormed s n
   pub walk : Walkable types members
   pub low : i < most_types
-  pub first-is : first ≡ (type_at types i).first
-  pub count-is : count ≡ (type_at types i).count
+  pub first_row_is : first ≡ (type_at types i).first
+  pub count_is : count ≡ (type_at types i).count
   pub most : ℕ
   pub enough : count_in s - p ≤ most
   pub left : (q : ℕ) → Onward s k (write (members_tree types members i) q (left_at s k)) p
       (members_in (suc most) (write_branch (branches_in types members i) q) (left_at s p))
 
 -- after the opening no member is checked yet
-pub members-start : {types members : List ℕ} {i : ℕ} {s : List ℕ} {n k start first count : ℕ} {d : StructDef}
+pub members_start : {types members : List ℕ} {i : ℕ} {s : List ℕ} {n k start first count : ℕ} {d : StructDef}
     → WellFormed s n → Walkable types members → i < most_types → start ≡ first_kind (left_at s k) → start ≡ 8
     → d ≡ type_at types i → first ≡ d.first → count ≡ d.count
     → MembersChecked types members i s n k first count (k + 1)
-members-start {types} {members} {i} {s} {n} {k} told w low is e d first count =
+members_start {types} {members} {i} {s} {n} {k} told w low is e d first count =
     record {
       told = told;
       walk = w;
       low = low;
-      first-is = first ∙ ap (λ (x : StructDef). x.first) d;
-      count-is = count ∙ ap (λ (x : StructDef). x.count) d;
+      first_row_is = first ∙ ap (λ (x : StructDef). x.first) d;
+      count_is = count ∙ ap (λ (x : StructDef). x.count) d;
       most = length (left_at s (k + 1));
-      enough = omega (arith, left-long s (k + 1));
-      left = λ q. opened-left 8 (in_struct (branches_in types members i) q) told.form (omega arith) (omega arith)
+      enough = omega (arith, left_long s (k + 1));
+      left = λ q. opened_left 8 (in_struct (branches_in types members i) q) told.form (omega arith) (omega arith)
           (sym is ∙ e)
-          (λ z. struct-opens (8 * sizes_in types i) (branches_in types members i) q (left_at s k) z);
+          (λ z. struct_opens (8 * sizes_in types i) (branches_in types members i) q (left_at s k) z);
     }
 
 -- the branch of a visible row
@@ -119,7 +119,7 @@ branch_row : (types members : List ℕ) (i q : ℕ) (t : Token) (ts : List Token
     → write_branch (branches_in types members i) q t ts z
     ≡ write (member_tree (tree_in types members) (member_at members row)) (q + first_bit (member_at members row)) ts z
 branch_row types members i q t ts z j row e n l h =
-    rw e (branch-is types members i q t ts z j n l (rw e at h))
+    rw e (branch_is types members i q t ts z j n l (rw e at h))
 
 -- entry p names a visible row
 pub record RowNamed (types members : List ℕ) (i : ℕ) (s : List ℕ) (p row : ℕ) : Type 0 where
@@ -142,48 +142,48 @@ module _ {types members : List ℕ} {i : ℕ} {s : List ℕ} {n k first count p 
   StructAnswer r = (q : ℕ) → CheckedFrom s k r (write (members_tree types members i) q (left_at s k))
 
   -- the members are checked up to an entry, or to the end of the entries
-  pub members-inside : p ≤ n
-  members-inside = let l = (w.left 0).inside in omega (arith, w.told.count)
+  pub members_inside : p ≤ n
+  members_inside = let l = (w.left 0).inside in omega (arith, w.told.count)
 
   -- the structure's rows are in the table
   pub rows_inside : first + count ≤ most_members
-  rows_inside = omega (arith, w.first-is, w.count-is, (w.walk.each i w.low).rows)
+  rows_inside = omega (arith, w.first_row_is, w.count_is, (w.walk.each i w.low).rows)
 
   -- the way out with 18: no entry is left
-  pub members-short : {r : ℕ} → n ≤ p → r ≡ 2 ^ 32 * 18 + p → StructAnswer r
-  members-short {r} h e q =
+  pub members_short : {r : ℕ} → n ≤ p → r ≡ 2 ^ 32 * 18 + p → StructAnswer r
+  members_short {r} h e q =
       (w.left q).onward r
-      (members-missing w.told.form (one q) (suc w.most) (omega (arith, members-inside, w.told.count)) e)
+      (members_missing w.told.form (one q) (suc w.most) (omega (arith, members_inside, w.told.count)) e)
 
   module _ (l : p < n) {kind : ℕ} (is : kind ≡ first_kind (left_at s p)) where
     at_entry : EntryThere s p
     at_entry = there s p w.told.form (omega (arith, w.told.count))
 
     -- the way out at the close: the next entry is answered
-    pub members-done : kind ≡ 9 → StructAnswer (p + 1)
-    members-done h q =
-        (w.left q).onward (p + 1) (members-closes w.told.form (one q) w.most (sym is ∙ h))
+    pub members_done : kind ≡ 9 → StructAnswer (p + 1)
+    members_done h q =
+        (w.left q).onward (p + 1) (members_closes w.told.form (one q) w.most (sym is ∙ h))
 
     -- the way out with 18: neither the close nor a member number
-    pub members-bad : {r : ℕ} → (kind ≡ 9 → ⊥) → (kind ≡ 7 → ⊥) → r ≡ 2 ^ 32 * 18 + p → StructAnswer r
-    members-bad {r} a b e q =
+    pub members_bad : {r : ℕ} → (kind ≡ 9 → ⊥) → (kind ≡ 7 → ⊥) → r ≡ 2 ^ 32 * 18 + p → StructAnswer r
+    members_bad {r} a b e q =
         (w.left q).onward r
-        (members-refuse w.told.form (one q) w.most at_entry (λ x. a (is ∙ x)) (λ x. b (is ∙ x)) e)
+        (members_refuse w.told.form (one q) w.most at_entry (λ x. a (is ∙ x)) (λ x. b (is ∙ x)) e)
 
     module _ (seven : kind ≡ 7) {j : ℕ} (payload : j ≡ word_at 8 s (8 + 12 * p)) where
       number_is : payload_of 0 at_entry.token ≡ j
       number_is =
-          let named : kind_of at_entry.token ≡ 7 = sym (kind-there at_entry) ∙ sym is ∙ seven in
+          let named : kind_of at_entry.token ≡ 7 = sym (kind_there at_entry) ∙ sym is ∙ seven in
           at_entry.payload (λ x. let z : ⊥ = omega arith in z) ∙ sym payload
 
       -- the way out with 18: the number of no visible row
-      pub members-unseen : {row r : ℕ} → row ≡ visible_row members first count j → row ≡ most_members
+      pub members_unseen : {row r : ℕ} → row ≡ visible_row members first count j → row ≡ most_members
           → r ≡ 2 ^ 32 * 18 + p
           → StructAnswer r
-      members-unseen {row} {r} e none h q =
+      members_unseen {row} {r} e none h q =
           (w.left q).onward r
-          (refuses-at 18 p w.told.form (omega (arith, members-inside, w.told.count)) (omega arith) h
-          (λ z. members-go w.told.form (one q) w.most at_entry (sym is ∙ seven) z
+          (refuses_at 18 p w.told.form (omega (arith, members_inside, w.told.count)) (omega arith) h
+          (λ z. members_go w.told.form (one q) w.most at_entry (sym is ∙ seven) z
           ∙ ap (λ (o : Outcome). and_then o (members_in w.most (one q)))
           (lost z (visible members first count j))
           ∙ ap (bad 18) (sym at_entry.left)))
@@ -191,11 +191,11 @@ module _ {types members : List ℕ} {i : ℕ} {s : List ℕ} {n k first count p 
           lost : (z : Bits) → Visible members first count j (visible_row members first count j)
               → one q at_entry.token (left_at s (p + 1)) z ≡ bad 18 (at_entry.token ∷ left_at s (p + 1))
           lost z (past a f) =
-              branch-past types members i q at_entry.token (left_at s (p + 1)) z j number_is
-              (omega (arith, w.count-is))
+              branch_past types members i q at_entry.token (left_at s (p + 1)) z j number_is
+              (omega (arith, w.count_is))
           lost z (hides a b f) =
-              branch-hidden types members i q at_entry.token (left_at s (p + 1)) z j number_is
-              (omega (arith, w.count-is)) (rw w.first-is at b)
+              branch_hidden types members i q at_entry.token (left_at s (p + 1)) z j number_is
+              (omega (arith, w.count_is)) (rw w.first_row_is at b)
           lost z (shows a b f) = absurd (let y : ⊥ = omega (arith, e, none, f, rows_inside) in y)
 
       -- a number with a visible row names that row
@@ -209,12 +209,12 @@ module _ {types members : List ℕ} {i : ℕ} {s : List ℕ} {n k first count p 
           go (shows a b f) =
               let same : row ≡ first + j = e ∙ f in
               record {
-                row_of = rw same (row_of w.walk w.low w.first-is w.count-is a);
+                row_of = rw same (row_of w.walk w.low w.first_row_is w.count_is a);
                 shown = rw same b;
                 here = at_entry;
                 kind = sym is ∙ seven;
                 gives = λ q z. branch_row types members i q at_entry.token (left_at s (p + 1)) z j row
-                    (same ∙ ap (◌+ j) w.first-is) number_is (omega (arith, w.count-is)) (rw same b);
+                    (same ∙ ap (◌+ j) w.first_row_is) number_is (omega (arith, w.count_is)) (rw same b);
               }
 
   module _ {row : ℕ} (v : RowNamed types members i s p row) {r : ℕ}
@@ -229,25 +229,25 @@ module _ {types members : List ℕ} {i : ℕ} {s : List ℕ} {n k first count p 
     step : (most q : ℕ) (z : Bits)
         → members_in (suc most) (one q) (left_at s p) z ≡ and_then (valued q z) (members_in most (one q))
     step most q z =
-        members-go w.told.form (one q) most v.here v.kind z
+        members_go w.told.form (one q) most v.here v.kind z
         ∙ ap (λ (o : Outcome). and_then o (members_in most (one q))) (v.gives q z)
 
-    value-checked : (q : ℕ) → CheckedFrom s p r (valued q)
-    value-checked q = checked-earlier (omega arith) (c (q + first_bit (member_at members row)))
+    value_checked : (q : ℕ) → CheckedFrom s p r (valued q)
+    value_checked q = checked_earlier (omega arith) (c (q + first_bit (member_at members row)))
 
     -- where a member is refused, so is the structure
-    pub members-refused : 2 ^ 32 ≤ r → StructAnswer r
-    members-refused h q =
+    pub members_refused : 2 ^ 32 ≤ r → StructAnswer r
+    members_refused h q =
         (w.left q).onward r
-        (refused-then (members_in w.most (one q)) (λ z. step w.most q z) h (value-checked q))
+        (refused_then (members_in w.most (one q)) (λ z. step w.most q z) h (value_checked q))
 
     -- where a member is taken, the next entry is a later one
-    pub members-further : r < 2 ^ 32 → p < r
-    members-further h = omega (arith, ((c 0).goes h).further)
+    pub members_further : r < 2 ^ 32 → p < r
+    members_further h = omega (arith, ((c 0).goes h).further)
 
     -- a member that is taken: the others are left from the entry after its value on
-    pub members-on : r < 2 ^ 32 → MembersChecked types members i s n k first count r
-    members-on h = go w.most w.enough w.left
+    pub members_on : r < 2 ^ 32 → MembersChecked types members i s n k first count r
+    members_on h = go w.most w.enough w.left
       where
         go : (most : ℕ) → count_in s - p ≤ most
             → ((q : ℕ) → Onward s k (write (members_tree types members i) q (left_at s k)) p
@@ -259,15 +259,15 @@ module _ {types members : List ℕ} {i : ℕ} {s : List ℕ} {n k first count p 
               told = w.told;
               walk = w.walk;
               low = w.low;
-              first-is = w.first-is;
-              count-is = w.count-is;
+              first_row_is = w.first_row_is;
+              count_is = w.count_is;
               most = most;
               enough = omega (arith, ((c 0).goes h).further);
-              left = λ q. onward-on (o q)
-                  (onward_then (members_in (suc most) (one q)) (λ z. step (suc most) q z) ((value-checked q).goes h));
+              left = λ q. onward_on (o q)
+                  (onward_then (members_in (suc most) (one q)) (λ z. step (suc most) q z) ((value_checked q).goes h));
             }
 
 -- a visible row that is no structure
-pub leaf-row : {types members : List ℕ} {i : ℕ} {s : List ℕ} {p row : ℕ} → RowNamed types members i s p row
+pub leaf_row : {types members : List ℕ} {i : ℕ} {s : List ℕ} {p row : ℕ} → RowNamed types members i s p row
     → is_nested (member_at members row) ≡ false → LeafRow members row
-leaf-row v e = record { inside = v.row_of.inside; visible = v.shown; flat = e }
+leaf_row v e = record { inside = v.row_of.inside; visible = v.shown; flat = e }

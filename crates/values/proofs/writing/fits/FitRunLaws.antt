@@ -20,18 +20,18 @@ use Rattle.values.specs.stream.Stream.{Token, kind_of}
 use Rattle.values.specs.writing.Effects.{Effect, of_kind, or_null, payload_bits, taken}
 use Rattle.values.specs.writing.Writing.{Outcome, elements, write_one}
 use Rattle.values.specs.declared.writing.limits.Limits.{Limits}
-use Rattle.values.proofs.stream.LeftLaws.{EntryThere, few-entries, kind-there, there}
-use Rattle.values.proofs.writing.FitLaws.{above-misfits, atomic-judged}
-use Rattle.values.proofs.writing.StepLaws.{Onward, onward-start, onward-on, onward_then, refused-then}
-use Rattle.values.proofs.writing.StepLaws.{one-judged, one-refused, elements-missing, elements-closes}
-use Rattle.values.proofs.writing.StepLaws.{elements-refuse, elements-go}
+use Rattle.values.proofs.stream.LeftLaws.{EntryThere, few_entries, kind_there, there}
+use Rattle.values.proofs.writing.FitLaws.{above_misfits, atomic_judged}
+use Rattle.values.proofs.writing.StepLaws.{Onward, onward_start, onward_on, onward_then, refused_then}
+use Rattle.values.proofs.writing.StepLaws.{one_judged, one_refused, elements_missing, elements_closes}
+use Rattle.values.proofs.writing.StepLaws.{elements_refuse, elements_go}
 
 -- ---- entries of a stream of n
 
 module _ {s : List ℕ} {n : ℕ} (told : WellFormed s n) where
   -- a stream has fewer than 2^28 entries
   pub few : n < 2 ^ 28
-  few = omega (arith, few-entries s told.form, told.count)
+  few = omega (arith, few_entries s told.form, told.count)
 
   entry_of : {q : ℕ} → q < n → EntryThere s q
   entry_of {q} l = there s q told.form (omega (arith, told.count))
@@ -50,18 +50,18 @@ AtEnd s n k r =
 
 module _ {s : List ℕ} {n k : ℕ} (told : WellFormed s n) where
   -- the way out with 18: no entry is left
-  pub end-missing : {r : ℕ} → k ≤ n → n ≤ k → r ≡ 2 ^ 32 * 18 + k → AtEnd s n k r
-  end-missing a b e m one w p h = elements-missing told.form one w m p (omega (arith, told.count)) e
+  pub end_missing : {r : ℕ} → k ≤ n → n ≤ k → r ≡ 2 ^ 32 * 18 + k → AtEnd s n k r
+  end_missing a b e m one w p h = elements_missing told.form one w m p (omega (arith, told.count)) e
 
   -- the way out at the close: the next entry is answered
-  pub end-closes : {kind : ℕ} → kind ≡ first_kind (left_at s k) → kind ≡ 11 → AtEnd s n k (k + 1)
-  end-closes is e m one w p h = elements-closes told.form one w m p (sym is ∙ e)
+  pub end_closes : {kind : ℕ} → kind ≡ first_kind (left_at s k) → kind ≡ 11 → AtEnd s n k (k + 1)
+  end_closes is e m one w p h = elements_closes told.form one w m p (sym is ∙ e)
 
   -- the way out with 20: an entry that is no close past the last place
-  pub end-full : {kind r : ℕ} → k < n → kind ≡ first_kind (left_at s k) → (kind ≡ 11 → ⊥) → r ≡ 2 ^ 32 * 20 + k
+  pub end_full : {kind r : ℕ} → k < n → kind ≡ first_kind (left_at s k) → (kind ≡ 11 → ⊥) → r ≡ 2 ^ 32 * 20 + k
       → AtEnd s n k r
-  end-full l is a e m one w p h =
-      rw (h l) (elements-refuse told.form one w p (entry_of told l) (λ g. a (is ∙ g)) e)
+  end_full l is a e m one w p h =
+      rw (h l) (elements_refuse told.form one w p (entry_of told l) (λ g. a (is ∙ g)) e)
 
 -- ---- entries that were taken
 
@@ -87,14 +87,14 @@ walked_start {s} {n} {k} takes count told l =
     record {
       further = omega arith;
       inside = inside;
-      left = λ w p. rw (all, none, mul-zero w, add-zero p) (onward-start inside);
+      left = λ w p. rw (all, none, mul-zero w, add-zero p) (onward_start inside);
     }
 
 -- after the last entry that an array can have, the answer at its end is that of the whole array
-pub walked-done : {s : List ℕ} {takes : Token → Effect} {n count k last q r : ℕ} → WellFormed s n
+pub walked_done : {s : List ℕ} {takes : Token → Effect} {n count k last q r : ℕ} → WellFormed s n
     → Walked s takes count k q
     → last ≡ min n (k + count) → last ≤ q → AtEnd s n q r → Answers s takes count k r
-walked-done {s} {takes} {n} {count} {k} {last} {q} {r} told walked e l end w p =
+walked_done {s} {takes} {n} {count} {k} {last} {q} {r} told walked e l end w p =
     (walked.left w p).onward r
     (end (k + count - q) (write_one takes w) w (p + w * (q - k)) (λ h. omega (arith, e, l, h)))
 
@@ -108,37 +108,37 @@ pub record NextFits (s : List ℕ) (takes : Token → Effect) (n count k last q 
 
 module _ {s : List ℕ} {takes : Token → Effect} {n count k last q kind : ℕ}
     (e : NextFits s takes n count k last q kind) where
-  next-there : EntryThere s q
-  next-there = entry_of e.told (omega (arith, e.ends, e.before))
+  next_there : EntryThere s q
+  next_there = entry_of e.told (omega (arith, e.ends, e.before))
 
   -- the number of the next entry is below 2^28
   pub next_low : q < 2 ^ 28
   next_low = omega (arith, few e.told, e.ends, e.before)
 
-  next-kind : kind_of next-there.token ≡ kind
-  next-kind = sym (kind-there next-there) ∙ sym e.shows
+  next_kind : kind_of next_there.token ≡ kind
+  next_kind = sym (kind_there next_there) ∙ sym e.shows
 
   -- a close before the last place ends the array: the next entry is answered
-  pub next-closes : kind ≡ 11 → Answers s takes count k (q + 1)
-  next-closes h w p =
+  pub next_closes : kind ≡ 11 → Answers s takes count k (q + 1)
+  next_closes h w p =
       (e.walked.left w p).onward (q + 1)
-      (elements-closes e.told.form (write_one takes w) w (k + count - q) (p + w * (q - k)) (sym e.shows ∙ h))
+      (elements_closes e.told.form (write_one takes w) w (k + count - q) (p + w * (q - k)) (sym e.shows ∙ h))
 
   one_less : k + count - q ≡ suc (k + count - (q + 1))
   one_less = omega (arith, e.ends, e.before)
 
-  next-refused : {r : ℕ} (number : ℕ) → (kind ≡ 11 → ⊥) → Judged (takes next-there.token) number
+  next_refused : {r : ℕ} (number : ℕ) → (kind ≡ 11 → ⊥) → Judged (takes next_there.token) number
       → (number ≡ 0 → ⊥) → r ≡ 2 ^ 32 * number + q → Answers s takes count k r
-  next-refused {r} number a j o is w p =
+  next_refused {r} number a j o is w p =
       let place : ℕ = p + w * (q - k) in
       (e.walked.left w p).onward r
       (rw one_less
-      (refused-then (elements (k + count - (q + 1)) (write_one takes w) w (place + w))
-      (elements-go e.told.form (write_one takes w) w (k + count - (q + 1)) place next-there (λ g. a (e.shows ∙ g)))
-      (omega (arith, o, is)) (one-refused e.told.form takes w place next-there j o is)))
+      (refused_then (elements (k + count - (q + 1)) (write_one takes w) w (place + w))
+      (elements_go e.told.form (write_one takes w) w (k + count - (q + 1)) place next_there (λ g. a (e.shows ∙ g)))
+      (omega (arith, o, is)) (one_refused e.told.form takes w place next_there j o is)))
 
-  next-on : (kind ≡ 11 → ⊥) → Judged (takes next-there.token) 0 → Walked s takes count k (q + 1)
-  next-on a j =
+  next_on : (kind ≡ 11 → ⊥) → Judged (takes next_there.token) 0 → Walked s takes count k (q + 1)
+  next_on a j =
       let inside : q + 1 ≤ count_in s = omega (arith, e.told.count, e.ends, e.before) in
       let low : q + 1 < 2 ^ 32 = omega (arith, few e.told, e.ends, e.before) in
       record {
@@ -148,33 +148,33 @@ module _ {s : List ℕ} {takes : Token → Effect} {n count k last q kind : ℕ}
             let place : ℕ = p + w * (q - k) in
             let one_more : q + 1 - k ≡ suc (q - k) = omega (arith, e.walked.further) in
             let further : p + w * (q + 1 - k) ≡ place + w = rw (one_more, mul-suc w (q - k)) (omega arith) in
-            onward-on (e.walked.left w p)
+            onward_on (e.walked.left w p)
             (rw (one_less, further)
             (onward_then (elements (k + count - (q + 1)) (write_one takes w) w (place + w))
-            (elements-go e.told.form (write_one takes w) w (k + count - (q + 1)) place next-there
+            (elements_go e.told.form (write_one takes w) w (k + count - (q + 1)) place next_there
             (λ g. a (e.shows ∙ g)))
-            ((one-judged e.told.form takes w place next-there j refl).goes low)));
+            ((one_judged e.told.form takes w place next_there j refl).goes low)));
       }
 
 -- ---- bools, by their kind
 
-flag-taken : (t : Token) → kind_of t ≡ 1 → Judged (taken flag t) 0
-flag-taken t e = set refl (payload_bits t) (unfold of_kind in rw (eq-eqb (kind_of t) 1 e) refl)
+flag_taken : (t : Token) → kind_of t ≡ 1 → Judged (taken flag t) 0
+flag_taken t e = set refl (payload_bits t) (unfold of_kind in rw (eq-eqb (kind_of t) 1 e) refl)
 
-flag-refused : (t : Token) → (kind_of t ≡ 1 → ⊥) → Judged (taken flag t) 18
-flag-refused t e = refused (omega arith) (unfold of_kind in rw (ne_eqb (kind_of t) 1 e) refl)
+flag_refused : (t : Token) → (kind_of t ≡ 1 → ⊥) → Judged (taken flag t) 18
+flag_refused t e = refused (omega arith) (unfold of_kind in rw (ne_eqb (kind_of t) 1 e) refl)
 
 module _ {s : List ℕ} {n count k last q kind : ℕ} (e : NextFits s (taken flag) n count k last q kind) where
   -- a bool is taken, and the rest is left from the next entry on
-  pub bool-on : kind ≡ 1 → Walked s (taken flag) count k (q + 1)
-  bool-on h =
-      next-on e (λ g. let z : ⊥ = omega (arith, g, h) in z) (flag-taken (next-there e).token (next-kind e ∙ h))
+  pub bool_on : kind ≡ 1 → Walked s (taken flag) count k (q + 1)
+  bool_on h =
+      next_on e (λ g. let z : ⊥ = omega (arith, g, h) in z) (flag_taken (next_there e).token (next_kind e ∙ h))
 
   -- the way out with 18: neither a bool nor the close
-  pub bool-refused : {r : ℕ} → (kind ≡ 1 → ⊥) → (kind ≡ 11 → ⊥) → r ≡ 2 ^ 32 * 18 + q
+  pub bool_refused : {r : ℕ} → (kind ≡ 1 → ⊥) → (kind ≡ 11 → ⊥) → r ≡ 2 ^ 32 * 18 + q
       → Answers s (taken flag) count k r
-  bool-refused a b is =
-      next-refused e 18 b (flag-refused (next-there e).token (λ g. a (sym (next-kind e) ∙ g)))
+  bool_refused a b is =
+      next_refused e 18 b (flag_refused (next_there e).token (λ g. a (sym (next_kind e) ∙ g)))
       (λ g. let z : ⊥ = omega (arith, g) in z) is
 
 -- ---- numbers, by the limits
@@ -188,24 +188,24 @@ pub record Judging (s : List ℕ) (a : Atomic) (f : Limits) (q kind x number : �
 
 module _ {s : List ℕ} {a : Atomic} {f : Limits} {n count k last q kind x number : ℕ}
     (e : NextFits s (or_null (atomic_takes a)) n count k last q kind) (j : Judging s a f q kind x number) where
-  by-limits : number ≡ misfit (limits_of a) kind x
-  by-limits = j.judges ∙ ap (λ (g : Limits). misfit g kind x) j.limits
+  by_limits : number ≡ misfit (limits_of a) kind x
+  by_limits = j.judges ∙ ap (λ (g : Limits). misfit g kind x) j.limits
 
-  judged : Judged (or_null (atomic_takes a) (next-there e).token) number
+  judged : Judged (or_null (atomic_takes a) (next_there e).token) number
   judged =
       let low : x < 2 ^ 64 = rw j.payload (word_below 8 s (8 + 12 * q) j.bytes) in
-      rw (by-limits ∙ ap (λ (m : ℕ). misfit (limits_of a) m x) (sym (next-kind e)))
-      (atomic-judged a (next-there e).token x low (λ h. (next-there e).payload h ∙ sym j.payload))
+      rw (by_limits ∙ ap (λ (m : ℕ). misfit (limits_of a) m x) (sym (next_kind e)))
+      (atomic_judged a (next_there e).token x low (λ h. (next_there e).payload h ∙ sym j.payload))
 
   -- an entry that the limits let in is taken, and the rest is left from the next entry on
-  pub number-on : number ≡ 0 → Walked s (or_null (atomic_takes a)) count k (q + 1)
-  number-on z =
-      next-on e
-      (λ g. let h : number ≡ 18 = by-limits ∙ above-misfits a kind x (omega (arith, g)) in
+  pub number_on : number ≡ 0 → Walked s (or_null (atomic_takes a)) count k (q + 1)
+  number_on z =
+      next_on e
+      (λ g. let h : number ≡ 18 = by_limits ∙ above_misfits a kind x (omega (arith, g)) in
       let w : ⊥ = omega (arith, h, z) in w)
       (rw (← z) judged)
 
   -- the way out with the number that the limits say of an entry that is no close
-  pub number-refused : {r : ℕ} → (number ≡ 0 → ⊥) → (kind ≡ 11 → ⊥) → r ≡ 2 ^ 32 * number + q
+  pub number_refused : {r : ℕ} → (number ≡ 0 → ⊥) → (kind ≡ 11 → ⊥) → r ≡ 2 ^ 32 * number + q
       → Answers s (or_null (atomic_takes a)) count k r
-  number-refused o b is = next-refused e number b judged o is
+  number_refused o b is = next_refused e number b judged o is

@@ -24,7 +24,7 @@ use Rattle.values.specs.reading.Trees.{atomics_tree}
 use Rattle.values.specs.stream.Stream.{Token}
 use Rattle.values.specs.writing.Effects.{or_null, taken}
 use Rattle.values.specs.writing.Writing.{write, write_one}
-use Rattle.values.proofs.reading.LeafLaws.{row-bit}
+use Rattle.values.proofs.reading.LeafLaws.{row_bit}
 
 -- the member of a row was read, with its place and its count
 pub record LeafHere (members : List ℕ) (row base : ℕ) (image : List ℕ) (m : Member) (from n : ℕ) : Type 0 where
@@ -36,26 +36,26 @@ pub record LeafHere (members : List ℕ) (row base : ℕ) (image : List ℕ) (m 
   pub count : n ≡ m.count
 
 -- a member begins in the image
-bit-start : (b : Bit) (base offset bits long : ℕ) → 8 * base + (first_in b offset + bits) ≤ 8 * long
+bit_start : (b : Bit) (base offset bits long : ℕ) → 8 * base + (first_in b offset + bits) ≤ 8 * long
     → base + offset ≤ long
-bit-start None base offset bits long h = omega arith
-bit-start (At k) base offset bits long h = omega arith
+bit_start None base offset bits long h = omega arith
+bit_start (At k) base offset bits long h = omega arith
 
 module _ {members : List ℕ} {row base : ℕ} {image : List ℕ} {m : Member} {from n : ℕ}
     (w : LeafHere members row base image m from n) where
   -- the member begins in the image
-  pub leaf-start : base + from ≤ length image
-  leaf-start =
+  pub leaf_start : base + from ≤ length image
+  leaf_start =
       let h = rw (← w.is) at w.here.inside in
-      rw w.start (bit-start m.bit base m.offset _ (length image) h)
+      rw w.start (bit_start m.bit base m.offset _ (length image) h)
 
   -- a BOOL is one bit of a byte
   module _ {k : ℕ} (e : m.bit ≡ At k) where
     -- its byte lies in the image, and its bit in that byte
-    pub flag-inside : (base + from < length image) × (k < 8)
-    flag-inside =
+    pub flag_inside : (base + from < length image) × (k < 8)
+    flag_inside =
         let h : 8 * base + (8 * m.offset + k + 1) ≤ 8 * length image = rw (← w.is, e) at w.here.inside in
-        (omega (arith, w.start), row-bit members row k (ap (λ (x : Member). x.bit) (sym w.is) ∙ e))
+        (omega (arith, w.start), row_bit members row k (ap (λ (x : Member). x.bit) (sym w.is) ∙ e))
 
     -- writing the member is writing one bool or null at that bit
     pub flag_is : (trees : ℕ → Tree) (ts : List Token) (z : Bits)
@@ -69,23 +69,23 @@ module _ {members : List ℕ} {row base : ℕ} {image : List ℕ} {m : Member} {
   -- atomics from a byte on
   module _ {a : Atomic} (none : m.bit ≡ None) (e : m.ty ≡ ty.Atomic a) where
     -- their bytes lie in the image
-    pub atomics-inside : base + from + size_of a * times n ≤ length image
-    atomics-inside =
+    pub atomics_inside : base + from + size_of a * times n ≤ length image
+    atomics_inside =
         let h : 8 * base + (8 * m.offset + 8 * (size_of a * times m.count)) ≤ 8 * length image =
         rw (← w.is, none, e) at w.here.inside in
         rw w.count (omega (arith, w.start))
 
     -- writing the member is writing these atomics from that byte on
-    pub atomics-is : (trees : ℕ → Tree) (ts : List Token) (z : Bits)
+    pub atomics_is : (trees : ℕ → Tree) (ts : List Token) (z : Bits)
         → write (member_tree trees (member_at members row)) (8 * base + first_bit (member_at members row)) ts z
         ≡ write (atomics_tree a n) (8 * (base + from)) ts z
-    atomics-is trees ts z =
+    atomics_is trees ts z =
         let at : 8 * base + 8 * m.offset ≡ 8 * (base + from) = omega (arith, w.start) in
         rw (← w.is, none, e, w.count) (ap (λ (p : ℕ). write (atomics_tree a m.count) p ts z) at)
 
   -- a visible row that is not nested and has no bit is no structure
-  pub nested-never : {i : ℕ} → m.bit ≡ None → m.ty ≡ ty.Struct i → ⊥
+  pub nested_never : {i : ℕ} → m.bit ≡ None → m.ty ≡ ty.Struct i → ⊥
   unfolding is_nested
-  nested-never none e =
+  nested_never none e =
       let shown : m.hidden ≡ false = ap (λ (x : Member). x.hidden) w.is ∙ w.leaf.visible in
       true≢false (rw (← w.is, shown, none, e) at w.leaf.flat)

@@ -11,13 +11,13 @@ use lib.ListN.{length}
 use lib.Seq.{sets, length-sets}
 use Rattle.words.specs.Bits.{Bits, bit_of, flat, stamp}
 use Rattle.words.specs.Words.{bytes_of}
-use Rattle.words.proofs.BitLaws.{bit-none}
-use Rattle.words.proofs.StampLaws.{flat_word, stamp-ext}
-use Rattle.words.proofs.ArithLaws.{element-room}
+use Rattle.words.proofs.BitLaws.{bit_none}
+use Rattle.words.proofs.StampLaws.{flat_word, stamp_ext}
+use Rattle.words.proofs.ArithLaws.{element_room}
 use Rattle.types.specs.atomics.Atomic.{bit_string, size_of}
 use Rattle.types.specs.layout.Placing.{times}
 use Rattle.types.specs.declared.atomics.atomic.Atomic.{Atomic}
-use Rattle.types.proofs.Face.{times-one, times-same}
+use Rattle.types.proofs.Face.{times_one, times_same}
 use Rattle.values.specs.inside.writing.Bools.{Bools}
 use Rattle.values.specs.inside.writing.Effects.{atomic_takes}
 use Rattle.values.specs.inside.writing.Passes.{Applied, accepted, first_kind, left_at}
@@ -27,14 +27,14 @@ use Rattle.values.specs.stream.Form.{count_in, stream_ok}
 use Rattle.values.specs.stream.Stream.{Token}
 use Rattle.values.specs.writing.Effects.{or_null}
 use Rattle.values.specs.writing.Writing.{Outcome, and_then, write_one, elements, bools_in, no_bits, write}
-use Rattle.values.proofs.stream.LeftLaws.{EntryThere, kind-none, none_left, payload_of_entry, there}
-use Rattle.values.proofs.writing.ApplyLaws.{Setting, accepted-as, accepted-first, elements-closed, elements-end}
-use Rattle.values.proofs.writing.ApplyLaws.{elements-there, not-accepted, setting-from, setting-on}
-use Rattle.values.proofs.writing.ApplyLaws.{setting-start, setting-then}
-use Rattle.values.proofs.writing.OutcomeLaws.{elements-none, one_none}
-use Rattle.values.proofs.writing.RunInLaws.{bits-bools, bits-number, run-wholes}
-use Rattle.values.proofs.writing.StepLaws.{elements-go}
-use Rattle.values.proofs.writing.sets.SetLaws.{atomic-set, one_kept}
+use Rattle.values.proofs.stream.LeftLaws.{EntryThere, kind_none, none_left, payload_of_entry, there}
+use Rattle.values.proofs.writing.ApplyLaws.{Setting, accepted_as, accepted_first, elements_closed, elements_end}
+use Rattle.values.proofs.writing.ApplyLaws.{elements_there, not_accepted, setting_from, setting_on}
+use Rattle.values.proofs.writing.ApplyLaws.{setting_start, setting_then}
+use Rattle.values.proofs.writing.OutcomeLaws.{elements_none, one_none}
+use Rattle.values.proofs.writing.RunInLaws.{bits_bools, bits_number, run_wholes}
+use Rattle.values.proofs.writing.StepLaws.{elements_go}
+use Rattle.values.proofs.writing.sets.SetLaws.{atomic_set, one_kept}
 
 -- ---- one entry
 
@@ -65,64 +65,65 @@ pub record Numbers (n : ℕ) (s : List ℕ) (k : ℕ) (image : List ℕ) (base s
       (numbers_in a (n - (p - k)) (base + size_of a * (p - k)) (left_at s p))
 
 -- at the first entry all are left to be set
-pub numbers-start : {n : ℕ} {s : List ℕ} {k : ℕ} {image : List ℕ} {base size : ℕ}
+pub numbers_start : {n : ℕ} {s : List ℕ} {k : ℕ} {image : List ℕ} {base size : ℕ}
     → Numbers n s k image base size image k
-numbers-start {n} {s} {k} {image} {base} {size} =
+numbers_start {n} {s} {k} {image} {base} {size} =
     record {
       further = omega arith;
       bounded = omega arith;
       each = λ a w.
           (let none : k - k ≡ 0 = omega arith in
-          rw (none, sub-zero, mul-zero, add-zero) (setting-start w.taken));
+          rw (none, sub-zero, mul-zero, add-zero) (setting_start w.taken));
     }
 
 module _ {n : ℕ} {s : List ℕ} {k : ℕ} {image : List ℕ} {base size : ℕ} {now : List ℕ} {p : ℕ}
     (v : Numbers n s k image base size now p) where
   module _ {a : Atomic} (w : NumbersAsked a n s k image base size) where
     -- where an array of numbers is accepted, its next entry is there
-    pub numbers-there : EntryThere s p
-    numbers-there =
-        elements-there w.form (n - (p - k)) (one_of a) (8 * size_of a) (8 * (base + size_of a * (p - k))) (flat now)
+    pub numbers_there : EntryThere s p
+    numbers_there =
+        elements_there w.form (n - (p - k)) (one_of a) (8 * size_of a) (8 * (base + size_of a * (p - k))) (flat now)
         (v.each a w).taken
 
     -- the image is as long as it was
-    pub numbers-long : length now ≡ length image
-    numbers-long = (v.each a w).long
+    pub numbers_long : length now ≡ length image
+    numbers_long = (v.each a w).long
 
     -- where a place is left, the next atomic lies in the image
-    pub numbers-room : p - k < n → base + size * (p - k) + size ≤ length now
-    numbers-room l =
-        rw (w.long, numbers-long) (element-room (size_of a) (p - k) n base (length image) l w.room)
+    pub numbers_room : p - k < n → base + size * (p - k) + size ≤ length now
+    numbers_room l =
+        rw (w.long, numbers_long) (element_room (size_of a) (p - k) n base (length image) l w.room)
 
     -- the close: the places that are left stand as they were
-    pub numbers-closed : first_kind (left_at s p) ≡ 11 → Applied s k (p + 1) image now (numbers_in a n base (left_at s k))
-    numbers-closed e =
+    pub numbers_closed : first_kind (left_at s p) ≡ 11
+        → Applied s k (p + 1) image now (numbers_in a n base (left_at s k))
+    numbers_closed e =
         (v.each a w).onward (p + 1) now
-        (elements-closed w.form (one_of a) (8 * size_of a) numbers-there (n - (p - k))
+        (elements_closed w.form (one_of a) (8 * size_of a) numbers_there (n - (p - k))
         (8 * (base + size_of a * (p - k))) e)
 
     -- past the last place there is nothing else
-    pub numbers-end : n ≤ p - k → Applied s k (p + 1) image now (numbers_in a n base (left_at s k))
-    numbers-end l =
+    pub numbers_end : n ≤ p - k → Applied s k (p + 1) image now (numbers_in a n base (left_at s k))
+    numbers_end l =
         let none : n - (p - k) ≡ 0 = omega arith in
-        numbers-closed (elements-end w.form (one_of a) (8 * size_of a) numbers-there
+        numbers_closed (elements_end w.form (one_of a) (8 * size_of a) numbers_there
         (8 * (base + size_of a * (p - k))) now (rw none at (v.each a w).taken))
 
-    next-is : p - k < n → (first_kind (left_at s p) ≡ 11 → ⊥)
+    next_is : p - k < n → (first_kind (left_at s p) ≡ 11 → ⊥)
         → numbers_in a (n - (p - k)) (base + size_of a * (p - k)) (left_at s p) (flat now)
         ≡ and_then (one_of a (8 * (base + size_of a * (p - k))) (left_at s p) (flat now))
         (elements (n - (p + 1 - k)) (one_of a) (8 * size_of a) (8 * (base + size_of a * (p - k)) + 8 * size_of a))
-    next-is l e =
+    next_is l e =
         let more : n - (p - k) ≡ suc (n - (p + 1 - k)) = (let f = v.further in omega arith) in
-        rw more (elements-go w.form (one_of a) (8 * size_of a) (n - (p + 1 - k)) (8 * (base + size_of a * (p - k)))
-        numbers-there e (flat now))
+        rw more (elements_go w.form (one_of a) (8 * size_of a) (n - (p + 1 - k)) (8 * (base + size_of a * (p - k)))
+        numbers_there e (flat now))
 
-    one-taken : p - k < n → (first_kind (left_at s p) ≡ 11 → ⊥)
+    one_taken : p - k < n → (first_kind (left_at s p) ≡ 11 → ⊥)
         → accepted (one_of a (8 * (base + size_of a * (p - k))) (left_at s p) (flat now)) ≡ true
-    one-taken l e =
-        accepted-first (one_of a (8 * (base + size_of a * (p - k))) (left_at s p) (flat now))
+    one_taken l e =
+        accepted_first (one_of a (8 * (base + size_of a * (p - k))) (left_at s p) (flat now))
         (elements (n - (p + 1 - k)) (one_of a) (8 * size_of a) (8 * (base + size_of a * (p - k)) + 8 * size_of a))
-        (accepted-as (next-is l e) (v.each a w).taken)
+        (accepted_as (next_is l e) (v.each a w).taken)
 
   -- an entry that was set, and the rest
   numbers_on : {new : List ℕ} → p - k < n → (first_kind (left_at s p) ≡ 11 → ⊥)
@@ -138,88 +139,88 @@ module _ {n : ℕ} {s : List ℕ} {k : ℕ} {image : List ℕ} {base size : ℕ}
             let count : p + 1 - k ≡ suc (p - k) = omega arith in
             let far : 8 * (base + size_of a * (p - k)) + 8 * size_of a ≡ 8 * (base + size_of a * (p + 1 - k)) =
             rw count (omega (arith, mul-suc (size_of a) (p - k))) in
-            setting-on (v.each a w)
+            setting_on (v.each a w)
             (subst (λ (q : ℕ). Setting s p now (numbers_in a (n - (p - k)) (base + size_of a * (p - k)) (left_at s p))
             (p + 1) new (elements (n - (p + 1 - k)) (one_of a) (8 * size_of a) q (left_at s (p + 1)))) far
-            (setting-then
+            (setting_then
             (elements (n - (p + 1 - k)) (one_of a) (8 * size_of a) (8 * (base + size_of a * (p - k)) + 8 * size_of a))
-            (next-is w l e) (v.each a w).taken (one a w))));
+            (next_is w l e) (v.each a w).taken (one a w))));
       }
 
   -- a null: what stands is kept, and the rest is set from the next entry on
-  pub numbers-null : p - k < n → first_kind (left_at s p) ≡ 0 → Numbers n s k image base size now (p + 1)
-  numbers-null l e =
+  pub numbers_null : p - k < n → first_kind (left_at s p) ≡ 0 → Numbers n s k image base size now (p + 1)
+  numbers_null l e =
       numbers_on l (λ h. let z : ⊥ = omega arith in z)
-      (λ a w. one_kept (numbers-there w) (atomic_takes a) (8 * size_of a) (8 * (base + size_of a * (p - k))) e)
+      (λ a w. one_kept (numbers_there w) (atomic_takes a) (8 * size_of a) (8 * (base + size_of a * (p - k))) e)
 
   -- a number: its bytes are stored, and the rest is set from the next entry on
-  pub numbers-put : {x : ℕ} {new : List ℕ} → p - k < n → (first_kind (left_at s p) ≡ 11 → ⊥)
+  pub numbers_put : {x : ℕ} {new : List ℕ} → p - k < n → (first_kind (left_at s p) ≡ 11 → ⊥)
       → (first_kind (left_at s p) ≡ 0 → ⊥) → x ≡ payload_of_entry s p
       → new ≡ sets now (base + size * (p - k)) (bytes_of size x) → Numbers n s k image base size new (p + 1)
-  numbers-put {x} {new} l c e d b =
+  numbers_put {x} {new} l c e d b =
       numbers_on l c
-      (λ a w. atomic-set (numbers-there w) a (base + size_of a * (p - k)) e
-      (subst (λ (m : ℕ). base + m * (p - k) + m ≤ length now) w.long (numbers-room w l)) (one-taken w l c)
+      (λ a w. atomic_set (numbers_there w) a (base + size_of a * (p - k)) e
+      (subst (λ (m : ℕ). base + m * (p - k) + m ≤ length now) w.long (numbers_room w l)) (one_taken w l c)
       (b ∙ rw (w.long, d) refl))
 
 -- ---- one bit string
 
 module _ {s : List ℕ} {k : ℕ} (form : stream_ok s ≡ true) (a : Atomic) (base : ℕ) (bits : bit_string a ≡ true) where
   -- where a bit string is accepted, its entry is there
-  pub bits-there : (z : Bits) → accepted (write (atomics_tree a 0) (8 * base) (left_at s k) z) ≡ true → EntryThere s k
-  bits-there z h = go (dec_lt k (count_in s))
+  pub bits_there : (z : Bits) → accepted (write (atomics_tree a 0) (8 * base) (left_at s k) z) ≡ true → EntryThere s k
+  bits_there z h = go (dec_lt k (count_in s))
     where
       go : Dec (k < count_in s) → EntryThere s k
       go (yes l) = there s k form l
       go (no l) =
           let past : count_in s ≤ k = omega arith in
-          not-accepted
-          (bits-number a (8 * base) (left_at s k) z bits (λ e. let y : ⊥ = omega (arith, kind-none s k past) in y)
+          not_accepted
+          (bits_number a (8 * base) (left_at s k) z bits (λ e. let y : ⊥ = omega (arith, kind_none s k past) in y)
           ∙ one_none (or_null (atomic_takes a)) (8 * size_of a) (8 * base) z (none_left s k past)) h
 
   -- all its bits are cleared, and then bools follow
-  pub bits-cleared : {size : ℕ} {image mid : List ℕ} → EntryThere s k → first_kind (left_at s k) ≡ 10
+  pub bits_cleared : {size : ℕ} {image mid : List ℕ} → EntryThere s k → first_kind (left_at s k) ≡ 10
       → accepted (write (atomics_tree a 0) (8 * base) (left_at s k) (flat image)) ≡ true
       → base + size_of a ≤ length image → size ≡ size_of a → mid ≡ sets image base (bytes_of size 0)
       → Setting s k image (write (atomics_tree a 0) (8 * base) (left_at s k)) (k + 1) mid
       (bools_in (8 * size_of a) (8 * base) (left_at s (k + 1)))
-  bits-cleared {size} {image} {mid} t e h l w q =
+  bits_cleared {size} {image} {mid} t e h l w q =
       let m : mid ≡ sets image base (bytes_of (size_of a) 0) = q ∙ rw w refl in
       let zeros : flat mid ≡ stamp (8 * base) (8 * size_of a) no_bits (flat image) =
       ap flat m ∙ flat_word image base (size_of a) 0 l
-      ∙ stamp-ext (8 * base) (8 * size_of a) (bit_of 0) no_bits (flat image) (λ i j. bit-none i) in
-      setting-from (omega arith) (ap length m ∙ length-sets image base (bytes_of (size_of a) 0))
-      (bits-bools a (8 * base) (left_at s k) (flat image) bits e
+      ∙ stamp_ext (8 * base) (8 * size_of a) (bit_of 0) no_bits (flat image) (λ i j. bit_none i) in
+      setting_from (omega arith) (ap length m ∙ length-sets image base (bytes_of (size_of a) 0))
+      (bits_bools a (8 * base) (left_at s k) (flat image) bits e
       ∙ rw (zeros, t.left) refl) h
 
 -- bools that are accepted in so many bytes
-pub bools-asked : {s : List ℕ} {k : ℕ} {image : List ℕ} {base : ℕ} (bytes : ℕ) → stream_ok s ≡ true
+pub bools_asked : {s : List ℕ} {k : ℕ} {image : List ℕ} {base : ℕ} (bytes : ℕ) → stream_ok s ≡ true
     → base + bytes ≤ length image → accepted (bools_in (8 * bytes) (8 * base) (left_at s k) (flat image)) ≡ true
     → Bools s k image base
-bools-asked bytes form room taken = record { form = form; bytes = bytes; room = room; taken = taken }
+bools_asked bytes form room taken = record { form = form; bytes = bytes; room = room; taken = taken }
 
 -- ---- the inside of an array
 
 -- inside an accepted array of bit strings the next entry is there
-pub run-there : {s : List ℕ} {k : ℕ} → stream_ok s ≡ true → (a : Atomic) (n p : ℕ) (z : Bits) → bit_string a ≡ true
+pub run_there : {s : List ℕ} {k : ℕ} → stream_ok s ≡ true → (a : Atomic) (n p : ℕ) (z : Bits) → bit_string a ≡ true
     → accepted (run_in a n p (left_at s k) z) ≡ true → EntryThere s k
-run-there {s} {k} form a n p z bits h = go (dec_lt k (count_in s))
+run_there {s} {k} form a n p z bits h = go (dec_lt k (count_in s))
   where
     go : Dec (k < count_in s) → EntryThere s k
     go (yes l) = there s k form l
     go (no l) =
         let past : count_in s ≤ k = omega arith in
-        not-accepted
-        (run-wholes a n p (left_at s k) z bits (λ e. let y : ⊥ = omega (arith, kind-none s k past) in y)
-        ∙ elements-none (one_of a) (8 * size_of a) n p z (none_left s k past)) h
+        not_accepted
+        (run_wholes a n p (left_at s k) z bits (λ e. let y : ⊥ = omega (arith, kind_none s k past) in y)
+        ∙ elements_none (one_of a) (8 * size_of a) n p z (none_left s k past)) h
 
 -- ---- one, or many
 
 module _ (a : Atomic) (n base : ℕ) {long : ℕ} (h : base + size_of a * times n ≤ long) where
   -- count 0: there is room for one atomic
-  pub room-one : n ≡ 0 → base + size_of a ≤ long
-  room-one e = rw (← times-one n e, mul-one) at h
+  pub room_one : n ≡ 0 → base + size_of a ≤ long
+  room_one e = rw (← times_one n e, mul-one) at h
 
   -- any other count: there is room for so many atomics
-  pub room-some : (n ≡ 0 → ⊥) → base + size_of a * n ≤ long
-  room-some e = rw (← times-same n e) at h
+  pub room_some : (n ≡ 0 → ⊥) → base + size_of a * n ≤ long
+  room_some e = rw (← times_same n e) at h

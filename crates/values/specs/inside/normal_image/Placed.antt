@@ -58,7 +58,8 @@ module _ (trees : ℕ → Tree) (size : ℕ) where
   unfoldable pub Stairs : List Member → ℕ → Type 0
   Stairs [] c = c ≤ size
   Stairs (m ∷ ms) c =
-      If (is_plain m) ((c ≤ first_bit m) × (TreePlaced (member_tree trees m) × Stairs ms (past_tree trees m))) (Stairs ms c)
+      If (is_plain m) ((c ≤ first_bit m) × (TreePlaced (member_tree trees m) × Stairs ms (past_tree trees m)))
+      (Stairs ms c)
 
 -- ---- tables
 

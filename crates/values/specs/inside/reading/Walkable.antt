@@ -1,7 +1,7 @@
 -- What the walk counts on in the tables (document 01, "Layout"): a structure's rows are in the table, each of its
--- members names an earlier type and lies inside it, and a string is LEN and DATA. Tables as our own calls left them are
--- so.
-use Rattle.std.specs.Prelude.{ℕ, ◌+◌, ◌*◌, ◌/◌, ◌^◌, ◌<◌, ◌≤◌, true, List, ◌≡◌, length}
+-- members names an earlier type and lies inside it, and a string is LEN and DATA. Tables as our own calls left them
+-- are so.
+use Rattle.std.specs.Prelude.{ℕ, ◌+◌, ◌*◌, ◌/◌, ◌<◌, ◌≤◌, true, List, ◌≡◌, length}
 use Rattle.types.specs.inside.tables.Lent.{TyFits}
 use Rattle.types.specs.layout.Laid.{Earlier, past_bit}
 use Rattle.types.specs.layout.Placing.{most_size, times}

@@ -1,5 +1,5 @@
--- What twelve bytes say as the code tells it, by value (document 01, "Value stream"). That it is what `entry_at` says is
--- a law.
+-- What twelve bytes say as the code tells it, by value (document 01, "Value stream"). That it is what
+-- `entry_at` says is a law.
 use Rattle.std.specs.Prelude.{ℕ, ◌/◌, ◌%◌, ◌^◌, true, false, cond, List, [], ◌∷◌, eqb, ltb, get_or}
 use Rattle.values.specs.stream.Entry.{kind_at, payload_at, three_zeros}
 use Rattle.values.specs.declared.stream.entry.Entry.{Entry}

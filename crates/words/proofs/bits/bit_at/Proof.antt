@@ -2,7 +2,7 @@
 use borrow.Author.Rules.{rules}
 use mathlib.Core.Path.{sym}
 use Rattle.words.specs.Bits.{bit_of}
-use Rattle.words.proofs.BitLaws.{flat-at}
+use Rattle.words.proofs.BitLaws.{flat_at}
 use Rattle.words.proofs.bits.bit_at.Statement.{statement}
 use Rattle.words.proofs.bits.bit_at.Tie as tie
 
@@ -10,7 +10,7 @@ returns : tie.Need-returns
 unfolding bit_of
 returns c =
     let a = c.before.args in
-    sym (flat-at a.s.now a.at a.bit c.before.requires.1)
+    sym (flat_at a.s.now a.at a.bit c.before.requires.1)
 
-pub bit-at-spec : {M : Type 1} → statement M
-bit-at-spec = tie.close (tie.spec (λ c. search rules) (λ c. search rules) returns)
+pub bit_at_spec : {M : Type 1} → statement M
+bit_at_spec = tie.close (tie.spec (λ c. search rules) (λ c. search rules) returns)

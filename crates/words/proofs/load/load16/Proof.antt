@@ -10,8 +10,8 @@ returns c =
     let a = c.before.before.before.before.before.args in
     omega (arith, word_split 1 1 a.s.now a.at)
 
-pub load16-spec : {M : Type 1} → statement M
-load16-spec =
+pub load16_spec : {M : Type 1} → statement M
+load16_spec =
     tie.close
     (tie.spec
     (λ c κs. search rules)

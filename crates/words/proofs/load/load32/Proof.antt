@@ -10,8 +10,8 @@ returns c =
     let a = c.before.before.before.before.before.args in
     omega (arith, word_split 2 2 a.s.now a.at)
 
-pub load32-spec : {M : Type 1} → statement M
-load32-spec =
+pub load32_spec : {M : Type 1} → statement M
+load32_spec =
     tie.close
     (tie.spec
     (λ c κs. search rules)

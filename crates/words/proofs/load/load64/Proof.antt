@@ -10,8 +10,8 @@ returns c =
     let a = c.before.before.before.before.before.args in
     omega (arith, word_split 4 4 a.s.now a.at)
 
-pub load64-spec : {M : Type 1} → statement M
-load64-spec =
+pub load64_spec : {M : Type 1} → statement M
+load64_spec =
     tie.close
     (tie.spec
     (λ c κs. search rules)

@@ -9,5 +9,5 @@ returns : tie.Need-returns
 unfolding word_at
 returns c = omega arith
 
-pub load8-spec : {M : Type 1} → statement M
-load8-spec = tie.close (tie.spec (λ c. search rules) returns)
+pub load8_spec : {M : Type 1} → statement M
+load8_spec = tie.close (tie.spec (λ c. search rules) returns)

@@ -9,11 +9,11 @@ returns c =
     let high = c.before.before in
     let low = high.before.before.before.before.before in
     let a = low.before.before.before.before.args in
-    rw (high.store82.ensures, high.before.high8.ensures, low.store8.ensures, low.before.low8.ensures)
+    rw (high.store8-2.ensures, high.before.high8.ensures, low.store8.ensures, low.before.low8.ensures)
     (store_split 1 1 a.s.now a.at a.x)
 
-pub store16-spec : {M : Type 1} → statement M
-store16-spec =
+pub store16_spec : {M : Type 1} → statement M
+store16_spec =
     tie.close
     (tie.spec
     (λ c κs. search rules)

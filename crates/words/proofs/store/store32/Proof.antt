@@ -9,11 +9,11 @@ returns c =
     let high = c.before.before in
     let low = high.before.before.before.before.before in
     let a = low.before.before.before.before.args in
-    rw (high.store162.ensures, high.before.high16.ensures, low.store16.ensures, low.before.low16.ensures)
+    rw (high.store16-2.ensures, high.before.high16.ensures, low.store16.ensures, low.before.low16.ensures)
     (store_split 2 2 a.s.now a.at a.x)
 
-pub store32-spec : {M : Type 1} → statement M
-store32-spec =
+pub store32_spec : {M : Type 1} → statement M
+store32_spec =
     tie.close
     (tie.spec
     (λ c κs. search rules)

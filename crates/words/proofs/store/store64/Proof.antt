@@ -9,11 +9,11 @@ returns c =
     let high = c.before.before in
     let low = high.before.before.before.before.before in
     let a = low.before.before.before.before.args in
-    rw (high.store322.ensures, high.before.high32.ensures, low.store32.ensures, low.before.low32.ensures)
+    rw (high.store32-2.ensures, high.before.high32.ensures, low.store32.ensures, low.before.low32.ensures)
     (store_split 4 4 a.s.now a.at a.x)
 
-pub store64-spec : {M : Type 1} → statement M
-store64-spec =
+pub store64_spec : {M : Type 1} → statement M
+store64_spec =
     tie.close
     (tie.spec
     (λ c κs. search rules)

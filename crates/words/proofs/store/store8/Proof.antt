@@ -11,5 +11,5 @@ returns : tie.Need-returns
 unfolding bytes_of
 returns c = sym (ap (set c.args.s.now c.args.at) (byte_of c.args.x c.ranges.x.fits))
 
-pub store8-spec : {M : Type 1} → statement M
-store8-spec = tie.close (tie.spec (λ c. search rules) (λ c. search rules) returns)
+pub store8_spec : {M : Type 1} → statement M
+store8_spec = tie.close (tie.spec (λ c. search rules) (λ c. search rules) returns)

@@ -5,7 +5,7 @@ use Rattle.types.proofs.adding.new_row.enter.Statement.{statement}
 use Rattle.types.proofs.adding.new_row.enter.Tie as tie
 
 returns : tie.Need-returns
-returns c = c.put-type.ensures ∙ rw c.before.before.before.template-handle.ensures
+returns c = c.put_type.ensures ∙ rw c.before.before.before.template_handle-handle.ensures
 
 pub enter_spec : {M : Type 1} → statement M
 enter_spec = tie.close (tie.spec (λ c κs. search rules) (λ c κs. search rules) returns)

@@ -5,13 +5,13 @@ use Rattle.types.specs.atomics.Bits.{bit_set}
 use Rattle.types.proofs.atomics.bits.set_bit.Statement.{statement}
 use Rattle.types.proofs.atomics.bits.set_bit.Tie as tie
 
-returns : tie.Need-returns
+returns : tie.Need-returns-then-bit-lt8
 unfolding bit_set
-returns c = rw (c.set-bit.ensures, lt-ltb _ 8 c.before.before.if1.true)
+returns c = rw (c.set_bit.ensures, lt-ltb _ 8 c.before.before.if-bit-lt8.true)
 
-returns-2 : tie.Need-returns-2
+returns_2 : tie.Need-returns-else-bit-lt8
 unfolding bit_set
-returns-2 c = rw (le-ltb c.before.args.bit 8 c.if1.false)
+returns_2 c = rw (le-ltb c.before.args.bit 8 c.if-bit-lt8.false)
 
-pub set-bit-spec : {M : Type 1} → statement M
-set-bit-spec = tie.close (tie.spec (λ c κs. search rules) returns returns-2)
+pub set_bit_spec : {M : Type 1} → statement M
+set_bit_spec = tie.close (tie.spec (λ c κs. search rules) returns returns_2)

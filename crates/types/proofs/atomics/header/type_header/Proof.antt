@@ -2,25 +2,25 @@
 use borrow.Author.Rules.{rules}
 use mathlib.Core.Path.{sym, ◌∙◌}
 use Rattle.types.specs.atomics.Header.{headed_of}
-use Rattle.types.proofs.shape.ShapeLaws.{there-fits}
+use Rattle.types.proofs.shape.ShapeLaws.{there_fits}
 use Rattle.types.proofs.atomics.header.type_header.Statement.{statement}
 use Rattle.types.proofs.atomics.header.type_header.Tie as tie
 
-header-in-requires : tie.Need-header-in-requires
-header-in-requires c κs =
+header_in_requires : tie.Need-header_in-header-requires
+header_in_requires c κs =
     let there = c.before in
     let a = there.before.args in
-    there-fits a.types.now a.ty (sym there.is-there.ensures ∙ c.if1.true)
+    there_fits a.types.now a.ty (sym there.is_there.ensures ∙ c.if-is_there.true)
 
-returns : tie.Need-returns
+returns : tie.Need-returns-then-is_there
 unfolding headed_of
 returns c =
-    rw (sym c.before.before.is-there.ensures ∙ c.before.if1.true, c.header-in.ensures)
+    rw (sym c.before.before.is_there.ensures ∙ c.before.if-is_there.true, c.header_in-header.ensures)
 
-returns-2 : tie.Need-returns-2
+returns_2 : tie.Need-returns
 unfolding headed_of
-returns-2 c = rw (sym c.before.is-there.ensures ∙ c.if1.false)
+returns_2 c = rw (sym c.before.is_there.ensures ∙ c.if-is_there.false)
 
-pub type-header-spec : {M : Type 1} → statement M
-type-header-spec =
-    tie.close (tie.spec (λ c κs. search rules) header-in-requires returns returns-2)
+pub type_header_spec : {M : Type 1} → statement M
+type_header_spec =
+    tie.close (tie.spec (λ c κs. search rules) header_in_requires returns returns_2)

@@ -7,46 +7,46 @@ use lib.ListN.{length}
 use Rattle.words.proofs.Lists.{length_part}
 use Rattle.types.specs.atomics.Lookup.{row_name}
 use Rattle.types.specs.tables.Lent.{type_at}
-use Rattle.types.proofs.book.NameLaws.{same-long}
+use Rattle.types.proofs.book.NameLaws.{same_long}
 use Rattle.types.proofs.atomics.lookup.row_named.Statement.{statement}
 use Rattle.types.proofs.atomics.lookup.row_named.Tie as tie
-use Rattle.types.proofs.tables.DefLaws.{lent-name}
+use Rattle.types.proofs.tables.DefLaws.{lent_name}
 
-returns : tie.Need-returns
+returns : tie.Need-returns-then-long-name
 unfolding type_at
 returns c =
     let a = c.before.before.before.before.before.args in
     let p = c.before.before.before.before.before.requires.1 in
-    let long = c.before.wide.ensures in
-    sym (same-long (row_name a.types.now a.names.now a.i) a.name.now
-    (λ e. c.if1.true (long ∙ sym (length_part a.names.now _ _ p) ∙ e)))
+    let long = c.before.wide-long.ensures in
+    sym (same_long (row_name a.types.now a.names.now a.i) a.name.now
+    (λ e. c.if-long-name.true (long ∙ sym (length_part a.names.now _ _ p) ∙ e)))
 
 -- the row's name lies among the names
-end : (c : tie.After-wide2)
-    → c.wide2.result + c.before.before.before.wide.result
+end : (c : tie.After-wide-start)
+    → c.wide-start.result + c.before.before.before.wide-long.result
     ≤ length c.before.before.before.before.before.before.before.args.names.now
 unfolding type_at
 end c =
-    rw (c.wide2.ensures, c.before.before.before.wide.ensures)
+    rw (c.wide-start.ensures, c.before.before.before.wide-long.ensures)
     c.before.before.before.before.before.before.before.requires.1
 
-add-end : tie.Need-overflow-add-end
-add-end c = omega (arith, end c)
+add_end : tie.Need-overflow_add-end
+add_end c = omega (arith, end c)
 
-part-same-name-end : tie.Need-slice-bounds-same-name-end
-part-same-name-end c = omega (arith, end c)
+part_same_name_end : tie.Need-slice_bounds-same_name-end
+part_same_name_end c = omega (arith, end c)
 
-returns-2 : tie.Need-returns-2
+returns_2 : tie.Need-returns
 unfolding type_at
-returns-2 c =
+returns_2 c =
     let start = c.before.before in
     let a = start.before.before.before.before.before.before.before.args in
     c.same_name.ensures
-    ∙ rw (lent-name a.names.now (type_at a.types.now a.i).name start.wide2.ensures
-    start.before.before.before.wide.ensures)
+    ∙ rw (lent_name a.names.now (type_at a.types.now a.i).name start.wide-start.ensures
+    start.before.before.before.wide-long.ensures)
 
-pub row-named-spec : {M : Type 1} → statement M
-row-named-spec =
+pub row_named_spec : {M : Type 1} → statement M
+row_named_spec =
     tie.close
     (tie.spec
     (λ c. search rules)
@@ -59,9 +59,9 @@ row-named-spec =
     (λ c. search rules)
     (λ c. search rules)
     (λ c κs. search rules)
-    add-end
+    add_end
     (λ c. search rules)
     (λ c. search rules)
-    part-same-name-end
+    part_same_name_end
     (λ c κs. search rules)
-    returns-2)
+    returns_2)

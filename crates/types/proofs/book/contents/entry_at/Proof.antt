@@ -9,19 +9,19 @@ returns c =
     let ty = access.before.before in
     let long = ty.before.before in
     rw (
-      c.load323.ensures,
-      c.before.load322.ensures,
-      access.load84.ensures,
-      access.before.load83.ensures,
-      ty.wide82.ensures,
-      ty.before.load82.ensures,
-      long.wide8.ensures,
+      c.load32-type_place.ensures,
+      c.before.load32-dim.ensures,
+      access.load8-access.ensures,
+      access.before.load8-local.ensures,
+      ty.wide8-type_long.ensures,
+      ty.before.load8-2.ensures,
+      long.wide8-long.ensures,
       long.before.load8.ensures,
-      long.before.before.load32.ensures,
+      long.before.before.load32-place.ensures,
     )
 
-pub entry-at-spec : {M : Type 1} → statement M
-entry-at-spec =
+pub entry_at_spec : {M : Type 1} → statement M
+entry_at_spec =
     tie.close
     (tie.spec
     (λ c κs. search rules)

@@ -1,21 +1,21 @@
 -- `types::in_bodies` meets its contract.
 use borrow.Author.Rules.{rules}
-use Rattle.types.proofs.book.BookLaws.{before-bodies, from-bodies}
+use Rattle.types.proofs.book.BookLaws.{before_bodies, from_bodies}
 use Rattle.types.proofs.book.contents.in_bodies.Statement.{statement}
 use Rattle.types.proofs.book.contents.in_bodies.Tie as tie
 
-returns : tie.Need-returns
+returns : tie.Need-returns-then-at-start
 returns c =
     let a = c.before.before.before.args in
-    before-bodies a.start a.end a.s c.before.before.wide.ensures c.before.wide2.ensures
-    c.if1.true
+    before_bodies a.start a.end a.s c.before.before.wide-at.ensures c.before.wide-long.ensures
+    c.if-at-start.true
 
-returns-2 : tie.Need-returns-2
-returns-2 c =
+returns_2 : tie.Need-returns
+returns_2 c =
     let a = c.before.before.before.args in
-    from-bodies a.start a.end a.s c.before.before.wide.ensures c.before.wide2.ensures
-    c.if1.false
+    from_bodies a.start a.end a.s c.before.before.wide-at.ensures c.before.wide-long.ensures
+    c.if-at-start.false
 
-pub in-bodies-spec : {M : Type 1} → statement M
-in-bodies-spec =
-    tie.close (tie.spec (λ c κs. search rules) (λ c κs. search rules) returns (λ c. search rules) returns-2)
+pub in_bodies_spec : {M : Type 1} → statement M
+in_bodies_spec =
+    tie.close (tie.spec (λ c κs. search rules) (λ c κs. search rules) returns (λ c. search rules) returns_2)

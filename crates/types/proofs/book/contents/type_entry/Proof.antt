@@ -10,18 +10,18 @@ returns c =
     let string = c.before.before in
     let long = string.before.before.before in
     rw (
-      c.load163.ensures,
-      c.before.load162.ensures,
-      string.load322.ensures,
-      string.before.load16.ensures,
-      string.before.before.load82.ensures,
-      long.wide8.ensures,
+      c.load16-zero.ensures,
+      c.before.load16-count.ensures,
+      string.load32-string.ensures,
+      string.before.load16-id.ensures,
+      string.before.before.load8-flags.ensures,
+      long.wide8-long.ensures,
       long.before.load8.ensures,
-      long.before.before.load32.ensures,
+      long.before.before.load32-place.ensures,
     )
 
-pub type-entry-spec : {M : Type 1} → statement M
-type-entry-spec =
+pub type_entry_spec : {M : Type 1} → statement M
+type_entry_spec =
     tie.close
     (tie.spec
     (λ c. search rules)

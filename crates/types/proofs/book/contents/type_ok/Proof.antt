@@ -1,53 +1,54 @@
 -- `types::type_ok` meets its contract: one way out for each rule.
 use borrow.Author.Rules.{rules}
 use mathlib.Core.Path.{◌∙◌}
-use Rattle.types.proofs.book.BookLaws.{flags-over, not-zero, id_left, string-left, type-named}
+use Rattle.types.proofs.book.BookLaws.{flags_over, not_zero, id_left, string_left, type_named}
 use Rattle.types.proofs.book.contents.type_ok.Statement.{statement}
 use Rattle.types.proofs.book.contents.type_ok.Tie as tie
 
-returns : tie.Need-returns
-returns c = flags-over c.before.args.start c.before.args.end c.before.args.e c.if1.true
+returns : tie.Need-returns-then-flags-gt7
+returns c = flags_over c.before.args.start c.before.args.end c.before.args.e c.if-flags-gt7.true
 
-returns-2 : tie.Need-returns-2
-returns-2 c =
+returns_2 : tie.Need-returns-then-e-ne0
+returns_2 c =
     let a = c.before.before.before.args in
-    not-zero a.start a.end a.e c.before.before.if1.false c.if2.true
+    not_zero a.start a.end a.e c.before.before.if-flags-gt7.false c.if-e-ne0.true
 
-returns-3 : tie.Need-returns-3
-returns-3 c =
+returns_3 : tie.Need-returns-then-set_or_zero-2
+returns_3 c =
     let string = c.before.before.before in
     let id = string.before.before.before in
     let a = id.before.before.before.before.before.args in
-    c.in-bodies.ensures
-    ∙ type-named a.start a.end a.e id.before.before.before.before.if1.false
-    id.before.before.if2.false _ id.set-or-zero.ensures
-    string.before.before.if3.true _ string.set-or-zero2.ensures c.before.before.if4.true
+    c.in_bodies.ensures
+    ∙ type_named a.start a.end a.e id.before.before.before.before.if-flags-gt7.false
+    id.before.before.if-e-ne0.false _ id.set_or_zero.ensures
+    string.before.before.if-set_or_zero.true _ string.set_or_zero-then-set_or_zero.ensures
+    c.before.before.if-set_or_zero-2.true
 
-returns-4 : tie.Need-returns-4
-returns-4 c =
+returns_4 : tie.Need-returns-then-set_or_zero
+returns_4 c =
     let string = c.before in
     let id = string.before.before.before in
     let a = id.before.before.before.before.before.args in
-    string-left a.start a.end a.e id.before.before.before.before.if1.false
-    id.before.before.if2.false _ id.set-or-zero.ensures
-    string.before.before.if3.true _ string.set-or-zero2.ensures c.if4.false
+    string_left a.start a.end a.e id.before.before.before.before.if-flags-gt7.false
+    id.before.before.if-e-ne0.false _ id.set_or_zero.ensures
+    string.before.before.if-set_or_zero.true _ string.set_or_zero-then-set_or_zero.ensures c.if-set_or_zero-2.false
 
-returns-5 : tie.Need-returns-5
-returns-5 c =
+returns_5 : tie.Need-returns
+returns_5 c =
     let id = c.before in
     let a = id.before.before.before.before.before.args in
-    id_left a.start a.end a.e id.before.before.before.before.if1.false
-    id.before.before.if2.false _ id.set-or-zero.ensures c.if3.false
+    id_left a.start a.end a.e id.before.before.before.before.if-flags-gt7.false
+    id.before.before.if-e-ne0.false _ id.set_or_zero.ensures c.if-set_or_zero.false
 
-pub type-ok-spec : {M : Type 1} → statement M
-type-ok-spec =
+pub type_ok_spec : {M : Type 1} → statement M
+type_ok_spec =
     tie.close
     (tie.spec
     returns
-    returns-2
+    returns_2
     (λ c κs. search rules)
     (λ c κs. search rules)
     (λ c κs. search rules)
-    returns-3
-    returns-4
-    returns-5)
+    returns_3
+    returns_4
+    returns_5)

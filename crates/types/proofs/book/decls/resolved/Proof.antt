@@ -2,35 +2,35 @@
 use borrow.Author.Rules.{rules}
 use mathlib.Core.Path.{sym, ◌∙◌}
 use Rattle.types.specs.atomics.Atomic.{size_of}
-use Rattle.types.proofs.book.DeclLaws.{one_bool, bool-array, no_bool}
+use Rattle.types.proofs.book.DeclLaws.{one_bool, bool_array_lem, no_bool}
 use Rattle.types.proofs.book.decls.resolved.Statement.{statement}
 use Rattle.types.proofs.book.decls.resolved.Tie as tie
 
-returns : tie.Need-returns
+returns : tie.Need-returns-then-dim-eq0
 returns c =
     let way = c.before.before in
     let a = way.before.before.args in
     c.plain.ensures
     ∙ one_bool _ a.ty a.dim a.name a.local a.access
-    (sym way.before.is-bool.ensures ∙ way.if1.true)
-    c.before.if2.true
+    (sym way.before.is_bool.ensures ∙ way.if-is_bool.true)
+    c.before.if-dim-eq0.true
 
-returns-2 : tie.Need-returns-2
+returns_2 : tie.Need-returns-then-is_bool
 unfolding size_of
-returns-2 c =
+returns_2 c =
     let a = c.before.before.before.args in
-    bool-array _ a.ty a.dim a.name a.local a.access
-    (sym c.before.before.is-bool.ensures ∙ c.before.if1.true) c.if2.false
+    bool_array_lem _ a.ty a.dim a.name a.local a.access
+    (sym c.before.before.is_bool.ensures ∙ c.before.if-is_bool.true) c.if-dim-eq0.false
 
-returns-3 : tie.Need-returns-3
-returns-3 c =
+returns_3 : tie.Need-returns
+returns_3 c =
     let a = c.before.before.before.args in
-    c.plain2.ensures
+    c.plain-2.ensures
     ∙ no_bool _ a.ty a.dim a.name a.local a.access
-    (sym c.before.before.is-bool.ensures ∙ c.before.if1.false)
+    (sym c.before.before.is_bool.ensures ∙ c.before.if-is_bool.false)
 
-pub resolved-spec : {M : Type 1} → statement M
-resolved-spec =
+pub resolved_spec : {M : Type 1} → statement M
+resolved_spec =
     tie.close
     (tie.spec
     (λ c κs. search rules)
@@ -38,6 +38,6 @@ resolved-spec =
     returns
     (λ c. search rules)
     (λ c. search rules)
-    returns-2
+    returns_2
     (λ c κs. search rules)
-    returns-3)
+    returns_3)

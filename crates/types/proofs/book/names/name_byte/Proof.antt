@@ -1,16 +1,16 @@
 -- `types::name_byte` meets its contract.
-use Rattle.types.proofs.book.NameLaws.{byte-below, byte_above, byte-within}
+use Rattle.types.proofs.book.NameLaws.{byte_below, byte_above, byte_within}
 use Rattle.types.proofs.book.names.name_byte.Statement.{statement}
 use Rattle.types.proofs.book.names.name_byte.Tie as tie
 
-returns : tie.Need-returns
-returns c = byte-below c.before.args.x c.if1.true
+returns : tie.Need-returns-then-x-lt33
+returns c = byte_below c.before.args.x c.if-x-lt33.true
 
-returns-2 : tie.Need-returns-2
-returns-2 c = byte_above c.before.before.args.x c.before.if1.false c.if2.true
+returns_2 : tie.Need-returns-then-x-gt126
+returns_2 c = byte_above c.before.before.args.x c.before.if-x-lt33.false c.if-x-gt126.true
 
-returns-3 : tie.Need-returns-3
-returns-3 c = byte-within c.before.before.args.x c.before.if1.false c.if2.false
+returns_3 : tie.Need-returns
+returns_3 c = byte_within c.before.before.args.x c.before.if-x-lt33.false c.if-x-gt126.false
 
-pub name-byte-spec : {M : Type 1} → statement M
-name-byte-spec = tie.close (tie.spec returns returns-2 returns-3)
+pub name_byte_spec : {M : Type 1} → statement M
+name_byte_spec = tie.close (tie.spec returns returns_2 returns_3)

@@ -2,67 +2,67 @@
 use native.Mathlib.Omega.{arith}
 use borrow.Author.Rules.{rules}
 use mathlib.Core.Path.{sym, ◌∙◌}
-use Rattle.types.proofs.book.NameLaws.{same-long, SameFrom, from_end, from_less, from-not, from_first}
+use Rattle.types.proofs.book.NameLaws.{same_long, SameFrom, from_end, from_less, from_not, from_first}
 use Rattle.types.proofs.book.names.same_name.Statement.{statement}
 use Rattle.types.proofs.book.names.same_name.Tie as tie
 
-abbrev invariant-loop : tie.invariant-loop
-invariant-loop a b i₀ i = SameFrom a b i
+abbrev invariant_loop : tie.invariant-loop-i
+invariant_loop a b i₀ i = SameFrom a b i
 
-abbrev decreases-loop : tie.decreases-loop
-decreases-loop a b i₀ i = i
+abbrev decreases_loop : tie.decreases-loop-i
+decreases_loop a b i₀ i = i
 
-returns : tie.Need-returns invariant-loop decreases-loop
+returns : tie.Need-returns-then-a-b invariant_loop decreases_loop
 returns c =
     let a = c.before.before.before.args in
-    sym (same-long a.a.now a.b.now c.if1.true)
+    sym (same_long a.a.now a.b.now c.if-a-b.true)
 
-loop-holds : tie.Need-loop-init invariant-loop decreases-loop
-loop-holds c = from_end c.if1.false
+loop_holds : tie.Need-loop-i-init invariant_loop decreases_loop
+loop_holds c = from_end c.if-a-b.false
 
-sub-i : tie.Need-overflow-sub-i invariant-loop decreases-loop
-sub-i c = omega arith
+sub_i : tie.Need-overflow_sub-i invariant_loop decreases_loop
+sub_i c = omega arith
 
-shared-slice-read-lower : tie.Need-shared-slice-read-lower invariant-loop decreases-loop
-shared-slice-read-lower c = omega arith
+shared_slice_read_lower : tie.Need-bounds-a-i invariant_loop decreases_loop
+shared_slice_read_lower c = omega arith
 
-shared-slice-read-lower-2 : tie.Need-shared-slice-read-lower-2 invariant-loop decreases-loop
-shared-slice-read-lower-2 c = omega arith
+shared_slice_read_lower_2 : tie.Need-bounds-b-i invariant_loop decreases_loop
+shared_slice_read_lower_2 c = omega arith
 
-returns-2 : tie.Need-returns-2 invariant-loop decreases-loop
-returns-2 c =
+returns_2 : tie.Need-returns-then-x-y invariant_loop decreases_loop
+returns_2 c =
     let one = c.before.before.before in
     let turn = one.before.before in
-    sym (from-not turn.before.loop.invariant turn.loop-test.true
-    (λ q. c.if2.true (one.lower.ensures ∙ q ∙ sym c.before.lower2.ensures)))
+    sym (from_not turn.before.loop-i.invariant turn.loop-i-test.true
+    (λ q. c.if-x-y.true (one.lower-x.ensures ∙ q ∙ sym c.before.lower-y.ensures)))
 
-loop-less : tie.Need-loop-smaller invariant-loop decreases-loop
-loop-less c = omega arith
+loop_less : tie.Need-loop-i-smaller invariant_loop decreases_loop
+loop_less c = omega arith
 
-loop-again : tie.Need-loop-preserved invariant-loop decreases-loop
-loop-again c =
+loop_again : tie.Need-loop-i-preserved invariant_loop decreases_loop
+loop_again c =
     let one = c.before.before.before in
     let turn = one.before.before in
-    from_less turn.before.loop.invariant turn.loop-test.true
-    (sym one.lower.ensures ∙ c.if2.false ∙ c.before.lower2.ensures)
+    from_less turn.before.loop-i.invariant turn.loop-i-test.true
+    (sym one.lower-x.ensures ∙ c.if-x-y.false ∙ c.before.lower-y.ensures)
 
-returns-3 : tie.Need-returns-3 invariant-loop decreases-loop
-returns-3 c = sym (from_first c.before.loop.invariant c.loop-test.false)
+returns_3 : tie.Need-returns invariant_loop decreases_loop
+returns_3 c = sym (from_first c.before.loop-i.invariant c.loop-i-test.false)
 
-pub same-name-spec : {M : Type 1} → statement M
-same-name-spec =
+pub same_name_spec : {M : Type 1} → statement M
+same_name_spec =
     tie.close
     (tie.spec
-    invariant-loop
-    decreases-loop
+    invariant_loop
+    decreases_loop
     returns
-    loop-holds
-    sub-i
-    shared-slice-read-lower
+    loop_holds
+    sub_i
+    shared_slice_read_lower
     (λ c κs. search rules)
-    shared-slice-read-lower-2
+    shared_slice_read_lower_2
     (λ c κs. search rules)
-    returns-2
-    loop-less
-    loop-again
-    returns-3)
+    returns_2
+    loop_less
+    loop_again
+    returns_3)

@@ -1,54 +1,54 @@
 -- `types::hosts_long` meets its contract: the names of all are those so far and those that are left.
 use native.Mathlib.Omega.{arith}
 use Prim.Native.Nat.{◌-◌}
-use Rattle.types.proofs.layout.aoi.AoiLaws.{Adding, adding-start, adding-done, adding-on}
+use Rattle.types.proofs.layout.aoi.AoiLaws.{Adding, adding_start, adding_done, adding_on}
 use Rattle.types.proofs.layout.aoi.hosts_long.Statement.{statement}
 use Rattle.types.proofs.layout.aoi.hosts_long.Tie as tie
 
-abbrev invariant-loop : tie.invariant-loop
-invariant-loop h long₀ i₀ long i = Adding h long i
+abbrev invariant_loop : tie.invariant-loop-i
+invariant_loop h long₀ i₀ long i = Adding h long i
 
-abbrev decreases-loop : tie.decreases-loop
-decreases-loop h long₀ i₀ long i = h - i
+abbrev decreases_loop : tie.decreases-loop-i
+decreases_loop h long₀ i₀ long i = h - i
 
-loop-holds : tie.Need-loop-init invariant-loop decreases-loop
-loop-holds c = adding-start c.args.h c.requires
+loop_holds : tie.Need-loop-i-init invariant_loop decreases_loop
+loop_holds c = adding_start c.args.h c.requires
 
-bit-host-long-requires : tie.Need-bit-host-long-requires invariant-loop decreases-loop
-bit-host-long-requires c κs = omega (arith, c.before.loop.invariant.few, c.loop-test.true)
+bit_host_long_requires : tie.Need-bit_host_long-long-requires invariant_loop decreases_loop
+bit_host_long_requires c κs = omega (arith, c.before.loop-i.invariant.few, c.loop-i-test.true)
 
-add-long : tie.Need-overflow-add-long invariant-loop decreases-loop
-add-long c =
+add_long : tie.Need-overflow_add-long invariant_loop decreases_loop
+add_long c =
     omega (
       arith,
-      c.before.before.loop.invariant.most,
-      c.before.before.loop.invariant.few,
-      c.before.before.loop.invariant.done,
-      c.bit-host-long.ensures.most,
+      c.before.before.loop-i.invariant.most,
+      c.before.before.loop-i.invariant.few,
+      c.before.before.loop-i.invariant.done,
+      c.bit_host_long-long.ensures.most,
     )
 
-add-i : tie.Need-overflow-add-i invariant-loop decreases-loop
-add-i c = omega (arith, c.before.before.loop.invariant.few, c.before.loop-test.true)
+add_i : tie.Need-overflow_add-i invariant_loop decreases_loop
+add_i c = omega (arith, c.before.before.loop-i.invariant.few, c.before.loop-i-test.true)
 
-loop-less : tie.Need-loop-smaller invariant-loop decreases-loop
-loop-less c = omega (arith, c.before.loop-test.true)
+loop_less : tie.Need-loop-i-smaller invariant_loop decreases_loop
+loop_less c = omega (arith, c.before.loop-i-test.true)
 
-loop-again : tie.Need-loop-preserved invariant-loop decreases-loop
-loop-again c = adding-on c.before.before.loop.invariant c.before.loop-test.true c.bit-host-long.ensures
+loop_again : tie.Need-loop-i-preserved invariant_loop decreases_loop
+loop_again c = adding_on c.before.before.loop-i.invariant c.before.loop-i-test.true c.bit_host_long-long.ensures
 
-returns : tie.Need-returns invariant-loop decreases-loop
-returns c = adding-done c.before.loop.invariant c.loop-test.false
+returns : tie.Need-returns invariant_loop decreases_loop
+returns c = adding_done c.before.loop-i.invariant c.loop-i-test.false
 
-pub hosts-long-spec : {M : Type 1} → statement M
-hosts-long-spec =
+pub hosts_long_spec : {M : Type 1} → statement M
+hosts_long_spec =
     tie.close
     (tie.spec
-    invariant-loop
-    decreases-loop
-    loop-holds
-    bit-host-long-requires
-    add-long
-    add-i
-    loop-less
-    loop-again
+    invariant_loop
+    decreases_loop
+    loop_holds
+    bit_host_long_requires
+    add_long
+    add_i
+    loop_less
+    loop_again
     returns)

@@ -4,18 +4,18 @@ use borrow.Author.Rules.{rules}
 use mathlib.Core.Path.{◌∙◌}
 use Rattle.types.specs.inside.layout.Passes.{measured_aoi}
 use Rattle.types.specs.layout.Structs.{aoi_hosts}
-use Rattle.types.proofs.layout.Measuring.{from-hosts}
+use Rattle.types.proofs.layout.Measuring.{from_hosts}
 use Rattle.types.proofs.layout.aoi.measure_aoi.Statement.{statement}
 use Rattle.types.proofs.layout.aoi.measure_aoi.Tie as tie
 
-measure-requires : tie.Need-measure-requires
-measure-requires c κs =
+measure_requires : tie.Need-measure-requires
+measure_requires c κs =
     let hosts = c.before.before in
     let start = hosts.before.before.before.before.before in
-    rw c.aoi-start.ensures
-    (from-hosts start.requires.0 start.requires.1
-    (omega (arith, hosts.hosts-for.ensures, hosts.before.count-bools.ensures.most))
-    c.before.hosts-long.ensures.most)
+    rw c.aoi_start-from.ensures
+    (from_hosts start.requires.0 start.requires.1
+    (omega (arith, hosts.hosts_for-h.ensures, hosts.before.count_bools-bools.ensures.most))
+    c.before.hosts_long-long.ensures.most)
 
 returns : tie.Need-returns
 unfolding measured_aoi aoi_hosts
@@ -24,14 +24,14 @@ returns c =
     let hosts = start.before.before in
     c.measure.ensures
     ∙ rw (
-      start.aoi-start.ensures,
-      start.before.hosts-long.ensures.is,
-      hosts.hosts-for.ensures,
-      hosts.before.count-bools.ensures.is,
+      start.aoi_start-from.ensures,
+      start.before.hosts_long-long.ensures.is,
+      hosts.hosts_for-h.ensures,
+      hosts.before.count_bools-bools.ensures.is,
     )
 
-pub measure-aoi-spec : {M : Type 1} → statement M
-measure-aoi-spec =
+pub measure_aoi_spec : {M : Type 1} → statement M
+measure_aoi_spec =
     tie.close
     (tie.spec
     (λ c κs. search rules)
@@ -39,5 +39,5 @@ measure-aoi-spec =
     (λ c κs. search rules)
     (λ c κs. search rules)
     (λ c. search rules)
-    measure-requires
+    measure_requires
     returns)

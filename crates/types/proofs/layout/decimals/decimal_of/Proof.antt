@@ -2,49 +2,49 @@
 -- that are stored.
 use native.Mathlib.Omega.{arith}
 use borrow.Author.Rules.{rules}
-use Rattle.types.proofs.layout.DigitLaws.{Spelling, spell-first, spell-more, spell-on, spell-done}
+use Rattle.types.proofs.layout.DigitLaws.{Spelling, spell_first, spell_more, spell_on, spell_done}
 use Rattle.types.proofs.layout.decimals.decimal_of.Statement.{statement}
 use Rattle.types.proofs.layout.decimals.decimal_of.Tie as tie
 
-abbrev invariant-loop : tie.invariant-loop
-invariant-loop x bytes₀ from₀ y₀ bytes from y = Spelling x bytes from y
+abbrev invariant_loop : tie.invariant-loop-y
+invariant_loop x bytes₀ from₀ y₀ bytes from y = Spelling x bytes from y
 
-abbrev decreases-loop : tie.decreases-loop
-decreases-loop x bytes₀ from₀ y₀ bytes from y = y
+abbrev decreases_loop : tie.decreases-loop-y
+decreases_loop x bytes₀ from₀ y₀ bytes from y = y
 
-loop-holds : tie.Need-loop-init invariant-loop decreases-loop
-loop-holds c = spell-first c.args.x (omega arith)
+loop_holds : tie.Need-loop-y-init invariant_loop decreases_loop
+loop_holds c = spell_first c.args.x (omega arith)
 
-sub-from : tie.Need-overflow-sub-from invariant-loop decreases-loop
-sub-from c =
+sub_from : tie.Need-overflow_sub-from invariant_loop decreases_loop
+sub_from c =
     let turn = c.before in
-    omega (arith, spell-more turn.before.loop.invariant c.last-digit.ensures turn.loop-test.true)
+    omega (arith, spell_more turn.before.loop-y.invariant c.last_digit.ensures turn.loop-y-test.true)
 
-loop-less : tie.Need-loop-smaller invariant-loop decreases-loop
-loop-less c = omega arith
+loop_less : tie.Need-loop-y-smaller invariant_loop decreases_loop
+loop_less c = omega arith
 
-loop-again : tie.Need-loop-preserved invariant-loop decreases-loop
-loop-again c =
+loop_again : tie.Need-loop-y-preserved invariant_loop decreases_loop
+loop_again c =
     let turn = c.before in
-    spell-on turn.before.loop.invariant c.last-digit.ensures turn.loop-test.true
+    spell_on turn.before.loop-y.invariant c.last_digit.ensures turn.loop-y-test.true
 
-returns : tie.Need-returns invariant-loop decreases-loop
+returns : tie.Need-returns invariant_loop decreases_loop
 returns c =
     let past = c.before in
-    spell-done past.before.loop.invariant c.last-digit2.ensures (omega (arith, past.loop-test.false))
+    spell_done past.before.loop-y.invariant c.last_digit-2.ensures (omega (arith, past.loop-y-test.false))
 
-pub decimal-of-spec : {M : Type 1} → statement M
-decimal-of-spec =
+pub decimal_of_spec : {M : Type 1} → statement M
+decimal_of_spec =
     tie.close
     (tie.spec
-    invariant-loop
-    decreases-loop
-    loop-holds
+    invariant_loop
+    decreases_loop
+    loop_holds
     (λ c κs. search rules)
     (λ c. search rules)
-    sub-from
-    loop-less
-    loop-again
+    sub_from
+    loop_less
+    loop_again
     (λ c κs. search rules)
     (λ c. search rules)
     returns)

@@ -10,5 +10,5 @@ returns : tie.Need-returns
 unfolding string_size align_up
 returns c = refl
 
-pub string-size-spec : {M : Type 1} → statement M
-string-size-spec = tie.close (tie.spec (λ c. search rules) (λ c. search rules) (λ c. search rules) returns)
+pub string_size_spec : {M : Type 1} → statement M
+string_size_spec = tie.close (tie.spec (λ c. search rules) (λ c. search rules) (λ c. search rules) returns)

@@ -9,5 +9,5 @@ returns : tie.Need-returns
 unfolding next_bit
 returns c = refl
 
-pub next-bit-spec : {M : Type 1} → statement M
-next-bit-spec = tie.close (tie.spec (λ c. search rules) returns)
+pub next_bit_spec : {M : Type 1} → statement M
+next_bit_spec = tie.close (tie.spec (λ c. search rules) returns)

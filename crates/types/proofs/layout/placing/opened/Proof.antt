@@ -9,5 +9,5 @@ returns : tie.Need-returns
 unfolding opened
 returns c = refl
 
-pub opened-spec : {M : Type 1} → statement M
-opened-spec = tie.close (tie.spec (λ c. search rules) (λ c. search rules) returns)
+pub opened_spec : {M : Type 1} → statement M
+opened_spec = tie.close (tie.spec (λ c. search rules) (λ c. search rules) returns)

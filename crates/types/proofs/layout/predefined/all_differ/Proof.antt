@@ -1,39 +1,40 @@
 -- `types::all_differ` meets its contract, one pair after the other.
-use Rattle.types.proofs.layout.PredefinedIds.{same-1, same-2, same-3, same-4, same-5, same-6}
+use Rattle.types.proofs.layout.PredefinedIds.{same_1, same_2, same_3, same_4, same_5, same_6}
 use Rattle.types.proofs.layout.predefined.all_differ.Statement.{statement}
 use Rattle.types.proofs.layout.predefined.all_differ.Tie as tie
 
-returns : tie.Need-returns
-returns c = same-1 _ c.if1.true
+returns : tie.Need-returns-then-ids
+returns c = same_1 _ c.if-ids.true
 
-returns-2 : tie.Need-returns-2
-returns-2 c = same-2 _ c.before.before.if1.false c.if2.true
+returns_2 : tie.Need-returns-then-ids-2
+returns_2 c = same_2 _ c.before.before.if-ids.false c.if-ids-2.true
 
-returns-3 : tie.Need-returns-3
-returns-3 c =
+returns_3 : tie.Need-returns-then-ids-3
+returns_3 c =
     let two = c.before.before in
-    same-3 _ two.before.before.if1.false two.if2.false c.if3.true
+    same_3 _ two.before.before.if-ids.false two.if-ids-2.false c.if-ids-3.true
 
-returns-4 : tie.Need-returns-4
-returns-4 c =
+returns_4 : tie.Need-returns-then-ids-4
+returns_4 c =
     let three = c.before.before in
     let two = three.before.before in
-    same-4 _ two.before.before.if1.false two.if2.false three.if3.false c.if4.true
+    same_4 _ two.before.before.if-ids.false two.if-ids-2.false three.if-ids-3.false c.if-ids-4.true
 
-returns-5 : tie.Need-returns-5
-returns-5 c =
+returns_5 : tie.Need-returns-then-ids-5
+returns_5 c =
     let four = c.before.before in
     let three = four.before.before in
     let two = three.before.before in
-    same-5 _ two.before.before.if1.false two.if2.false three.if3.false four.if4.false c.if5.true
+    same_5 _ two.before.before.if-ids.false two.if-ids-2.false three.if-ids-3.false four.if-ids-4.false c.if-ids-5.true
 
-returns-6 : tie.Need-returns-6
-returns-6 c =
+returns_6 : tie.Need-returns
+returns_6 c =
     let five = c.before in
     let four = five.before.before in
     let three = four.before.before in
     let two = three.before.before in
-    same-6 _ two.before.before.if1.false two.if2.false three.if3.false four.if4.false five.if5.false
+    same_6 _ two.before.before.if-ids.false two.if-ids-2.false three.if-ids-3.false four.if-ids-4.false
+    five.if-ids-5.false
 
-pub all-differ-spec : {M : Type 1} → statement M
-all-differ-spec = tie.close (tie.spec returns returns-2 returns-3 returns-4 returns-5 returns-6)
+pub all_differ_spec : {M : Type 1} → statement M
+all_differ_spec = tie.close (tie.spec returns returns_2 returns_3 returns_4 returns_5 returns_6)

@@ -1,30 +1,30 @@
 -- `types::id_ok` meets its contract, one test after the other.
-use Rattle.types.proofs.layout.PredefinedIds.{id-zero, id-large, id-low, id-user, id-high}
+use Rattle.types.proofs.layout.PredefinedIds.{id_zero, id_large, id_low, id_user, id_high}
 use Rattle.types.proofs.layout.predefined.id_ok.Statement.{statement}
 use Rattle.types.proofs.layout.predefined.id_ok.Tie as tie
 
-returns : tie.Need-returns
-returns c = id-zero c.before.args.id c.if1.true
+returns : tie.Need-returns-then-id-lt1
+returns c = id_zero c.before.args.id c.if-id-lt1.true
 
-returns-2 : tie.Need-returns-2
-returns-2 c = id-large c.before.before.args.id c.before.if1.false c.if2.true
+returns_2 : tie.Need-returns-then-id-gt4095
+returns_2 c = id_large c.before.before.args.id c.before.if-id-lt1.false c.if-id-gt4095.true
 
-returns-3 : tie.Need-returns-3
-returns-3 c =
+returns_3 : tie.Need-returns-then-id-lt256
+returns_3 c =
     let two = c.before in
-    id-low two.before.before.args.id two.before.if1.false two.if2.false c.if3.true
+    id_low two.before.before.args.id two.before.if-id-lt1.false two.if-id-gt4095.false c.if-id-lt256.true
 
-returns-4 : tie.Need-returns-4
-returns-4 c =
+returns_4 : tie.Need-returns-then-id-le3839
+returns_4 c =
     let two = c.before.before in
-    id-user two.before.before.args.id two.before.if1.false two.if2.false c.before.if3.false
-    c.if4.true
+    id_user two.before.before.args.id two.before.if-id-lt1.false two.if-id-gt4095.false c.before.if-id-lt256.false
+    c.if-id-le3839.true
 
-returns-5 : tie.Need-returns-5
-returns-5 c =
+returns_5 : tie.Need-returns
+returns_5 c =
     let two = c.before.before in
-    id-high two.before.before.args.id two.before.if1.false two.if2.false c.before.if3.false
-    c.if4.false
+    id_high two.before.before.args.id two.before.if-id-lt1.false two.if-id-gt4095.false c.before.if-id-lt256.false
+    c.if-id-le3839.false
 
-pub id-ok-spec : {M : Type 1} → statement M
-id-ok-spec = tie.close (tie.spec returns returns-2 returns-3 returns-4 returns-5)
+pub id_ok_spec : {M : Type 1} → statement M
+id_ok_spec = tie.close (tie.spec returns returns_2 returns_3 returns_4 returns_5)

@@ -4,7 +4,7 @@ use Prim.Native.Nat.{◌*◌}
 use mathlib.Core.Path.{ap, ◌∙◌}
 use lib.Seq.{sets}
 use Rattle.types.specs.layout.HostNames.{host_name}
-use Rattle.types.proofs.layout.StoreLaws.{one-row-of, one_name}
+use Rattle.types.proofs.layout.StoreLaws.{one_row_of, one_name}
 use Rattle.types.proofs.layout.store.put_host.Statement.{statement}
 use Rattle.types.proofs.layout.store.put_host.Tie as tie
 
@@ -14,17 +14,17 @@ returns c =
     let long = put.before.before in
     let a = long.before.before.args in
     let host = host_name a.name.now a.k in (
-      long.host-long.ensures.is,
+      long.host_long-long.ensures.is,
       (
-        c.put-member.ensures
+        c.put_member.ensures
             ∙ ap (sets a.members.now (8 * a.row))
-            (one-row-of a.at host a.m long.host-long.ensures.is),
-        put.put-host-name.ensures ∙ ap (sets a.names.now a.at) (one_name host a.m),
+            (one_row_of a.at host a.m long.host_long-long.ensures.is),
+        put.put_host_name.ensures ∙ ap (sets a.names.now a.at) (one_name host a.m),
       ),
     )
 
-pub put-host-spec : {M : Type 1} → statement M
-put-host-spec =
+pub put_host_spec : {M : Type 1} → statement M
+put_host_spec =
     tie.close
     (tie.spec
     (λ c κs. search rules)

@@ -2,15 +2,15 @@
 use borrow.Author.Rules.{rules}
 use Rattle.types.proofs.listing.lines.put_name.Statement.{statement}
 use Rattle.types.proofs.listing.lines.put_name.Tie as tie
-use Rattle.types.proofs.tables.DefLaws.{lent-name}
+use Rattle.types.proofs.tables.DefLaws.{lent_name}
 
-put-field-requires : tie.Need-put-field-requires
-put-field-requires c κs =
+put_field_requires : tie.Need-put_field-requires
+put_field_requires c κs =
     let at_long = c.before.before in
     let at_from = at_long.before in
     let start = at_from.before.before.before in
     let a = start.args in
-    rw (lent-name a.names.now a.name at_from.wide.ensures at_long.wide2.ensures) start.requires.1
+    rw (lent_name a.names.now a.name at_from.wide-from.ensures at_long.wide.ensures) start.requires.1
 
 returns : tie.Need-returns
 returns c =
@@ -18,11 +18,11 @@ returns c =
     let at_long = at_field.before.before.before in
     let at_from = at_long.before in
     let a = at_from.before.before.before.args in
-    rw (lent-name a.names.now a.name at_from.wide.ensures at_long.wide2.ensures)
-    at at_field.put-field.ensures
+    rw (lent_name a.names.now a.name at_from.wide-from.ensures at_long.wide.ensures)
+    at at_field.put_field.ensures
 
-pub put-name-spec : {M : Type 1} → statement M
-put-name-spec =
+pub put_name_spec : {M : Type 1} → statement M
+put_name_spec =
     tie.close
     (tie.spec
     (λ c κs. search rules)
@@ -31,6 +31,6 @@ put-name-spec =
     (λ c. search rules)
     (λ c. search rules)
     (λ c. search rules)
-    put-field-requires
+    put_field_requires
     (λ c. search rules)
     returns)

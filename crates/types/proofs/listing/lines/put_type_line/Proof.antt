@@ -5,51 +5,51 @@ use mathlib.Core.Path.{◌≡◌, sym, ◌∙◌}
 use mathlib.Core.Bool.{true}
 use Rattle.types.specs.templates.Template.{has_template}
 use Rattle.types.specs.declared.tables.member.Ty.TheVariants.{Struct}
-use Rattle.types.proofs.refusals.GivenLaws.{given-absent, line-given, line-inside, line-long, line-short}
+use Rattle.types.proofs.refusals.GivenLaws.{given_absent, line_given, line_inside, line_long, line_short}
 use Rattle.types.proofs.tables.ThereLaws.{kept_there}
 use Rattle.types.proofs.listing.lines.put_type_line.Statement.{statement}
 use Rattle.types.proofs.listing.lines.put_type_line.Tie as tie
 
 -- the test was passed
-there : (c : tie.Then1)
+there : (c : tie.Then-is_there)
     → let a = c.before.before.before.args in
     has_template a.types.now (Struct a.i) ≡ true
-there c = sym c.before.is-there.ensures ∙ c.if1.true
+there c = sym c.before.is_there.ensures ∙ c.if-is_there.true
 
-type-line-requires : tie.Need-type-line-requires
-type-line-requires c κs =
+type_line_requires : tie.Need-type_line-n-requires
+type_line_requires c κs =
     let start = c.before.before.before.before in
     let row = kept_there start.requires start.args.i (there c.before) in
     (row.few, (row.listable, omega arith))
 
-array-share-prefix-text : tie.Need-array-share-prefix-text
-array-share-prefix-text c = line-inside c.before.type-line.ensures
+array_share_prefix_text : tie.Need-slice_bounds-text-end
+array_share_prefix_text c = line_inside c.before.type_line-n.ensures
 
-slice-aggregate-give : tie.Need-slice-aggregate-give
-slice-aggregate-give c = line-long c.before.before.type-line.ensures
+slice_aggregate_give : tie.Need-slice_bounds-give-end
+slice_aggregate_give c = line_long c.before.before.type_line-n.ensures
 
-give-requires : tie.Need-give-requires
-give-requires c κs = line-short c.before.before.before.type-line.ensures (omega arith)
+give_requires : tie.Need-give-requires
+give_requires c κs = line_short c.before.before.before.type_line-n.ensures (omega arith)
 
-returns : tie.Need-returns
+returns : tie.Need-returns-then-is_there
 returns c =
     let given = c.before.before in
     let lined = given.before.before.before.before in
-    line-given lined.type-line.ensures (there lined.before.before) given.give.ensures
+    line_given lined.type_line-n.ensures (there lined.before.before) given.give.ensures
 
-returns-2 : tie.Need-returns-2
-returns-2 c = given-absent (sym c.before.is-there.ensures ∙ c.if1.false)
+returns_2 : tie.Need-returns
+returns_2 c = given_absent (sym c.before.is_there.ensures ∙ c.if-is_there.false)
 
-pub put-type-line-spec : {M : Type 1} → statement M
-put-type-line-spec =
+pub put_type_line_spec : {M : Type 1} → statement M
+put_type_line_spec =
     tie.close
     (tie.spec
     (λ c κs. search rules)
     (λ c. search rules)
-    type-line-requires
-    array-share-prefix-text
-    slice-aggregate-give
-    give-requires
+    type_line_requires
+    array_share_prefix_text
+    slice_aggregate_give
+    give_requires
     (λ c. search rules)
     returns
-    returns-2)
+    returns_2)

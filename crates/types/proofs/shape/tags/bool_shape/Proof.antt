@@ -3,7 +3,7 @@ use borrow.Author.Rules.{rules}
 use Prim.Native.Nat.{◌+◌, ◌*◌, ◌/◌}
 use mathlib.Core.Path.{◌≡◌, ◌∙◌}
 use Rattle.types.specs.layout.Placing.{align_up}
-use Rattle.types.proofs.shape.ShapeLaws.{bool-over, bool-within}
+use Rattle.types.proofs.shape.ShapeLaws.{bool_over, bool_within}
 use Rattle.types.proofs.shape.tags.bool_shape.Statement.{statement}
 use Rattle.types.proofs.shape.tags.bool_shape.Tie as tie
 
@@ -11,18 +11,18 @@ rounded : (c : tie.After-wide64) → (c.wide64.result + 31) / 32 * 32 ≡ align_
 unfolding align_up
 rounded c = rw c.wide64.ensures
 
-returns : tie.Need-returns
+returns : tie.Need-returns-then-up-gt4294967295
 returns c =
     let at_up = c.before.before in
-    c.refused.ensures ∙ bool-over _ at_up.before.args.n (rounded at_up) c.before.if1.true
+    c.refused.ensures ∙ bool_over _ at_up.before.args.n (rounded at_up) c.before.if-up-gt4294967295.true
 
-returns-2 : tie.Need-returns-2
-returns-2 c =
+returns_2 : tie.Need-returns
+returns_2 c =
     let at_up = c.before.before in
-    c.tag-within.ensures ∙ bool-within _ at_up.before.args.n (rounded at_up) c.before.if1.false
+    c.tag_within.ensures ∙ bool_within _ at_up.before.args.n (rounded at_up) c.before.if-up-gt4294967295.false
 
-pub bool-shape-spec : {M : Type 1} → statement M
-bool-shape-spec =
+pub bool_shape_spec : {M : Type 1} → statement M
+bool_shape_spec =
     tie.close
     (tie.spec
     (λ c κs. search rules)
@@ -32,4 +32,4 @@ bool-shape-spec =
     returns
     (λ c. search rules)
     (λ c κs. search rules)
-    returns-2)
+    returns_2)

@@ -5,17 +5,17 @@ use Rattle.types.proofs.shape.ShapeLaws.{too_many, few}
 use Rattle.types.proofs.shape.tags.lengths_ok.Statement.{statement}
 use Rattle.types.proofs.shape.tags.lengths_ok.Tie as tie
 
-returns : tie.Need-returns
+returns : tie.Need-returns-then-most-lengths
 returns c =
     let a = c.before.before.before.args in
-    too_many a.ty a.lengths.now (rw c.before.most-lengths.ensures at c.if1.true)
+    too_many a.ty a.lengths.now (rw c.before.most_lengths-most.ensures at c.if-most-lengths.true)
 
-returns-2 : tie.Need-returns-2
-returns-2 c =
+returns_2 : tie.Need-returns
+returns_2 c =
     let at_most = c.before.before in
     let a = at_most.before.before.args in
-    c.none-zero.ensures
-    ∙ few a.ty a.lengths.now (rw at_most.most-lengths.ensures at c.before.if1.false)
+    c.none_zero.ensures
+    ∙ few a.ty a.lengths.now (rw at_most.most_lengths-most.ensures at c.before.if-most-lengths.false)
 
-pub lengths-ok-spec : {M : Type 1} → statement M
-lengths-ok-spec = tie.close (tie.spec (λ c κs. search rules) returns (λ c κs. search rules) returns-2)
+pub lengths_ok_spec : {M : Type 1} → statement M
+lengths_ok_spec = tie.close (tie.spec (λ c κs. search rules) returns (λ c κs. search rules) returns_2)

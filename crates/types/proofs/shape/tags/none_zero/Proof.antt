@@ -4,65 +4,65 @@ use Prim.Native.Nat.{◌-◌, ◌≤◌}
 use mathlib.Core.Path.{◌≡◌, refl, sym, ◌∙◌}
 use lib.ListN.{length, drop}
 use Rattle.types.specs.shape.Tags.{none_zero}
-use Rattle.types.proofs.shape.ShapeLaws.{none-on, none-off, none_done}
+use Rattle.types.proofs.shape.ShapeLaws.{none_on, none_off, none_done}
 use Rattle.types.proofs.shape.tags.none_zero.Statement.{statement}
 use Rattle.types.proofs.shape.tags.none_zero.Tie as tie
 
-abbrev invariant-loop : tie.invariant-loop
-invariant-loop lengths i₀ i = (i ≤ length lengths) × (none_zero lengths ≡ none_zero (drop i lengths))
+abbrev invariant_loop : tie.invariant-loop-i
+invariant_loop lengths i₀ i = (i ≤ length lengths) × (none_zero lengths ≡ none_zero (drop i lengths))
 
-abbrev decreases-loop : tie.decreases-loop
-decreases-loop lengths i₀ i = length lengths - i
+abbrev decreases_loop : tie.decreases-loop-i
+decreases_loop lengths i₀ i = length lengths - i
 
-loop-holds : tie.Need-loop-init invariant-loop decreases-loop
-loop-holds c = (omega arith, refl)
+loop_holds : tie.Need-loop-i-init invariant_loop decreases_loop
+loop_holds c = (omega arith, refl)
 
-mul-if1 : tie.Need-overflow-mul-if1 invariant-loop decreases-loop
-mul-if1 c = omega arith
+mul_if1 : tie.Need-offset_bounds-lengths-i invariant_loop decreases_loop
+mul_if1 c = omega arith
 
-shared-slice-read-if1 : tie.Need-shared-slice-read-if1 invariant-loop decreases-loop
-shared-slice-read-if1 c = omega arith
+shared_slice_read_if1 : tie.Need-bounds-lengths-i invariant_loop decreases_loop
+shared_slice_read_if1 c = omega arith
 
-returns : tie.Need-returns invariant-loop decreases-loop
+returns : tie.Need-returns-then-lengths-i-eq0 invariant_loop decreases_loop
 returns c =
-    let in-loop = c.before.before in
-    let at-loop = in-loop.before in
+    let in_loop = c.before.before in
+    let at_loop = in_loop.before in
     sym
-    (at-loop.loop.invariant.1
-    ∙ none-off at-loop.before.args.lengths.now at-loop.loop.i in-loop.loop-test.true c.if1.true)
+    (at_loop.loop-i.invariant.1
+    ∙ none_off at_loop.before.args.lengths.now at_loop.loop-i.i in_loop.loop-i-test.true c.if-lengths-i-eq0.true)
 
-add-i : tie.Need-overflow-add-i invariant-loop decreases-loop
-add-i c = omega arith
+add_i : tie.Need-overflow_add-i invariant_loop decreases_loop
+add_i c = omega arith
 
-loop-less : tie.Need-loop-smaller invariant-loop decreases-loop
-loop-less c = omega arith
+loop_less : tie.Need-loop-i-smaller invariant_loop decreases_loop
+loop_less c = omega arith
 
-loop-again : tie.Need-loop-preserved invariant-loop decreases-loop
-loop-again c =
-    let in-loop = c.before.before in
-    let at-loop = in-loop.before in (
+loop_again : tie.Need-loop-i-preserved invariant_loop decreases_loop
+loop_again c =
+    let in_loop = c.before.before in
+    let at_loop = in_loop.before in (
       omega arith,
-      at-loop.loop.invariant.1
-          ∙ none-on at-loop.before.args.lengths.now at-loop.loop.i in-loop.loop-test.true c.if1.false,
+      at_loop.loop-i.invariant.1
+          ∙ none_on at_loop.before.args.lengths.now at_loop.loop-i.i in_loop.loop-i-test.true c.if-lengths-i-eq0.false,
     )
 
-returns-2 : tie.Need-returns-2 invariant-loop decreases-loop
-returns-2 c =
-    let at-loop = c.before in
+returns_2 : tie.Need-returns invariant_loop decreases_loop
+returns_2 c =
+    let at_loop = c.before in
     sym
-    (at-loop.loop.invariant.1 ∙ none_done at-loop.before.args.lengths.now at-loop.loop.i c.loop-test.false)
+    (at_loop.loop-i.invariant.1 ∙ none_done at_loop.before.args.lengths.now at_loop.loop-i.i c.loop-i-test.false)
 
-pub none-zero-spec : {M : Type 1} → statement M
-none-zero-spec =
+pub none_zero_spec : {M : Type 1} → statement M
+none_zero_spec =
     tie.close
     (tie.spec
-    invariant-loop
-    decreases-loop
-    loop-holds
-    mul-if1
-    shared-slice-read-if1
+    invariant_loop
+    decreases_loop
+    loop_holds
+    mul_if1
+    shared_slice_read_if1
     returns
-    add-i
-    loop-less
-    loop-again
-    returns-2)
+    add_i
+    loop_less
+    loop_again
+    returns_2)

@@ -1,18 +1,18 @@
 -- `types::product_fits` meets its contract: a quotient decides.
 use borrow.Author.Rules.{rules}
-use Rattle.words.proofs.ArithLaws.{fits-zero, fits_div}
+use Rattle.words.proofs.ArithLaws.{fits_zero, fits_div}
 use Rattle.types.proofs.shape.tags.product_fits.Statement.{statement}
 use Rattle.types.proofs.shape.tags.product_fits.Tie as tie
 
-returns : tie.Need-returns
+returns : tie.Need-returns-then-a-eq0
 returns c =
     let a = c.before.args in
-    fits-zero a.a a.b a.most c.if1.true
+    fits_zero a.a a.b a.most c.if-a-eq0.true
 
-returns-2 : tie.Need-returns-2
-returns-2 c =
+returns_2 : tie.Need-returns
+returns_2 c =
     let a = c.before.args in
-    fits_div a.a a.b a.most c.if1.false
+    fits_div a.a a.b a.most c.if-a-eq0.false
 
-pub product-fits-spec : {M : Type 1} → statement M
-product-fits-spec = tie.close (tie.spec returns (λ c. search rules) returns-2)
+pub product_fits_spec : {M : Type 1} → statement M
+product_fits_spec = tie.close (tie.spec returns (λ c. search rules) returns_2)

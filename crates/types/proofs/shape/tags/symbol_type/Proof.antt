@@ -5,52 +5,53 @@ use Prim.Native.Nat.{◌<◌}
 use mathlib.Core.Path.{◌≡◌, sym, ◌∙◌}
 use mathlib.Core.Bool.{true}
 use Rattle.types.specs.tables.There.{is_there}
-use Rattle.types.proofs.shape.ShapeLaws.{symbol-absent, symbol-is, symbol-many, there-fits, type-below}
+use Rattle.types.proofs.shape.ShapeLaws.{symbol_absent, symbol_is, symbol_many, there_fits, type_below}
 use Rattle.types.proofs.shape.tags.symbol_type.Statement.{statement}
 use Rattle.types.proofs.shape.tags.symbol_type.Tie as tie
 
 -- the test was passed
-there : (c : tie.Then1) → is_there c.before.before.args.types.now c.before.before.args.s.ty ≡ true
-there c = sym c.before.is-there.ensures ∙ c.if1.true
+there : (c : tie.Then-is_there) → is_there c.before.before.args.types.now c.before.before.args.s.ty ≡ true
+there c = sym c.before.is_there.ensures ∙ c.if-is_there.true
 
-small : (c : tie.After-type-in) → c.type-in.result < 0x9000
+small : (c : tie.After-type_in-base) → c.type_in-base.result < 0x9000
 small c =
     let then1 = c.before.before in
     let start = then1.before.before in
-    rw c.type-in.ensures (type-below start.requires start.args.s.ty (there then1))
+    rw c.type_in-base.ensures (type_below start.requires start.args.s.ty (there then1))
 
-returns : tie.Need-returns
-returns c = symbol-many _ _ _ (there c.before) c.if2.true
+returns : tie.Need-returns-then-used-gt-MOST_LENGTHS
+returns c = symbol_many _ _ _ (there c.before) c.if-used-gt-MOST_LENGTHS.true
 
-type-in-requires : tie.Need-type-in-requires
-type-in-requires c κs =
+type_in_requires : tie.Need-type_in-base-requires
+type_in_requires c κs =
     let start = c.before.before.before in
-    there-fits start.args.types.now start.args.s.ty (there c.before)
+    there_fits start.args.types.now start.args.s.ty (there c.before)
 
-add-sum : tie.Need-overflow-add-sum
-add-sum c = omega (arith, small c, c.before.if2.false)
+add_sum : tie.Need-overflow_add-sum
+add_sum c = omega (arith, small c, c.before.if-used-gt-MOST_LENGTHS.false)
 
-cast-t12 : tie.Need-overflow-cast-t12
-cast-t12 c = omega (arith, small c, c.before.if2.false)
+cast_t12 : tie.Need-overflow_cast-result
+cast_t12 c = omega (arith, small c, c.before.if-used-gt-MOST_LENGTHS.false)
 
-returns-2 : tie.Need-returns-2
-returns-2 c =
+returns_2 : tie.Need-returns-then-is_there
+returns_2 c =
     let else2 = c.before in
-    rw c.type-in.ensures (symbol-is _ _ _ (there else2.before) (omega (arith, else2.if2.false)))
+    rw c.type_in-base.ensures (symbol_is _ _ _ (there else2.before)
+    (omega (arith, else2.if-used-gt-MOST_LENGTHS.false)))
 
-returns-3 : tie.Need-returns-3
-returns-3 c = symbol-absent _ _ _ (sym c.before.is-there.ensures ∙ c.if1.false)
+returns_3 : tie.Need-returns
+returns_3 c = symbol_absent _ _ _ (sym c.before.is_there.ensures ∙ c.if-is_there.false)
 
-pub symbol-type-spec : {M : Type 1} → statement M
-symbol-type-spec =
+pub symbol_type_spec : {M : Type 1} → statement M
+symbol_type_spec =
     tie.close
     (tie.spec
     (λ c κs. search rules)
     returns
-    type-in-requires
+    type_in_requires
     (λ c. search rules)
     (λ c. search rules)
-    add-sum
-    cast-t12
-    returns-2
-    returns-3)
+    add_sum
+    cast_t12
+    returns_2
+    returns_3)

@@ -4,68 +4,68 @@ use mathlib.Core.Path.{◌≡◌, sym, ◌∙◌}
 use mathlib.Core.Bool.{true}
 use Rattle.types.specs.shape.Tags.{lengths_ok}
 use Rattle.types.specs.tables.There.{is_there}
-use Rattle.types.proofs.shape.ShapeLaws.{there-fits, ok-none, not_there, lengths-wrong, bools, others}
+use Rattle.types.proofs.shape.ShapeLaws.{there_fits, ok_none, not_there, lengths_wrong, bools, others}
 use Rattle.types.proofs.shape.tags.tag_shape.Statement.{statement}
 use Rattle.types.proofs.shape.tags.tag_shape.Tie as tie
 
-there : (c : tie.Then1)
+there : (c : tie.Then-is_there)
     → is_there c.before.before.before.args.types.now c.before.before.before.args.ty ≡ true
-there c = sym c.before.is-there.ensures ∙ c.if1.true
+there c = sym c.before.is_there.ensures ∙ c.if-is_there.true
 
-ok : (c : tie.Then2)
+ok : (c : tie.Then-lengths_ok)
     → lengths_ok c.before.before.before.before.before.args.ty
     c.before.before.before.before.before.args.lengths.now ≡ true
-ok c = sym c.before.lengths-ok.ensures ∙ c.if2.true
+ok c = sym c.before.lengths_ok.ensures ∙ c.if-lengths_ok.true
 
-returns : tie.Need-returns
+returns : tie.Need-returns-then-bool_tag
 returns c =
     let at_tag = c.before.before.before in
     let at_Ok = at_tag.before in
     let at_there = at_Ok.before.before in
     let a = at_there.before.before.before.args in
-    c.bool-shape.ensures
-    ∙ rw c.before.length_at.ensures
+    c.bool_shape.ensures
+    ∙ rw c.before.length_at-n.ensures
     (bools a.types.now a.ty a.lengths.now (there at_there) (ok at_Ok)
-    (sym at_tag.bool-tag.ensures ∙ c.before.before.if3.true))
+    (sym at_tag.bool_tag.ensures ∙ c.before.before.if-bool_tag.true))
 
-plain-shape-requires : tie.Need-plain-shape-requires
-plain-shape-requires c κs =
+plain_shape_requires : tie.Need-plain_shape-requires
+plain_shape_requires c κs =
     let at_Ok = c.before.before in
     let at_there = at_Ok.before.before in
     let a = at_there.before.before.before.args in
     record {
-      ty = there-fits a.types.now a.ty (there at_there);
-      lengths = ok-none a.ty a.lengths.now (ok at_Ok);
+      ty = there_fits a.types.now a.ty (there at_there);
+      lengths = ok_none a.ty a.lengths.now (ok at_Ok);
     }
 
-returns-2 : tie.Need-returns-2
-returns-2 c =
+returns_2 : tie.Need-returns-then-lengths_ok
+returns_2 c =
     let at_tag = c.before.before in
     let at_Ok = at_tag.before in
     let at_there = at_Ok.before.before in
     let a = at_there.before.before.before.args in
-    c.plain-shape.ensures
+    c.plain_shape.ensures
     ∙ others a.types.now a.ty a.lengths.now (there at_there) (ok at_Ok)
-    (sym at_tag.bool-tag.ensures ∙ c.before.if3.false)
+    (sym at_tag.bool_tag.ensures ∙ c.before.if-bool_tag.false)
 
-returns-3 : tie.Need-returns-3
-returns-3 c =
-    let at-lengths = c.before.before in
-    let at_there = at-lengths.before in
+returns_3 : tie.Need-returns-then-is_there
+returns_3 c =
+    let at_lengths = c.before.before in
+    let at_there = at_lengths.before in
     let a = at_there.before.before.before.args in
     c.refused.ensures
-    ∙ lengths-wrong a.types.now a.ty a.lengths.now (there at_there)
-    (sym at-lengths.lengths-ok.ensures ∙ c.before.if2.false)
+    ∙ lengths_wrong a.types.now a.ty a.lengths.now (there at_there)
+    (sym at_lengths.lengths_ok.ensures ∙ c.before.if-lengths_ok.false)
 
-returns-4 : tie.Need-returns-4
-returns-4 c =
-    let at-type = c.before.before in
-    let a = at-type.before.before.args in
-    c.refused2.ensures
-    ∙ not_there a.types.now a.ty a.lengths.now (sym at-type.is-there.ensures ∙ c.before.if1.false)
+returns_4 : tie.Need-returns
+returns_4 c =
+    let at_type = c.before.before in
+    let a = at_type.before.before.args in
+    c.refused-2.ensures
+    ∙ not_there a.types.now a.ty a.lengths.now (sym at_type.is_there.ensures ∙ c.before.if-is_there.false)
 
-pub tag-shape-spec : {M : Type 1} → statement M
-tag-shape-spec =
+pub tag_shape_spec : {M : Type 1} → statement M
+tag_shape_spec =
     tie.close
     (tie.spec
     (λ c κs. search rules)
@@ -74,9 +74,9 @@ tag-shape-spec =
     (λ c κs. search rules)
     (λ c κs. search rules)
     returns
-    plain-shape-requires
-    returns-2
+    plain_shape_requires
+    returns_2
     (λ c κs. search rules)
-    returns-3
+    returns_3
     (λ c κs. search rules)
-    returns-4)
+    returns_4)

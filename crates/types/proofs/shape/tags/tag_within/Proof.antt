@@ -5,33 +5,33 @@ use borrow.Author.Tests.{leb-true}
 use Prim.Native.Nat.{◌*◌, ◌≤◌}
 use mathlib.Core.Path.{sym, ◌∙◌}
 use Rattle.types.specs.layout.Placing.{most_size}
-use Rattle.types.proofs.shape.ShapeLaws.{within-fits, within-over}
+use Rattle.types.proofs.shape.ShapeLaws.{within_fits, within_over}
 use Rattle.types.proofs.shape.tags.tag_within.Statement.{statement}
 use Rattle.types.proofs.shape.tags.tag_within.Tie as tie
 
 -- the bytes are few enough to multiply
-small : (c : tie.Then1) → c.before.before.size_in.result * c.before.before.before.args.n ≤ most_size
-small c = leb-true _ most_size (sym c.before.product-fits.ensures ∙ c.if1.true)
+small : (c : tie.Then-product_fits) → c.before.before.size_in-size.result * c.before.before.before.args.n ≤ most_size
+small c = leb-true _ most_size (sym c.before.product_fits.ensures ∙ c.if-product_fits.true)
 
-mul-t9 : tie.Need-overflow-mul-t9
-mul-t9 c = omega (arith, small c)
+mul_t9 : tie.Need-overflow_mul-shape
+mul_t9 c = omega (arith, small c)
 
-returns : tie.Need-returns
+returns : tie.Need-returns-then-product_fits
 returns c =
     let at_size = c.before.before in
     let a = at_size.before.args in
-    within-fits _ a.ty a.lengths a.used a.n at_size.size_in.ensures
-    (sym c.before.product-fits.ensures ∙ c.if1.true)
+    within_fits _ a.ty a.lengths a.used a.n at_size.size_in-size.ensures
+    (sym c.before.product_fits.ensures ∙ c.if-product_fits.true)
 
-returns-2 : tie.Need-returns-2
-returns-2 c =
-    let at-fits = c.before.before in
-    let a = at-fits.before.before.args in
+returns_2 : tie.Need-returns
+returns_2 c =
+    let at_fits = c.before.before in
+    let a = at_fits.before.before.args in
     c.refused.ensures
-    ∙ within-over _ a.ty a.lengths a.used a.n at-fits.before.size_in.ensures
-    (sym at-fits.product-fits.ensures ∙ c.before.if1.false)
+    ∙ within_over _ a.ty a.lengths a.used a.n at_fits.before.size_in-size.ensures
+    (sym at_fits.product_fits.ensures ∙ c.before.if-product_fits.false)
 
-pub tag-within-spec : {M : Type 1} → statement M
-tag-within-spec =
+pub tag_within_spec : {M : Type 1} → statement M
+tag_within_spec =
     tie.close
-    (tie.spec (λ c κs. search rules) (λ c κs. search rules) mul-t9 returns (λ c κs. search rules) returns-2)
+    (tie.spec (λ c κs. search rules) (λ c κs. search rules) mul_t9 returns (λ c κs. search rules) returns_2)

@@ -6,74 +6,74 @@ use mathlib.Core.Path.{◌≡◌, sym, ◌∙◌}
 use Rattle.types.specs.adding.Ids.{id_word}
 use Rattle.types.specs.tables.Limits.{most_types}
 use Rattle.types.specs.tables.Registry.{count_from, type_count}
-use Rattle.types.proofs.tables.CountLaws.{count-stop, count-on, count-end}
+use Rattle.types.proofs.tables.CountLaws.{count_stop, count_on, count_end}
 use Rattle.types.proofs.tables.count.type_count.Statement.{statement}
 use Rattle.types.proofs.tables.count.type_count.Tie as tie
 
-abbrev invariant-loop : tie.invariant-loop
-invariant-loop types i₀ i = (i ≤ most_types) × (type_count types ≡ i + count_from (id_word types) i (most_types - i))
+abbrev invariant_loop : tie.invariant-loop-i
+invariant_loop types i₀ i = (i ≤ most_types) × (type_count types ≡ i + count_from (id_word types) i (most_types - i))
 
-abbrev decreases-loop : tie.decreases-loop
-decreases-loop types i₀ i = most_types - i
+abbrev decreases_loop : tie.decreases-loop-i
+decreases_loop types i₀ i = most_types - i
 
-loop-holds : tie.Need-loop-init invariant-loop decreases-loop
+loop_holds : tie.Need-loop-i-init invariant_loop decreases_loop
 unfolding type_count
-loop-holds c = (omega arith, rw (sub-zero, zero-add))
+loop_holds c = (omega arith, rw (sub-zero, zero-add))
 
-mul-if1 : tie.Need-overflow-mul-if1 invariant-loop decreases-loop
-mul-if1 c = omega arith
+mul_if1 : tie.Need-overflow_mul-i invariant_loop decreases_loop
+mul_if1 c = omega arith
 
-add-if1 : tie.Need-overflow-add-if1 invariant-loop decreases-loop
-add-if1 c = omega arith
+add_if1 : tie.Need-overflow_add-i invariant_loop decreases_loop
+add_if1 c = omega arith
 
-mul-if1-2 : tie.Need-overflow-mul-if1-2 invariant-loop decreases-loop
-mul-if1-2 c = omega arith
+mul_if1_2 : tie.Need-offset_bounds-types-i invariant_loop decreases_loop
+mul_if1_2 c = omega arith
 
-element-copy-out-if1 : tie.Need-element-copy-out-if1 invariant-loop decreases-loop
-element-copy-out-if1 c = omega arith
+element_copy_out_if1 : tie.Need-bounds-types-i invariant_loop decreases_loop
+element_copy_out_if1 c = omega arith
 
-returns : tie.Need-returns invariant-loop decreases-loop
+returns : tie.Need-returns-then-types-i-eq0 invariant_loop decreases_loop
 returns c =
-    let at-loop = c.before.before.before in
-    sym (at-loop.loop.invariant.1
-    ∙ count-stop (id_word at-loop.before.args.types.now) most_types at-loop.loop.i
-    c.before.before.loop-test.true
-    c.if1.true)
+    let at_loop = c.before.before.before in
+    sym (at_loop.loop-i.invariant.1
+    ∙ count_stop (id_word at_loop.before.args.types.now) most_types at_loop.loop-i.i
+    c.before.before.loop-i-test.true
+    c.if-types-i-eq0.true)
 
-add-i : tie.Need-overflow-add-i invariant-loop decreases-loop
-add-i c = omega arith
+add_i : tie.Need-overflow_add-i-in-loop-i invariant_loop decreases_loop
+add_i c = omega arith
 
-loop-less : tie.Need-loop-smaller invariant-loop decreases-loop
-loop-less c = omega arith
+loop_less : tie.Need-loop-i-smaller invariant_loop decreases_loop
+loop_less c = omega arith
 
-loop-again : tie.Need-loop-preserved invariant-loop decreases-loop
-loop-again c =
-    let at-loop = c.before.before.before in (
+loop_again : tie.Need-loop-i-preserved invariant_loop decreases_loop
+loop_again c =
+    let at_loop = c.before.before.before in (
       omega arith,
-      at-loop.loop.invariant.1
-          ∙ count-on (id_word at-loop.before.args.types.now) most_types at-loop.loop.i
-          c.before.before.loop-test.true c.if1.false,
+      at_loop.loop-i.invariant.1
+          ∙ count_on (id_word at_loop.before.args.types.now) most_types at_loop.loop-i.i
+          c.before.before.loop-i-test.true c.if-types-i-eq0.false,
     )
 
-returns-2 : tie.Need-returns-2 invariant-loop decreases-loop
-returns-2 c =
-    let at-loop = c.before in
-    sym (at-loop.loop.invariant.1
-    ∙ count-end (id_word at-loop.before.args.types.now) most_types at-loop.loop.i c.loop-test.false)
+returns_2 : tie.Need-returns invariant_loop decreases_loop
+returns_2 c =
+    let at_loop = c.before in
+    sym (at_loop.loop-i.invariant.1
+    ∙ count_end (id_word at_loop.before.args.types.now) most_types at_loop.loop-i.i c.loop-i-test.false)
 
-pub type-count-spec : {M : Type 1} → statement M
-type-count-spec =
+pub type_count_spec : {M : Type 1} → statement M
+type_count_spec =
     tie.close
     (tie.spec
-    invariant-loop
-    decreases-loop
-    loop-holds
-    mul-if1
-    add-if1
-    mul-if1-2
-    element-copy-out-if1
+    invariant_loop
+    decreases_loop
+    loop_holds
+    mul_if1
+    add_if1
+    mul_if1_2
+    element_copy_out_if1
     returns
-    add-i
-    loop-less
-    loop-again
-    returns-2)
+    add_i
+    loop_less
+    loop_again
+    returns_2)

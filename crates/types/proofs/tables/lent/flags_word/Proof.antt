@@ -2,17 +2,17 @@
 use Rattle.types.proofs.tables.lent.flags_word.Statement.{statement}
 use Rattle.types.proofs.tables.lent.flags_word.Tie as tie
 
-returns : tie.Need-returns
-returns c = simp (c.before.if1.true, c.if2.true)
+returns : tie.Need-returns-then-local
+returns c = simp (c.before.if-hidden.true, c.if-local.true)
 
-returns-2 : tie.Need-returns-2
-returns-2 c = simp (c.before.if1.true, c.if2.false)
+returns_2 : tie.Need-returns-then-hidden
+returns_2 c = simp (c.before.if-hidden.true, c.if-local.false)
 
-returns-3 : tie.Need-returns-3
-returns-3 c = simp (c.before.if1.false, c.if3.true)
+returns_3 : tie.Need-returns-then-local-2
+returns_3 c = simp (c.before.if-hidden.false, c.if-local-2.true)
 
-returns-4 : tie.Need-returns-4
-returns-4 c = simp (c.before.if1.false, c.if3.false)
+returns_4 : tie.Need-returns
+returns_4 c = simp (c.before.if-hidden.false, c.if-local-2.false)
 
-pub flags-word-spec : {M : Type 1} → statement M
-flags-word-spec = tie.close (tie.spec returns returns-2 returns-3 returns-4)
+pub flags_word_spec : {M : Type 1} → statement M
+flags_word_spec = tie.close (tie.spec returns returns_2 returns_3 returns_4)

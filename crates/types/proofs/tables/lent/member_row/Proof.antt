@@ -9,10 +9,10 @@ unfolding member_at
 returns c =
     let access = c.before.before in
     let bit = access.before.before.before in
-    rw (access.low8.ensures, bit.bit-of.ensures, bit.before.before.ty-of.ensures)
+    rw (access.low8-access.ensures, bit.bit_of-bit.ensures, bit.before.before.ty_of-ty.ensures)
 
-pub member-row-spec : {M : Type 1} → statement M
-member-row-spec =
+pub member_row_spec : {M : Type 1} → statement M
+member_row_spec =
     tie.close
     (tie.spec
     (λ c. search rules)

@@ -9,8 +9,8 @@ returns : tie.Need-returns
 unfolding name_at
 returns c = refl
 
-pub name-row-spec : {M : Type 1} → statement M
-name-row-spec =
+pub name_row_spec : {M : Type 1} → statement M
+name_row_spec =
     tie.close
     (tie.spec (λ c. search rules) (λ c. search rules) (λ c. search rules) (λ c. search rules) (λ c. search rules)
     (λ c. search rules) returns)

@@ -8,5 +8,5 @@ returns : tie.Need-returns
 unfolding no_members
 returns c = refl
 
-pub no-members-spec : {M : Type 1} → statement M
-no-members-spec = tie.close (tie.spec returns)
+pub no_members_spec : {M : Type 1} → statement M
+no_members_spec = tie.close (tie.spec returns)

@@ -8,5 +8,5 @@ returns : tie.Need-returns
 unfolding no_names
 returns c = refl
 
-pub no-names-spec : {M : Type 1} → statement M
-no-names-spec = tie.close (tie.spec returns)
+pub no_names_spec : {M : Type 1} → statement M
+no_names_spec = tie.close (tie.spec returns)

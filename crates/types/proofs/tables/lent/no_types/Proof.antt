@@ -8,5 +8,5 @@ returns : tie.Need-returns
 unfolding no_types
 returns c = refl
 
-pub no-types-spec : {M : Type 1} → statement M
-no-types-spec = tie.close (tie.spec returns)
+pub no_types_spec : {M : Type 1} → statement M
+no_types_spec = tie.close (tie.spec returns)

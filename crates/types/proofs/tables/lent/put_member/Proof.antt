@@ -11,14 +11,14 @@ unfolding member_row
 returns c =
     let a = c.before.before.before.before.args in
     rw (
-      ← c.before.flags-word.ensures,
+      ← c.before.flags_word.ensures,
       ← c.before.before.bit_word.ensures,
-      ← c.before.before.before.ty-word.ensures,
+      ← c.before.before.before.ty_word.ensures,
     )
     (eight a.members.now (8 * a.row) _ _ _ _ _ _ _ _)
 
-pub put-member-spec : {M : Type 1} → statement M
-put-member-spec =
+pub put_member_spec : {M : Type 1} → statement M
+put_member_spec =
     tie.close
     (tie.spec
     (λ c. search rules)

@@ -10,10 +10,10 @@ returns : tie.Need-returns
 unfolding type_row
 returns c =
     let a = c.before.before.before.before.args in
-    rw (← c.kind-word.ensures) (eight a.types.now (8 * a.i) _ _ _ _ _ _ _ _)
+    rw (← c.kind_word.ensures) (eight a.types.now (8 * a.i) _ _ _ _ _ _ _ _)
 
-pub put-type-spec : {M : Type 1} → statement M
-put-type-spec =
+pub put_type_spec : {M : Type 1} → statement M
+put_type_spec =
     tie.close
     (tie.spec
     (λ c. search rules)

@@ -9,10 +9,10 @@ unfolding type_at
 returns c =
     let kind = c.before.before.before.before.before in
     let handle = kind.before.before in
-    rw (kind.kind-of.ensures, handle.low162.ensures, handle.before.before.low16.ensures)
+    rw (kind.kind_of-kind.ensures, handle.low16-handle.ensures, handle.before.before.low16-id.ensures)
 
-pub type-row-spec : {M : Type 1} → statement M
-type-row-spec =
+pub type_row_spec : {M : Type 1} → statement M
+type_row_spec =
     tie.close
     (tie.spec
     (λ c. search rules)

@@ -5,8 +5,8 @@ use Rattle.types.proofs.tables.TableLaws.{word_below}
 use Rattle.types.proofs.tables.lent.word_of.Statement.{statement}
 use Rattle.types.proofs.tables.lent.word_of.Tie as tie
 
-cast-result : tie.Need-overflow-cast-result
-cast-result c = omega (arith, c.ty-word.ensures, word_below c.before.args.ty c.before.requires)
+cast_result : tie.Need-overflow_cast-result
+cast_result c = omega (arith, c.ty_word.ensures, word_below c.before.args.ty c.before.requires)
 
-pub word-of-spec : {M : Type 1} → statement M
-word-of-spec = tie.close (tie.spec (λ c κs. search rules) cast-result (λ c. search rules))
+pub word_of_spec : {M : Type 1} → statement M
+word_of_spec = tie.close (tie.spec (λ c κs. search rules) cast_result (λ c. search rules))

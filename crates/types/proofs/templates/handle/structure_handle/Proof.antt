@@ -7,7 +7,7 @@ use Rattle.types.proofs.templates.handle.structure_handle.Tie as tie
 
 returns : tie.Need-returns
 unfolding handle_of
-returns c = c.finish-handle.ensures ∙ ap not_zero c.before.fold-handle.ensures
+returns c = c.finish_handle.ensures ∙ ap not_zero c.before.fold_handle.ensures
 
-pub structure-handle-spec : {M : Type 1} → statement M
-structure-handle-spec = tie.close (tie.spec (λ c κs. search rules) (λ c κs. search rules) returns)
+pub structure_handle_spec : {M : Type 1} → statement M
+structure_handle_spec = tie.close (tie.spec (λ c κs. search rules) (λ c κs. search rules) returns)

@@ -8,6 +8,6 @@ returns : tie.Need-returns
 unfolding object_size
 returns c = rw c.wide.ensures
 
-pub object-definition-size-spec : {M : Type 1} → statement M
-object-definition-size-spec =
+pub object_definition_size_spec : {M : Type 1} → statement M
+object_definition_size_spec =
     tie.close (tie.spec (λ c κs. search rules) (λ c. search rules) (λ c. search rules) (λ c. search rules) returns)

@@ -7,7 +7,7 @@ use Rattle.types.proofs.templates.template.template_handle.Tie as tie
 
 returns : tie.Need-returns
 unfolding handle_of
-returns c = c.finish-handle.ensures ∙ ap not_zero c.before.measure.ensures.fold
+returns c = c.finish_handle.ensures ∙ ap not_zero c.before.measure-sink.ensures.fold
 
-pub template-handle-spec : {M : Type 1} → statement M
-template-handle-spec = tie.close (tie.spec (λ c κs. search rules) (λ c κs. search rules) returns)
+pub template_handle_spec : {M : Type 1} → statement M
+template_handle_spec = tie.close (tie.spec (λ c κs. search rules) (λ c κs. search rules) returns)

@@ -2,35 +2,35 @@
 use borrow.Author.Rules.{rules}
 use mathlib.Core.Path.{sym, ◌∙◌}
 use Rattle.types.specs.templates.Template.{template_length}
-use Rattle.types.proofs.tables.ThereLaws.{kept_there, there-below}
+use Rattle.types.proofs.tables.ThereLaws.{kept_there, there_below}
 use Rattle.types.proofs.templates.template.template_len.Statement.{statement}
 use Rattle.types.proofs.templates.template.template_len.Tie as tie
 
-type-row-requires : tie.Need-type-row-requires
-type-row-requires c κs = there-below _ (sym c.before.is-there.ensures ∙ c.if1.true)
+type_row_requires : tie.Need-type_row-d-requires
+type_row_requires c κs = there_below _ (sym c.before.is_there.ensures ∙ c.if-is_there.true)
 
-template-bytes-requires : tie.Need-template-bytes-requires
-template-bytes-requires c κs =
+template_bytes_requires : tie.Need-template_bytes-long-requires
+template_bytes_requires c κs =
     let start = c.before.before.before in
-    rw c.type_row.ensures
-    (kept_there start.requires start.args.n (sym c.before.before.is-there.ensures ∙ c.before.if1.true)
+    rw c.type_row-d.ensures
+    (kept_there start.requires start.args.n (sym c.before.before.is_there.ensures ∙ c.before.if-is_there.true)
     ).listable.rows.rows
 
-returns : tie.Need-returns
+returns : tie.Need-returns-then-is_there
 unfolding template_length
 returns c =
     let then1 = c.before.before in
     rw (
-      c.template-bytes.ensures,
-      c.before.type_row.ensures,
-      sym then1.before.is-there.ensures ∙ then1.if1.true,
+      c.template_bytes-long.ensures,
+      c.before.type_row-d.ensures,
+      sym then1.before.is_there.ensures ∙ then1.if-is_there.true,
     )
 
-returns-2 : tie.Need-returns-2
+returns_2 : tie.Need-returns
 unfolding template_length
-returns-2 c = rw (sym c.before.is-there.ensures ∙ c.if1.false)
+returns_2 c = rw (sym c.before.is_there.ensures ∙ c.if-is_there.false)
 
-pub template-len-spec : {M : Type 1} → statement M
-template-len-spec =
+pub template_len_spec : {M : Type 1} → statement M
+template_len_spec =
     tie.close
-    (tie.spec (λ c κs. search rules) type-row-requires template-bytes-requires returns returns-2)
+    (tie.spec (λ c κs. search rules) type_row_requires template_bytes_requires returns returns_2)

@@ -3,76 +3,76 @@ use native.Mathlib.Omega.{arith}
 use borrow.Author.Rules.{rules}
 use mathlib.Core.Path.{refl}
 use Rattle.types.specs.templates.Template.{padding, member_ids}
-use Rattle.types.proofs.templates.SinkLaws.{left-room, left-on}
-use Rattle.types.proofs.templates.template.WalkLaws.{front-room, front-user, front-bare}
+use Rattle.types.proofs.templates.SinkLaws.{left_room, left_on}
+use Rattle.types.proofs.templates.template.WalkLaws.{front_room, front_user, front_bare}
 use Rattle.types.proofs.templates.template.walk.Statement.{statement}
 use Rattle.types.proofs.templates.template.walk.Tie as tie
 
-emit-front-requires : tie.Need-emit-front-requires
-emit-front-requires c κs =
-    let at-start = c.before.before.before in
-    let a = at-start.args in
-    let asked = at-start.requires.1 in
-    let room = front-room a.types.now a.members.now a.names.now a.d asked.room in
+emit_front_requires : tie.Need-emit_front-k1-requires
+emit_front_requires c κs =
+    let at_start = c.before.before.before in
+    let a = at_start.args in
+    let asked = at_start.requires.1 in
+    let room = front_room a.types.now a.members.now a.names.now a.d asked.room in
     record { rows = asked.rows; table = asked.table; room = room }
 
-emit-padding-requires : tie.Need-emit-padding-requires
-emit-padding-requires c κs =
-    let at-user = c.before.before in
-    let at-emit-front = at-user.before.before.before in
-    let at-start = at-emit-front.before.before.before.before in
-    let a = at-start.args in
-    let front = at-emit-front.emit-front in
-    let left = front-user a.types.now a.members.now a.names.now a.d at-user.user-id.ensures
-    c.before.if1.true at-start.requires.0 at-start.requires.1.room front.ensures in
-    left-room (padding front.result.at) _ refl left
+emit_padding_requires : tie.Need-emit_padding-k2-requires
+emit_padding_requires c κs =
+    let at_user = c.before.before in
+    let at_emit_front = at_user.before.before.before in
+    let at_start = at_emit_front.before.before.before.before in
+    let a = at_start.args in
+    let front = at_emit_front.emit_front-k1 in
+    let left = front_user a.types.now a.members.now a.names.now a.d at_user.user_id.ensures
+    c.before.if-user_id.true at_start.requires.0 at_start.requires.1.room front.ensures in
+    left_room (padding front.result.at) _ refl left
 
-emit-ids-requires : tie.Need-emit-ids-requires
-emit-ids-requires c κs =
-    let at-emit-padding = c.before.before.before in
-    let then1 = at-emit-padding.before.before in
-    let at-user = then1.before in
-    let at-emit-front = at-user.before.before.before in
-    let at-start = at-emit-front.before.before.before.before in
-    let a = at-start.args in
-    let front = at-emit-front.emit-front in
-    let left = front-user a.types.now a.members.now a.names.now a.d at-user.user-id.ensures
-    then1.if1.true at-start.requires.0 at-start.requires.1.room front.ensures in
-    let ids = left-on (member_ids 0 a.d.count) refl left at-emit-padding.emit-padding.ensures in
-    (omega (arith, at-start.requires.1.rows.rows), ids.room)
+emit_ids_requires : tie.Need-emit_ids-requires
+emit_ids_requires c κs =
+    let at_emit_padding = c.before.before.before in
+    let then1 = at_emit_padding.before.before in
+    let at_user = then1.before in
+    let at_emit_front = at_user.before.before.before in
+    let at_start = at_emit_front.before.before.before.before in
+    let a = at_start.args in
+    let front = at_emit_front.emit_front-k1 in
+    let left = front_user a.types.now a.members.now a.names.now a.d at_user.user_id.ensures
+    then1.if-user_id.true at_start.requires.0 at_start.requires.1.room front.ensures in
+    let ids = left_on (member_ids 0 a.d.count) refl left at_emit_padding.emit_padding-k2.ensures in
+    (omega (arith, at_start.requires.1.rows.rows), ids.room)
 
-returns : tie.Need-returns
+returns : tie.Need-returns-then-user_id
 returns c =
-    let at-emit-ids = c.before.before in
-    let at-emit-padding = at-emit-ids.before.before.before.before in
-    let then1 = at-emit-padding.before.before in
-    let at-user = then1.before in
-    let at-emit-front = at-user.before.before.before in
-    let at-start = at-emit-front.before.before.before.before in
-    let a = at-start.args in
-    let front = at-emit-front.emit-front in
-    let left = front-user a.types.now a.members.now a.names.now a.d at-user.user-id.ensures
-    then1.if1.true at-start.requires.0 at-start.requires.1.room front.ensures in
-    let ids = left-on (member_ids 0 a.d.count) refl left at-emit-padding.emit-padding.ensures in
-    ids.then _ _ at-emit-ids.emit-ids.ensures
+    let at_emit_ids = c.before.before in
+    let at_emit_padding = at_emit_ids.before.before.before.before in
+    let then1 = at_emit_padding.before.before in
+    let at_user = then1.before in
+    let at_emit_front = at_user.before.before.before in
+    let at_start = at_emit_front.before.before.before.before in
+    let a = at_start.args in
+    let front = at_emit_front.emit_front-k1 in
+    let left = front_user a.types.now a.members.now a.names.now a.d at_user.user_id.ensures
+    then1.if-user_id.true at_start.requires.0 at_start.requires.1.room front.ensures in
+    let ids = left_on (member_ids 0 a.d.count) refl left at_emit_padding.emit_padding-k2.ensures in
+    ids.then _ _ at_emit_ids.emit_ids.ensures
 
-returns-2 : tie.Need-returns-2
-returns-2 c =
-    let at-emit-front = c.before.before.before.before in
-    let at-start = at-emit-front.before.before.before.before in
-    let a = at-start.args in
-    front-bare a.types.now a.members.now a.names.now a.d c.before.user-id.ensures c.if1.false
-    at-emit-front.emit-front.ensures
+returns_2 : tie.Need-returns
+returns_2 c =
+    let at_emit_front = c.before.before.before.before in
+    let at_start = at_emit_front.before.before.before.before in
+    let a = at_start.args in
+    front_bare a.types.now a.members.now a.names.now a.d c.before.user_id.ensures c.if-user_id.false
+    at_emit_front.emit_front-k1.ensures
 
-pub walk-spec : {M : Type 1} → statement M
-walk-spec =
+pub walk_spec : {M : Type 1} → statement M
+walk_spec =
     tie.close
     (tie.spec
-    emit-front-requires
+    emit_front_requires
     (λ c κs. search rules)
-    emit-padding-requires
-    emit-ids-requires
+    emit_padding_requires
+    emit_ids_requires
     (λ c. search rules)
     returns
     (λ c. search rules)
-    returns-2)
+    returns_2)

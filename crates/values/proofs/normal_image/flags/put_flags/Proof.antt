@@ -3,72 +3,73 @@ use Prim.Native.Nat.{◌-◌, ◌*◌, ◌≤◌}
 use native.Mathlib.Omega.{arith}
 use mathlib.Core.Path.{refl}
 use Rattle.words.specs.Bits.{flat}
-use Rattle.values.proofs.normal_image.FlagRows.{PuttingFlags, one-row, putting-all, putting-more, putting-none}
+use Rattle.values.proofs.normal_image.FlagRows.{PuttingFlags, one_row, putting_all, putting_more, putting_none}
 use Rattle.values.proofs.normal_image.flags.put_flags.Statement.{statement}
 use Rattle.values.proofs.normal_image.flags.put_flags.Tie as tie
 
-abbrev invariant-loop : tie.invariant-loop
-invariant-loop members first n kept image₀ base k₀ image k =
+abbrev invariant_loop : tie.invariant-loop-k
+invariant_loop members first n kept image₀ base k₀ image k =
     (k ≤ n) × PuttingFlags members first n (flat kept) (8 * base) image₀ k image
 
-abbrev decreases-loop : tie.decreases-loop
-decreases-loop members first n kept image₀ base k₀ image k = n - k
+abbrev decreases_loop : tie.decreases-loop-k
+decreases_loop members first n kept image₀ base k₀ image k = n - k
 
-abbrev start : tie.In-loop invariant-loop decreases-loop → tie.Start invariant-loop decreases-loop
+abbrev start : tie.In-loop-k invariant_loop decreases_loop → tie.Start invariant_loop decreases_loop
 start c = c.before.before.before.before
 
 -- the turn, from its end
-abbrev in-loop : tie.After-slice-known2 invariant-loop decreases-loop → tie.In-loop invariant-loop decreases-loop
-in-loop c = c.before.before.before.before
+abbrev in_loop : tie.After-slice_known-in-loop-k-1 invariant_loop decreases_loop
+    → tie.In-loop-k invariant_loop decreases_loop
+in_loop c = c.before.before.before.before
 
-loop-holds : tie.Need-loop-init invariant-loop decreases-loop
-loop-holds c = (omega arith, putting-none refl)
+loop_holds : tie.Need-loop-k-init invariant_loop decreases_loop
+loop_holds c = (omega arith, putting_none refl)
 
-add-put-flag : tie.Need-overflow-add-put-flag invariant-loop decreases-loop
-add-put-flag c = omega (arith, (start c).requires.0.rows, c.loop-test.true)
+add_put_flag : tie.Need-overflow_add-first invariant_loop decreases_loop
+add_put_flag c = omega (arith, (start c).requires.0.rows, c.loop-k-test.true)
 
-put-flag-requires : tie.Need-put-flag-requires invariant-loop decreases-loop
-put-flag-requires c κs =
+put_flag_requires : tie.Need-put_flag-requires invariant_loop decreases_loop
+put_flag_requires c κs =
     let turn = c.before in
-    let at-loop = turn.before in (
-      one-row at-loop.loop.k (start turn).requires.0 turn.loop-test.true at-loop.loop.invariant.1.long,
-      omega (arith, (start turn).requires.1, turn.loop-test.true),
+    let at_loop = turn.before in (
+      one_row at_loop.loop-k.k (start turn).requires.0 turn.loop-k-test.true at_loop.loop-k.invariant.1.long,
+      omega (arith, (start turn).requires.1, turn.loop-k-test.true),
     )
 
-add-k : tie.Need-overflow-add-k invariant-loop decreases-loop
-add-k c = omega (arith, (start (in-loop c)).pre.0.rows, (in-loop c).loop-test.true)
+add_k : tie.Need-overflow_add-k invariant_loop decreases_loop
+add_k c = omega (arith, (start (in_loop c)).requires.0.rows, (in_loop c).loop-k-test.true)
 
-loop-less : tie.Need-loop-smaller invariant-loop decreases-loop
-loop-less c = omega (arith, (in-loop c).loop-test.true)
+loop_less : tie.Need-loop-k-smaller invariant_loop decreases_loop
+loop_less c = omega (arith, (in_loop c).loop-k-test.true)
 
-loop-again : tie.Need-loop-preserved invariant-loop decreases-loop
-loop-again c =
+loop_again : tie.Need-loop-k-preserved invariant_loop decreases_loop
+loop_again c =
     let put = c.before.before in
-    let turn = in-loop c in (
-      omega (arith, turn.loop-test.taken),
-      putting-more turn.before.loop.inv.1 turn.loop-test.taken put.put-flag.auto.1.1.1.1.0
-          put.put-flag.ensures,
+    let turn = in_loop c in (
+      omega (arith, turn.loop-k-test.true),
+      putting_more turn.before.loop-k.invariant.1 turn.loop-k-test.true put.put_flag.auto.image
+          put.put_flag.ensures,
     )
 
-same_length : tie.Need-same-length invariant-loop decreases-loop
-same_length c = c.before.loop.invariant.1.long
+same_length : tie.Need-shape_of-image invariant_loop decreases_loop
+same_length c = c.before.loop-k.invariant.1.long
 
-returns : tie.Need-returns invariant-loop decreases-loop
+returns : tie.Need-returns invariant_loop decreases_loop
 returns c =
-    let at-loop = c.before in
-    putting-all at-loop.loop.invariant.1 (omega (arith, at-loop.loop.invariant.0, c.loop-test.false))
+    let at_loop = c.before in
+    putting_all at_loop.loop-k.invariant.1 (omega (arith, at_loop.loop-k.invariant.0, c.loop-k-test.false))
 
-pub put-flags-spec : {M : Type 1} → statement M
-put-flags-spec =
+pub put_flags_spec : {M : Type 1} → statement M
+put_flags_spec =
     tie.close
     (tie.spec
-    invariant-loop
-    decreases-loop
-    loop-holds
-    add-put-flag
-    put-flag-requires
-    add-k
-    loop-less
-    loop-again
+    invariant_loop
+    decreases_loop
+    loop_holds
+    add_put_flag
+    put_flag_requires
+    add_k
+    loop_less
+    loop_again
     same_length
     returns)

@@ -7,80 +7,80 @@ use mathlib.Core.Bool.{false}
 use lib.ListN.{length}
 use Rattle.types.specs.atomics.Atomic.{bit_string}
 use Rattle.values.specs.inside.reading.Walk.{atomics_out, bits_out, element_out, numbers_out, up_to}
-use Rattle.values.proofs.reading.atomics.AtomicRunLaws.{one-long, array_long, elements-long, atomics-bits}
-use Rattle.values.proofs.reading.atomics.AtomicRunLaws.{atomics-one, atomics-array}
+use Rattle.values.proofs.reading.atomics.AtomicRunLaws.{one_long, array_long, elements_long, atomics_bits}
+use Rattle.values.proofs.reading.atomics.AtomicRunLaws.{atomics_one, atomics_array}
 use Rattle.values.proofs.stream.PutLaws.{put_as}
 use Rattle.values.proofs.reading.atomics.put_atomics.Statement.{statement}
 use Rattle.values.proofs.reading.atomics.put_atomics.Tie as tie
 
 -- what each case puts is what the value gives
 
-bits : (c : tie.Then1)
+bits : (c : tie.Then-is_bits)
     → let a = c.before.before.before.before.args in
     bits_out a.s.now (8 * length a.s.now) ≡ atomics_out a.a a.n a.s.now
 bits c =
-    let at-start = c.before.before.before.before in
-    let a = at-start.args in
-    atomics-bits a.a a.n a.s.now (sym c.before.is-bits.ensures ∙ c.if1.true) at-start.requires.0
+    let at_start = c.before.before.before.before in
+    let a = at_start.args in
+    atomics_bits a.a a.n a.s.now (sym c.before.is_bits.ensures ∙ c.if-is_bits.true) at_start.requires.0
 
-plain : (c : tie.Else1) → bit_string c.before.before.before.before.args.a ≡ false
-plain c = sym c.before.is-bits.ensures ∙ c.if1.false
+plain : (c : tie.Else-is_bits) → bit_string c.before.before.before.before.args.a ≡ false
+plain c = sym c.before.is_bits.ensures ∙ c.if-is_bits.false
 
-one : (c : tie.Then2)
+one : (c : tie.Then-n-eq0)
     → let a = c.before.before.before.before.before.args in
     up_to (element_out a.a a.s.now) 1 ≡ atomics_out a.a a.n a.s.now
 one c =
-    let at-start = c.before.before.before.before.before in
-    let a = at-start.args in
-    atomics-one a.a a.n a.s.now (plain c.before) c.if2.true at-start.requires.0
+    let at_start = c.before.before.before.before.before in
+    let a = at_start.args in
+    atomics_one a.a a.n a.s.now (plain c.before) c.if-n-eq0.true at_start.requires.0
 
-array : (c : tie.Else2)
+array : (c : tie.Else-n-eq0)
     → let a = c.before.before.before.before.before.args in
     numbers_out a.a a.n a.s.now ≡ atomics_out a.a a.n a.s.now
 array c =
     let a = c.before.before.before.before.before.args in
-    atomics-array a.a a.n a.s.now (plain c.before) c.if2.false
+    atomics_array a.a a.n a.s.now (plain c.before) c.if-n-eq0.false
 
-put-bits-requires : tie.Need-put-bits-requires
-put-bits-requires c κs =
+put_bits_requires : tie.Need-put_bits-requires
+put_bits_requires c κs =
     omega (arith, ap length (bits c.before), c.before.before.before.before.before.requires.1)
 
-returns : tie.Need-returns
-returns c = put_as (bits c.before.before.before.before) c.before.before.put-bits.ensures
+returns : tie.Need-returns-then-is_bits
+returns c = put_as (bits c.before.before.before.before) c.before.before.put_bits.ensures
 
-put-run-requires : tie.Need-put-run-requires
-put-run-requires c κs =
-    let at-start = c.before.before.before.before.before.before in
-    let a = at-start.args in (
-      omega (arith, one-long a.a a.n a.s.now c.before.if2.true at-start.requires.0),
-      omega (arith, ap length (one c.before), elements-long a.a 1 a.s.now, at-start.requires.1),
+put_run_requires : tie.Need-put_run-requires
+put_run_requires c κs =
+    let at_start = c.before.before.before.before.before.before in
+    let a = at_start.args in (
+      omega (arith, one_long a.a a.n a.s.now c.before.if-n-eq0.true at_start.requires.0),
+      omega (arith, ap length (one c.before), elements_long a.a 1 a.s.now, at_start.requires.1),
     )
 
-returns-2 : tie.Need-returns-2
-returns-2 c = put_as (one c.before.before.before.before) c.before.before.put-run.ensures
+returns_2 : tie.Need-returns-then-n-eq0
+returns_2 c = put_as (one c.before.before.before.before) c.before.before.put_run.ensures
 
-put-numbers-requires : tie.Need-put-numbers-requires
-put-numbers-requires c κs =
-    let at-start = c.before.before.before.before.before.before in
-    let a = at-start.args in (
-      array_long a.a a.n a.s.now c.before.if2.false at-start.requires.0,
-      omega (arith, ap length (array c.before), at-start.requires.1),
+put_numbers_requires : tie.Need-put_numbers-requires
+put_numbers_requires c κs =
+    let at_start = c.before.before.before.before.before.before in
+    let a = at_start.args in (
+      array_long a.a a.n a.s.now c.before.if-n-eq0.false at_start.requires.0,
+      omega (arith, ap length (array c.before), at_start.requires.1),
     )
 
-returns-3 : tie.Need-returns-3
-returns-3 c = put_as (array c.before.before.before.before) c.before.before.put-numbers.ensures
+returns_3 : tie.Need-returns
+returns_3 c = put_as (array c.before.before.before.before) c.before.before.put_numbers.ensures
 
-pub put-atomics-spec : {M : Type 1} → statement M
-put-atomics-spec =
+pub put_atomics_spec : {M : Type 1} → statement M
+put_atomics_spec =
     tie.close
     (tie.spec
     (λ c κs. search rules)
-    put-bits-requires
+    put_bits_requires
     (λ c. search rules)
     returns
-    put-run-requires
+    put_run_requires
     (λ c. search rules)
-    returns-2
-    put-numbers-requires
+    returns_2
+    put_numbers_requires
     (λ c. search rules)
-    returns-3)
+    returns_3)

@@ -5,13 +5,13 @@ use Rattle.values.specs.inside.reading.Numbers.{extended}
 use Rattle.values.proofs.reading.numbers.extend.Statement.{statement}
 use Rattle.values.proofs.reading.numbers.extend.Tie as tie
 
-returns : tie.Need-returns
+returns : tie.Need-returns-then-x-half
 unfolding extended
-returns c = simp (lt-ltb _ _ c.if1.true)
+returns c = simp (lt-ltb _ _ c.if-x-half.true)
 
-returns-2 : tie.Need-returns-2
+returns_2 : tie.Need-returns
 unfolding extended
-returns-2 c = simp (le-ltb _ _ c.before.if1.false)
+returns_2 c = simp (le-ltb _ _ c.before.if-x-half.false)
 
-pub extend-spec : {M : Type 1} → statement M
-extend-spec = tie.close (tie.spec returns (λ c. search rules) returns-2)
+pub extend_spec : {M : Type 1} → statement M
+extend_spec = tie.close (tie.spec returns (λ c. search rules) returns_2)

@@ -1,61 +1,61 @@
 -- `values::read_structs` meets its contract.
-use Rattle.values.proofs.reading.ReadingLaws.{image-one, image-some, value-one, value-some}
+use Rattle.values.proofs.reading.ReadingLaws.{image_one, image_some, value_one, value_some}
 use Rattle.values.proofs.stream.LayingLaws.{room_as, wrote_as}
 use borrow.Author.Rules.{rules}
 use Rattle.values.proofs.reading.read.read_structs.Statement.{statement}
 use Rattle.values.proofs.reading.read.read_structs.Tie as tie
 
-read-struct-requires : tie.Need-read-struct-requires
-read-struct-requires c κs =
-    let at-then = c.before in
-    let at-start = at-then.before.before.before in
-    let a = at-start.args in (
+read_struct_requires : tie.Need-read_struct-requires
+read_struct_requires c κs =
+    let at_then = c.before in
+    let at_start = at_then.before.before.before in
+    let a = at_start.args in (
       (
-        at-start.requires.0.0,
-        image-one a.types.now a.i a.n a.image.now at-start.requires.0.1
-            at-then.if1.true,
+        at_start.requires.0.0,
+        image_one a.types.now a.i a.n a.image.now at_start.requires.0.1
+            at_then.if-n-eq0.true,
       ),
-      room_as (value-one a.types.now a.members.now a.n a.image.now a.i
-          at-then.if1.true) at-start.requires.1,
+      room_as (value_one a.types.now a.members.now a.n a.image.now a.i
+          at_then.if-n-eq0.true) at_start.requires.1,
     )
 
-returns : tie.Need-returns
+returns : tie.Need-returns-then-n-eq0
 returns c =
     let at_read = c.before.before in
-    let at-then = at_read.before.before in
-    let a = at-then.before.before.before.args in
-    wrote_as (value-one a.types.now a.members.now a.n a.image.now a.i at-then.if1.true)
-    at_read.read-struct.ensures
+    let at_then = at_read.before.before in
+    let a = at_then.before.before.before.args in
+    wrote_as (value_one a.types.now a.members.now a.n a.image.now a.i at_then.if-n-eq0.true)
+    at_read.read_struct.ensures
 
-read-elements-requires : tie.Need-read-elements-requires
-read-elements-requires c κs =
-    let at-else = c.before in
-    let at-start = at-else.before.before.before in
-    let a = at-start.args in (
+read_elements_requires : tie.Need-read_elements-requires
+read_elements_requires c κs =
+    let at_else = c.before in
+    let at_start = at_else.before.before.before in
+    let a = at_start.args in (
       (
-        at-start.requires.0.0,
-        image-some a.types.now a.i a.n a.image.now at-start.requires.0.1
-            at-else.if1.false,
+        at_start.requires.0.0,
+        image_some a.types.now a.i a.n a.image.now at_start.requires.0.1
+            at_else.if-n-eq0.false,
       ),
-      room_as (value-some a.types.now a.members.now a.n a.image.now a.i
-          at-else.if1.false) at-start.requires.1,
+      room_as (value_some a.types.now a.members.now a.n a.image.now a.i
+          at_else.if-n-eq0.false) at_start.requires.1,
     )
 
-returns-2 : tie.Need-returns-2
-returns-2 c =
+returns_2 : tie.Need-returns
+returns_2 c =
     let at_read = c.before.before in
-    let at-else = at_read.before.before in
-    let a = at-else.before.before.before.args in
-    wrote_as (value-some a.types.now a.members.now a.n a.image.now a.i at-else.if1.false)
-    at_read.read-elements.ensures
+    let at_else = at_read.before.before in
+    let a = at_else.before.before.before.args in
+    wrote_as (value_some a.types.now a.members.now a.n a.image.now a.i at_else.if-n-eq0.false)
+    at_read.read_elements.ensures
 
-pub read-structs-spec : {M : Type 1} → statement M
-read-structs-spec =
+pub read_structs_spec : {M : Type 1} → statement M
+read_structs_spec =
     tie.close
     (tie.spec
-    read-struct-requires
+    read_struct_requires
     (λ c. search rules)
     returns
-    read-elements-requires
+    read_elements_requires
     (λ c. search rules)
-    returns-2)
+    returns_2)

@@ -6,7 +6,7 @@ use Rattle.values.proofs.reading.rows.capacity_at.Statement.{statement}
 use Rattle.values.proofs.reading.rows.capacity_at.Tie as tie
 
 returns : tie.Need-returns
-returns c = ap (λ (m : Member). m.count) c.member-row.ensures
+returns c = ap (λ (m : Member). m.count) c.member_row-data.ensures
 
-pub capacity-at-spec : {M : Type 1} → statement M
-capacity-at-spec = tie.close (tie.spec (λ c. search rules) (λ c κs. search rules) returns)
+pub capacity_at_spec : {M : Type 1} → statement M
+capacity_at_spec = tie.close (tie.spec (λ c. search rules) (λ c κs. search rules) returns)

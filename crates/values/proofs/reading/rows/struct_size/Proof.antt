@@ -6,7 +6,7 @@ use Rattle.values.proofs.reading.rows.struct_size.Statement.{statement}
 use Rattle.values.proofs.reading.rows.struct_size.Tie as tie
 
 returns : tie.Need-returns
-returns c = c.wide.ensures ∙ ap (λ (d : StructDef). d.size) c.before.type_row.ensures
+returns c = c.wide.ensures ∙ ap (λ (d : StructDef). d.size) c.before.type_row-d.ensures
 
-pub struct-size-spec : {M : Type 1} → statement M
-struct-size-spec = tie.close (tie.spec (λ c κs. search rules) (λ c κs. search rules) returns)
+pub struct_size_spec : {M : Type 1} → statement M
+struct_size_spec = tie.close (tie.spec (λ c κs. search rules) (λ c κs. search rules) returns)

@@ -3,94 +3,94 @@ use native.Mathlib.Omega.{arith}
 use borrow.Author.Rules.{rules}
 use Prim.Native.Nat.{◌*◌, ◌-◌}
 use mathlib.Core.Path.{◌∙◌}
-use Rattle.values.proofs.reading.runs.RunLaws.{NumbersRun, form_tokens, run-start, run_room, run_length}
-use Rattle.values.proofs.reading.runs.RunLaws.{numbers_on, numbers-done, number_fits}
+use Rattle.values.proofs.reading.runs.RunLaws.{NumbersRun, form_tokens, run_start, run_room, run_length}
+use Rattle.values.proofs.reading.runs.RunLaws.{numbers_on, numbers_done, number_fits}
 use Rattle.values.proofs.reading.runs.put_twos.Statement.{statement}
 use Rattle.values.proofs.reading.runs.put_twos.Tie as tie
 
-abbrev invariant-loop : tie.invariant-loop
-invariant-loop n s out₀ at f p₀ i₀ out p i = NumbersRun (form_tokens f 2 s) n out₀ at out p i
+abbrev invariant_loop : tie.invariant-loop-i
+invariant_loop n s out₀ at f p₀ i₀ out p i = NumbersRun (form_tokens f 2 s) n out₀ at out p i
 
-abbrev decreases-loop : tie.decreases-loop
-decreases-loop n s out₀ at f p₀ i₀ out p i = n - i
+abbrev decreases_loop : tie.decreases-loop-i
+decreases_loop n s out₀ at f p₀ i₀ out p i = n - i
 
-loop-holds : tie.Need-loop-init invariant-loop decreases-loop
-loop-holds c = run-start c.before.before.before.requires.1
+loop_holds : tie.Need-loop-i-init invariant_loop decreases_loop
+loop_holds c = run_start c.before.before.before.requires.1
 
-mul-load16 : tie.Need-overflow-mul-load16 invariant-loop decreases-loop
-mul-load16 c =
+mul_load16 : tie.Need-overflow_mul-i invariant_loop decreases_loop
+mul_load16 c =
     let start = c.before.before.before.before.before in
-    omega (arith, start.requires.0.long, c.loop-test.true)
+    omega (arith, start.requires.0.long, c.loop-i-test.true)
 
-load16-requires : tie.Need-load16-requires invariant-loop decreases-loop
-load16-requires c κs =
+load16_requires : tie.Need-load16-requires invariant_loop decreases_loop
+load16_requires c κs =
     let start = c.before.before.before.before.before in
-    omega (arith, start.requires.0.long, c.loop-test.true)
+    omega (arith, start.requires.0.long, c.loop-i-test.true)
 
-extend-requires : tie.Need-extend-requires invariant-loop decreases-loop
-extend-requires c κs =
+extend_requires : tie.Need-extend-requires invariant_loop decreases_loop
+extend_requires c κs =
     let read = c.before in
-    let at-loop = read.before.before.before.before in
-    let known = at-loop.before.before.before in
-    number_fits at-loop.before.form_of.ensures known.before.requires.0
-    (λ k. (known.shared-slice-known.given k).fits) (2 * at-loop.loop.i)
-    (read.wide64.ensures ∙ read.before.wide16.ensures ∙ read.before.before.load16.ensures)
+    let at_loop = read.before.before.before.before in
+    let known = at_loop.before.before.before in
+    number_fits at_loop.before.form_of-f.ensures known.before.requires.0
+    (λ k. (known.shared_slice_known-1.given k).fits) (2 * at_loop.loop-i.i)
+    (read.wide64-x.ensures ∙ read.before.wide16.ensures ∙ read.before.before.load16.ensures)
 
-put-entry-requires : tie.Need-put-entry-requires invariant-loop decreases-loop
-put-entry-requires c κs =
-    let in-loop = c.before.before.before.before.before in
-    run_room in-loop.before.loop.invariant in-loop.loop-test.true
+put_entry_requires : tie.Need-put_entry-requires invariant_loop decreases_loop
+put_entry_requires c κs =
+    let in_loop = c.before.before.before.before.before in
+    run_room in_loop.before.loop-i.invariant in_loop.loop-i-test.true
 
-add-p : tie.Need-overflow-add-p invariant-loop decreases-loop
-add-p c =
-    let in-loop = c.before.before.before.before.before.before.before.before in
-    let inv = in-loop.before.loop.invariant in
-    omega (arith, run_room inv in-loop.loop-test.true, run_length inv)
+add_p : tie.Need-overflow_add-p invariant_loop decreases_loop
+add_p c =
+    let in_loop = c.before.before.before.before.before.before.before.before in
+    let inv = in_loop.before.loop-i.invariant in
+    omega (arith, run_room inv in_loop.loop-i-test.true, run_length inv)
 
-add-i : tie.Need-overflow-add-i invariant-loop decreases-loop
-add-i c = omega arith
+add_i : tie.Need-overflow_add-i invariant_loop decreases_loop
+add_i c = omega arith
 
-loop-less : tie.Need-loop-smaller invariant-loop decreases-loop
-loop-less c = omega arith
+loop_less : tie.Need-loop-i-smaller invariant_loop decreases_loop
+loop_less c = omega arith
 
-loop-again : tie.Need-loop-preserved invariant-loop decreases-loop
-loop-again c =
+loop_again : tie.Need-loop-i-preserved invariant_loop decreases_loop
+loop_again c =
     let put = c.before.before in
     let read = put.before.before.before in
-    let in-loop = read.before.before.before in
-    let at-loop = in-loop.before in
-    let s = at-loop.before.before.before.before.args.s.now in
-    numbers_on at-loop.before.form_of.result 2 s at-loop.loop.invariant in-loop.loop-test.true
-    (read.wide64.ensures ∙ read.before.wide16.ensures ∙ read.before.before.load16.ensures)
-    put.before.extend.ensures put.put-entry.ensures
+    let in_loop = read.before.before.before in
+    let at_loop = in_loop.before in
+    let s = at_loop.before.before.before.before.args.s.now in
+    numbers_on at_loop.before.form_of-f.result 2 s at_loop.loop-i.invariant in_loop.loop-i-test.true
+    (read.wide64-x.ensures ∙ read.before.wide16.ensures ∙ read.before.before.load16.ensures)
+    put.before.extend.ensures put.put_entry.ensures
 
-same_length : tie.Need-same-length invariant-loop decreases-loop
-same_length c = run_length c.before.loop.invariant
+same_length : tie.Need-shape_of-out invariant_loop decreases_loop
+same_length c = run_length c.before.loop-i.invariant
 
-returns : tie.Need-returns invariant-loop decreases-loop
+returns : tie.Need-returns invariant_loop decreases_loop
 returns c =
-    let at-loop = c.before in
-    let known = at-loop.before.before.before in
-    numbers-done at-loop.before.form_of.ensures known.before.requires.0
-    (λ k. (known.shared-slice-known.given k).fits) at-loop.loop.invariant c.loop-test.false
+    let at_loop = c.before in
+    let known = at_loop.before.before.before in
+    numbers_done at_loop.before.form_of-f.ensures known.before.requires.0
+    (λ k. (known.shared_slice_known-1.given k).fits) at_loop.loop-i.invariant c.loop-i-test.false
 
-pub put-twos-spec : {M : Type 1} → statement M
-put-twos-spec =
+pub put_twos_spec : {M : Type 1} → statement M
+put_twos_spec =
     tie.close
     (tie.spec
-    invariant-loop
-    decreases-loop
+    invariant_loop
+    decreases_loop
     (λ c κs. search rules)
-    loop-holds
-    mul-load16
-    load16-requires
+    loop_holds
+    mul_load16
+    load16_requires
     (λ c κs. search rules)
     (λ c κs. search rules)
-    extend-requires
-    put-entry-requires
-    add-p
-    add-i
-    loop-less
-    loop-again
+    extend_requires
+    put_entry_requires
+    add_p
+    add_i
+    loop_less
+    loop_again
     same_length
     returns)

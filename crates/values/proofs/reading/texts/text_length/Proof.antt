@@ -5,22 +5,22 @@ use Rattle.words.proofs.BitLaws.{first_word}
 use Rattle.values.proofs.reading.texts.text_length.Statement.{statement}
 use Rattle.values.proofs.reading.texts.text_length.Tie as tie
 
-returns : tie.Need-returns
+returns : tie.Need-returns-then-long-capacity
 returns c =
     let at_load = c.before.before in
-    let at-image = at_load.before in
-    let len = first_word at-image.before.args.image.now (λ k. (at-image.shared-slice-known.given k).fits)
-    at_load.load32.ensures in
-    omega (arith, len, c.wide.ensures, c.before.if1.true)
+    let at_image = at_load.before in
+    let len = first_word at_image.before.args.image.now (λ k. (at_image.shared_slice_known-1.given k).fits)
+    at_load.load32-long.ensures in
+    omega (arith, len, c.wide.ensures, c.before.if-long-capacity.true)
 
-returns-2 : tie.Need-returns-2
-returns-2 c =
+returns_2 : tie.Need-returns
+returns_2 c =
     let at_load = c.before.before in
-    let at-image = at_load.before in
-    let len = first_word at-image.before.args.image.now (λ k. (at-image.shared-slice-known.given k).fits)
-    at_load.load32.ensures in
-    omega (arith, len, c.wide2.ensures, c.before.if1.false)
+    let at_image = at_load.before in
+    let len = first_word at_image.before.args.image.now (λ k. (at_image.shared_slice_known-1.given k).fits)
+    at_load.load32-long.ensures in
+    omega (arith, len, c.wide-2.ensures, c.before.if-long-capacity.false)
 
-pub text-length-spec : {M : Type 1} → statement M
-text-length-spec = tie.close (tie.spec (λ c κs. search rules) (λ c κs. search rules) returns
-    (λ c κs. search rules) returns-2)
+pub text_length_spec : {M : Type 1} → statement M
+text_length_spec = tie.close (tie.spec (λ c κs. search rules) (λ c κs. search rules) returns
+    (λ c κs. search rules) returns_2)

@@ -4,57 +4,57 @@ use borrow.Author.Rules.{rules}
 use native.Mathlib.Omega.{arith}
 use Prim.Native.Nat.{◌*◌, ◌^◌, ◌≤◌}
 use mathlib.Core.Path.{sym, ◌∙◌}
-use Rattle.values.proofs.stream.CountLeaves.{atomics-bits, atomics-one, atomics-many, bytes_fit}
+use Rattle.values.proofs.stream.CountLeaves.{atomics_bits, atomics_one, atomics_many, bytes_fit}
 use Rattle.values.proofs.stream.count.atomic_entries.Statement.{statement}
 use Rattle.values.proofs.stream.count.atomic_entries.Tie as tie
 
-product : (c : tie.After-times-of) → c.before.type_size.result * c.times-of.result ≤ 2 ^ 36
+product : (c : tie.After-times_of) → c.before.size_of.result * c.times_of.result ≤ 2 ^ 36
 product c =
-    let at-start = c.before.before.before.before in
-    bytes_fit at-start.args.a at-start.args.n c.before.type_size.ensures c.times-of.ensures
-    at-start.requires
+    let at_start = c.before.before.before.before in
+    bytes_fit at_start.args.a at_start.args.n c.before.size_of.ensures c.times_of.ensures
+    at_start.requires
 
-mul-result : tie.Need-overflow-mul-result
-mul-result c = omega (arith, product c)
+mul_result : tie.Need-overflow_mul-result
+mul_result c = omega (arith, product c)
 
-mul-result-2 : tie.Need-overflow-mul-result-2
-mul-result-2 c = omega (arith, product c)
+mul_result_2 : tie.Need-overflow_mul-result-then-is_bits
+mul_result_2 c = omega (arith, product c)
 
-add-result : tie.Need-overflow-add-result
-add-result c = omega (arith, product c)
+add_result : tie.Need-overflow_add-result
+add_result c = omega (arith, product c)
 
-returns : tie.Need-returns
+returns : tie.Need-returns-then-is_bits
 returns c =
     let then1 = c.before.before in
-    let at-start = then1.before.before in
-    rw (c.before.type_size.ensures, c.times-of.ensures)
-    (atomics-bits at-start.args.a at-start.args.n (sym then1.before.is-bits.ensures ∙ then1.if1.true))
+    let at_start = then1.before.before in
+    rw (c.before.size_of.ensures, c.times_of.ensures)
+    (atomics_bits at_start.args.a at_start.args.n (sym then1.before.is_bits.ensures ∙ then1.if-is_bits.true))
 
-returns-2 : tie.Need-returns-2
-returns-2 c =
+returns_2 : tie.Need-returns-then-n-eq0
+returns_2 c =
     let else1 = c.before in
-    let at-start = else1.before.before in
-    atomics-one at-start.args.a at-start.args.n (sym else1.before.is-bits.ensures ∙ else1.if1.false)
-    c.if2.true
+    let at_start = else1.before.before in
+    atomics_one at_start.args.a at_start.args.n (sym else1.before.is_bits.ensures ∙ else1.if-is_bits.false)
+    c.if-n-eq0.true
 
-returns-3 : tie.Need-returns-3
-returns-3 c =
+returns_3 : tie.Need-returns
+returns_3 c =
     let else1 = c.before in
-    let at-start = else1.before.before in
-    atomics-many at-start.args.a at-start.args.n (sym else1.before.is-bits.ensures ∙ else1.if1.false)
-    c.if2.false
+    let at_start = else1.before.before in
+    atomics_many at_start.args.a at_start.args.n (sym else1.before.is_bits.ensures ∙ else1.if-is_bits.false)
+    c.if-n-eq0.false
 
-pub atomic-entries-spec : {M : Type 1} → statement M
-atomic-entries-spec =
+pub atomic_entries_spec : {M : Type 1} → statement M
+atomic_entries_spec =
     tie.close
     (tie.spec
     (λ c κs. search rules)
     (λ c κs. search rules)
     (λ c κs. search rules)
-    mul-result
-    mul-result-2
-    add-result
+    mul_result
+    mul_result_2
+    add_result
     returns
-    returns-2
+    returns_2
     (λ c. search rules)
-    returns-3)
+    returns_3)

@@ -1,6 +1,6 @@
 -- `values::put_entry` meets its contract: the word of the kind, and the word of the payload after it, are the entry.
 use borrow.Author.Rules.{rules}
-use Rattle.values.proofs.stream.EntryLaws.{entry-stored}
+use Rattle.values.proofs.stream.EntryLaws.{entry_stored}
 use Rattle.values.proofs.stream.entry.put_entry.Statement.{statement}
 use Rattle.values.proofs.stream.entry.put_entry.Tie as tie
 
@@ -11,9 +11,9 @@ returns c =
     let start = kind.before.before.before.before in
     let a = start.args in
     rw (payload.store64.ensures, kind.store32.ensures, kind.before.wide8.ensures)
-    (entry-stored a.out.now a.at a.kind a.payload start.ranges.kind.fits)
+    (entry_stored a.out.now a.at a.kind a.payload start.ranges.kind.fits)
 
-pub put-entry-spec : {M : Type 1} → statement M
-put-entry-spec =
+pub put_entry_spec : {M : Type 1} → statement M
+put_entry_spec =
     tie.close (tie.spec (λ c κs. search rules) (λ c κs. search rules) (λ c. search rules) (λ c κs. search rules)
     (λ c. search rules) returns)

@@ -4,17 +4,17 @@ use Rattle.values.specs.inside.stream.Entry.{truth_in}
 use Rattle.values.proofs.stream.entry.truth_in.Statement.{statement}
 use Rattle.values.proofs.stream.entry.truth_in.Tie as tie
 
-returns : tie.Need-returns
+returns : tie.Need-returns-then-x-eq0
 unfolding truth_in
-returns c = simp (eq-eqb _ _ c.if1.true)
+returns c = simp (eq-eqb _ _ c.if-x-eq0.true)
 
-returns-2 : tie.Need-returns-2
+returns_2 : tie.Need-returns-then-x-eq1
 unfolding truth_in
-returns-2 c = simp (ne_eqb _ _ c.before.if1.false, eq-eqb _ _ c.if2.true)
+returns_2 c = simp (ne_eqb _ _ c.before.if-x-eq0.false, eq-eqb _ _ c.if-x-eq1.true)
 
-returns-3 : tie.Need-returns-3
+returns_3 : tie.Need-returns
 unfolding truth_in
-returns-3 c = simp (ne_eqb _ _ c.before.if1.false, ne_eqb _ _ c.if2.false)
+returns_3 c = simp (ne_eqb _ _ c.before.if-x-eq0.false, ne_eqb _ _ c.if-x-eq1.false)
 
-pub truth-in-spec : {M : Type 1} → statement M
-truth-in-spec = tie.close (tie.spec returns returns-2 returns-3)
+pub truth_in_spec : {M : Type 1} → statement M
+truth_in_spec = tie.close (tie.spec returns returns_2 returns_3)

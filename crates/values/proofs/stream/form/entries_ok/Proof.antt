@@ -3,110 +3,111 @@ use Prim.Native.Nat.{◌+◌, ◌*◌, ◌-◌}
 use native.Mathlib.Omega.{arith}
 use Rattle.values.specs.inside.stream.Steps.{Moved}
 use Rattle.values.specs.stream.Form.{step_at}
-use Rattle.values.proofs.stream.FormLaws.{EntriesLeft, left-start, left-on, left-broken, left-done, words-moved}
+use Rattle.values.proofs.stream.FormLaws.{EntriesLeft, left_start, left_on, left_broken, left_done, words_moved}
 use Rattle.values.proofs.stream.form.entries_ok.Statement.{statement}
 use Rattle.values.proofs.stream.form.entries_ok.Tie as tie
 
-abbrev invariant-loop : tie.invariant-loop
-invariant-loop s base n place₀ k₀ place k = EntriesLeft s base n place k
+abbrev invariant_loop : tie.invariant-loop-k
+invariant_loop s base n place₀ k₀ place k = EntriesLeft s base n place k
 
-abbrev decreases-loop : tie.decreases-loop
-decreases-loop s base n place₀ k₀ place k = n - k
+abbrev decreases_loop : tie.decreases-loop-k
+decreases_loop s base n place₀ k₀ place k = n - k
 
 -- the entry's step
-moved : (c : tie.After-next-place invariant-loop decreases-loop)
-    → Moved c.before.before.before.before.before.loop.place
+moved : (c : tie.After-next_place-next invariant_loop decreases_loop)
+    → Moved c.before.before.before.before.before.loop-k.place
     (step_at c.before.before.before.before.before.before.before.args.s.now
-    (4 + 12 * c.before.before.before.before.before.loop.k)
-    c.before.before.before.before.before.loop.place)
-    c.next_place.result
+    (4 + 12 * c.before.before.before.before.before.loop-k.k)
+    c.before.before.before.before.before.loop-k.place)
+    c.next_place-next.result
 moved c =
     let at_high = c.before in
     let at_low = at_high.before in
-    let in-loop = at_low.before.before in
-    words-moved _ _ (omega (arith, in-loop.before.before.before.requires, in-loop.loop-test.true))
-    at_low.before.load32.ensures at_low.load322.ensures at_high.load323.ensures c.next_place.ensures
+    let in_loop = at_low.before.before in
+    words_moved _ _ (omega (arith, in_loop.before.before.before.requires, in_loop.loop-k-test.true))
+    at_low.before.load32.ensures at_low.load32-in-loop-k.ensures at_high.load32-in-loop-k-2.ensures
+    c.next_place-next.ensures
 
-loop-holds : tie.Need-loop-init invariant-loop decreases-loop
-loop-holds c = left-start
+loop_holds : tie.Need-loop-k-init invariant_loop decreases_loop
+loop_holds c = left_start
 
-mul_at : tie.Need-overflow-mul-at invariant-loop decreases-loop
-mul_at c = omega (arith, c.before.before.before.requires, c.loop-test.true)
+mul_at : tie.Need-overflow_mul-at invariant_loop decreases_loop
+mul_at c = omega (arith, c.before.before.before.requires, c.loop-k-test.true)
 
-add_at : tie.Need-overflow-add-at invariant-loop decreases-loop
-add_at c = omega (arith, c.before.before.before.requires, c.loop-test.true)
+add_at : tie.Need-overflow_add-at invariant_loop decreases_loop
+add_at c = omega (arith, c.before.before.before.requires, c.loop-k-test.true)
 
-load32-requires : tie.Need-load32-requires invariant-loop decreases-loop
-load32-requires c κs = omega (arith, c.before.before.before.requires, c.loop-test.true)
+load32_requires : tie.Need-load32-requires invariant_loop decreases_loop
+load32_requires c κs = omega (arith, c.before.before.before.requires, c.loop-k-test.true)
 
-add-load32 : tie.Need-overflow-add-load32 invariant-loop decreases-loop
-add-load32 c = let in-loop = c.before in omega (arith, in-loop.before.before.before.requires, in-loop.loop-test.true)
+add_load32 : tie.Need-overflow_add-at-in-loop-k invariant_loop decreases_loop
+add_load32 c = let in_loop = c.before in omega (arith, in_loop.before.before.before.requires, in_loop.loop-k-test.true)
 
-load32-requires-2 : tie.Need-load32-requires-2 invariant-loop decreases-loop
-load32-requires-2 c κs =
-    let in-loop = c.before in
-    omega (arith, in-loop.before.before.before.requires, in-loop.loop-test.true)
+load32_requires_2 : tie.Need-load32-requires-in-loop-k invariant_loop decreases_loop
+load32_requires_2 c κs =
+    let in_loop = c.before in
+    omega (arith, in_loop.before.before.before.requires, in_loop.loop-k-test.true)
 
-add-load32-2 : tie.Need-overflow-add-load32-2 invariant-loop decreases-loop
-add-load32-2 c =
-    let in-loop = c.before.before in
-    omega (arith, in-loop.before.before.before.requires, in-loop.loop-test.true)
+add_load32_2 : tie.Need-overflow_add-at-in-loop-k-2 invariant_loop decreases_loop
+add_load32_2 c =
+    let in_loop = c.before.before in
+    omega (arith, in_loop.before.before.before.requires, in_loop.loop-k-test.true)
 
-load32-requires-3 : tie.Need-load32-requires-3 invariant-loop decreases-loop
-load32-requires-3 c κs =
-    let in-loop = c.before.before in
-    omega (arith, in-loop.before.before.before.requires, in-loop.loop-test.true)
+load32_requires_3 : tie.Need-load32-requires-in-loop-k-2 invariant_loop decreases_loop
+load32_requires_3 c κs =
+    let in_loop = c.before.before in
+    omega (arith, in_loop.before.before.before.requires, in_loop.loop-k-test.true)
 
-next-place-requires : tie.Need-next-place-requires invariant-loop decreases-loop
-next-place-requires c κs =
-    let in-loop = c.before.before.before in
-    let at-loop = in-loop.before in
-    omega (arith, at-loop.loop.invariant.small, at-loop.before.before.requires, in-loop.loop-test.true)
+next_place_requires : tie.Need-next_place-next-requires invariant_loop decreases_loop
+next_place_requires c κs =
+    let in_loop = c.before.before.before in
+    let at_loop = in_loop.before in
+    omega (arith, at_loop.loop-k.invariant.small, at_loop.before.before.requires, in_loop.loop-k-test.true)
 
-returns : tie.Need-returns invariant-loop decreases-loop
+returns : tie.Need-returns-then-next-ge-NOWHERE invariant_loop decreases_loop
 returns c =
-    let in-loop = c.before.before.before.before.before in
-    left-broken in-loop.before.loop.invariant in-loop.loop-test.true (moved c.before) c.if1.true
+    let in_loop = c.before.before.before.before.before in
+    left_broken in_loop.before.loop-k.invariant in_loop.loop-k-test.true (moved c.before) c.if-next-ge-NOWHERE.true
 
-add-k : tie.Need-overflow-add-k invariant-loop decreases-loop
-add-k c =
-    let in-loop = c.before.before.before.before.before in
-    omega (arith, in-loop.before.before.before.requires, in-loop.loop-test.true)
+add_k : tie.Need-overflow_add-k invariant_loop decreases_loop
+add_k c =
+    let in_loop = c.before.before.before.before.before in
+    omega (arith, in_loop.before.before.before.requires, in_loop.loop-k-test.true)
 
-loop-less : tie.Need-loop-smaller invariant-loop decreases-loop
-loop-less c = omega (arith, c.before.before.before.before.before.loop-test.true)
+loop_less : tie.Need-loop-k-smaller invariant_loop decreases_loop
+loop_less c = omega (arith, c.before.before.before.before.before.loop-k-test.true)
 
-loop-again : tie.Need-loop-preserved invariant-loop decreases-loop
-loop-again c =
-    let in-loop = c.before.before.before.before.before in
-    left-on in-loop.before.loop.invariant in-loop.loop-test.true (moved c.before) c.if1.false
+loop_again : tie.Need-loop-k-preserved invariant_loop decreases_loop
+loop_again c =
+    let in_loop = c.before.before.before.before.before in
+    left_on in_loop.before.loop-k.invariant in_loop.loop-k-test.true (moved c.before) c.if-next-ge-NOWHERE.false
 
-add-result : tie.Need-overflow-add-result invariant-loop decreases-loop
-add-result c =
-    let at-loop = c.before in
-    omega (arith, at-loop.loop.invariant.small, at-loop.loop.invariant.inside, at-loop.before.before.requires)
+add_result : tie.Need-overflow_add-result invariant_loop decreases_loop
+add_result c =
+    let at_loop = c.before in
+    omega (arith, at_loop.loop-k.invariant.small, at_loop.loop-k.invariant.inside, at_loop.before.before.requires)
 
-returns-2 : tie.Need-returns-2 invariant-loop decreases-loop
-returns-2 c = left-done c.before.loop.invariant c.loop-test.false
+returns_2 : tie.Need-returns invariant_loop decreases_loop
+returns_2 c = left_done c.before.loop-k.invariant c.loop-k-test.false
 
-pub entries-ok-spec : {M : Type 1} → statement M
-entries-ok-spec =
+pub entries_ok_spec : {M : Type 1} → statement M
+entries_ok_spec =
     tie.close
     (tie.spec
-    invariant-loop
-    decreases-loop
-    loop-holds
+    invariant_loop
+    decreases_loop
+    loop_holds
     mul_at
     add_at
-    load32-requires
-    add-load32
-    load32-requires-2
-    add-load32-2
-    load32-requires-3
-    next-place-requires
+    load32_requires
+    add_load32
+    load32_requires_2
+    add_load32_2
+    load32_requires_3
+    next_place_requires
     returns
-    add-k
-    loop-less
-    loop-again
-    add-result
-    returns-2)
+    add_k
+    loop_less
+    loop_again
+    add_result
+    returns_2)

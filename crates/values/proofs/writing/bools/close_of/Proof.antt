@@ -3,48 +3,48 @@ use Prim.Native.Nat.{◌-◌, ◌<◌}
 use native.Mathlib.Omega.{arith}
 use mathlib.Core.Path.{sym, ◌∙◌}
 use Rattle.values.specs.stream.Form.{count_in}
-use Rattle.values.proofs.stream.LeftLaws.{few-entries}
-use Rattle.values.proofs.writing.bools.BoolRuns.{Among, among-close, among-on, among-start}
+use Rattle.values.proofs.stream.LeftLaws.{few_entries}
+use Rattle.values.proofs.writing.bools.BoolRuns.{Among, among_close, among_on, among_start}
 use Rattle.values.proofs.writing.bools.close_of.Statement.{statement}
 use Rattle.values.proofs.writing.bools.close_of.Tie as tie
 
-abbrev invariant-loop : tie.invariant-loop
-invariant-loop s k p₀ p = Among s k p
+abbrev invariant_loop : tie.invariant-loop-k
+invariant_loop s k p₀ p = Among s k p
 
-abbrev decreases-loop : tie.decreases-loop
-decreases-loop s k p₀ p = count_in s - p
+abbrev decreases_loop : tie.decreases-loop-k
+decreases_loop s k p₀ p = count_in s - p
 
 -- there is an entry
-below : (c : tie.At-loop invariant-loop decreases-loop) → c.loop.p < count_in c.before.before.args.s.now
+below : (c : tie.At-loop-k invariant_loop decreases_loop) → c.loop-k.p < count_in c.before.before.args.s.now
 below c =
     let start = c.before.before in
-    omega (arith, start.requires.run.inside, c.loop.invariant.upto start.requires.many start.requires.run)
+    omega (arith, start.requires.run.inside, c.loop-k.invariant.upto start.requires.many start.requires.run)
 
-loop-holds : tie.Need-loop-init invariant-loop decreases-loop
-loop-holds c = among-start
+loop_holds : tie.Need-loop-k-init invariant_loop decreases_loop
+loop_holds c = among_start
 
-kind-of-requires : tie.Need-kind-of-requires invariant-loop decreases-loop
-kind-of-requires c κs = (c.before.before.requires.run.form, below c)
+kind_of_requires : tie.Need-kind_of-kind-requires invariant_loop decreases_loop
+kind_of_requires c κs = (c.before.before.requires.run.form, below c)
 
-returns : tie.Need-returns invariant-loop decreases-loop
+returns : tie.Need-returns-then-kind-eq-ARRAY_CLOSE invariant_loop decreases_loop
 returns c =
     let kind = c.before in
-    among-close kind.before.loop.invariant (sym kind.kind-of.ensures ∙ c.if1.true)
+    among_close kind.before.loop-k.invariant (sym kind.kind_of-kind.ensures ∙ c.if-kind-eq-ARRAY_CLOSE.true)
 
-add-p : tie.Need-overflow-add-p invariant-loop decreases-loop
-add-p c =
-    let at-loop = c.before.before in
-    let start = at-loop.before.before in
-    omega (arith, below at-loop, few-entries start.args.s.now start.requires.run.form)
+add_p : tie.Need-overflow_add-p invariant_loop decreases_loop
+add_p c =
+    let at_loop = c.before.before in
+    let start = at_loop.before.before in
+    omega (arith, below at_loop, few_entries start.args.s.now start.requires.run.form)
 
-loop-less : tie.Need-loop-smaller invariant-loop decreases-loop
-loop-less c = omega (arith, below c.before.before)
+loop_less : tie.Need-loop-k-smaller invariant_loop decreases_loop
+loop_less c = omega (arith, below c.before.before)
 
-loop-again : tie.Need-loop-preserved invariant-loop decreases-loop
-loop-again c =
+loop_again : tie.Need-loop-k-preserved invariant_loop decreases_loop
+loop_again c =
     let kind = c.before in
-    among-on kind.before.loop.invariant (λ e. c.if1.false (kind.kind-of.ensures ∙ e))
+    among_on kind.before.loop-k.invariant (λ e. c.if-kind-eq-ARRAY_CLOSE.false (kind.kind_of-kind.ensures ∙ e))
 
-pub close-of-spec : {M : Type 1} → statement M
-close-of-spec =
-    tie.close (tie.spec invariant-loop decreases-loop loop-holds kind-of-requires returns add-p loop-less loop-again)
+pub close_of_spec : {M : Type 1} → statement M
+close_of_spec =
+    tie.close (tie.spec invariant_loop decreases_loop loop_holds kind_of_requires returns add_p loop_less loop_again)

@@ -2,65 +2,65 @@
 use Prim.Native.Nat.{◌+◌, ◌-◌}
 use native.Mathlib.Omega.{arith}
 use mathlib.Core.Path.{◌≡◌, ◌∙◌}
-use Rattle.values.proofs.writing.bools.BoolLaws.{Parts, bools-applied, laid_both, parts-of}
-use Rattle.values.proofs.writing.bools.BoolRuns.{accepts, bools-run}
+use Rattle.values.proofs.writing.bools.BoolLaws.{Parts, bools_applied, laid_both, parts_of}
+use Rattle.values.proofs.writing.bools.BoolRuns.{accepts, bools_run}
 use Rattle.values.proofs.writing.bools.set_bools.Statement.{statement}
 use Rattle.values.proofs.writing.bools.set_bools.Tie as tie
 
-abbrev start : tie.After-close-of → tie.Start
+abbrev start : tie.After-close_of-q → tie.Start
 start c = c.before.before.before
 
 -- the close that was found is the run's
-close-is : (c : tie.After-close-of) → c.Close-of.result ≡ (start c).args.k + (bools-run (start c).requires).many
-close-is c = let run = bools-run (start c).requires in c.Close-of.ensures run.many run.run
+close_is : (c : tie.After-close_of-q) → c.close_of-q.result ≡ (start c).args.k + (bools_run (start c).requires).many
+close_is c = let run = bools_run (start c).requires in c.close_of-q.ensures run.many run.run
 
-parts : (c : tie.After-close-of)
+parts : (c : tie.After-close_of-q)
     → Parts (start c).args.s.now (start c).args.k (start c).args.image.now (start c).args.base
-    (c.Close-of.result - (start c).args.k)
-parts c = parts-of (start c).requires (omega (arith, close-is c))
+    (c.close_of-q.result - (start c).args.k)
+parts c = parts_of (start c).requires (omega (arith, close_is c))
 
-close-of-requires : tie.Need-close-of-requires
-close-of-requires c κs =
-    let run = bools-run c.before.before.requires in
+close_of_requires : tie.Need-close_of-q-requires
+close_of_requires c κs =
+    let run = bools_run c.before.before.requires in
     record { many = run.many; run = run.run; enough = omega arith }
 
-sub-whole : tie.Need-overflow-sub-whole
-sub-whole c = omega (arith, close-is c)
+sub_whole : tie.Need-overflow_sub-whole
+sub_whole c = omega (arith, close_is c)
 
-set-eights-requires : tie.Need-set-eights-requires
-set-eights-requires c κs = ((parts c.before).whole, (parts c.before).room)
+set_eights_requires : tie.Need-set_eights-requires
+set_eights_requires c κs = ((parts c.before).whole, (parts c.before).room)
 
-sub-set-few : tie.Need-overflow-sub-set-few
-sub-set-few c = omega (arith, close-is c.before.before.before.before)
+sub_set_few : tie.Need-overflow_sub-q
+sub_set_few c = omega (arith, close_is c.before.before.before.before)
 
-mul-set-few : tie.Need-overflow-mul-set-few
-mul-set-few c = omega (arith, (parts c.before.before.before.before).small)
+mul_set_few : tie.Need-overflow_mul-whole
+mul_set_few c = omega (arith, (parts c.before.before.before.before).small)
 
-add-set-few : tie.Need-overflow-add-set-few
-add-set-few c = omega (arith, (parts c.before.before.before.before).small)
+add_set_few : tie.Need-overflow_add-k
+add_set_few c = omega (arith, (parts c.before.before.before.before).small)
 
-add-set-few-2 : tie.Need-overflow-add-set-few-2
-add-set-few-2 c =
+add_set_few_2 : tie.Need-overflow_add-base
+add_set_few_2 c =
     let closed = c.before.before.before.before.before in
-    omega (arith, (parts closed).room, (start closed).well-formed)
+    omega (arith, (parts closed).room, (start closed).well_formed)
 
-set-few-requires : tie.Need-set-few-requires
-set-few-requires c κs =
+set_few_requires : tie.Need-set_few-requires
+set_few_requires c κs =
     let eights = c.before.before.before in
     let known = parts eights.before.before in (
       known.few,
-      (omega arith, λ l. omega (arith, known.last l, eights.set-eights.auto.1.1.1.0)),
+      (omega arith, λ l. omega (arith, known.last l, eights.set_eights.auto.image)),
     )
 
-add-result : tie.Need-overflow-add-result
-add-result c =
+add_result : tie.Need-overflow_add-result
+add_result c =
     let closed = c.before.before.before.before.before.before.before.before in
-    omega (arith, (parts closed).small, close-is closed)
+    omega (arith, (parts closed).small, close_is closed)
 
-same_length : tie.Need-same-length
+same_length : tie.Need-shape_of-image
 same_length c =
     let few = c.before.before in
-    few.set-few.auto.1.1.1.0 ∙ few.before.before.before.before.set-eights.auto.1.1.1.0
+    few.set_few.auto.image ∙ few.before.before.before.before.set_eights.auto.image
 
 returns : tie.Need-returns
 returns c total taken =
@@ -68,22 +68,22 @@ returns c total taken =
     let eights = few.before.before.before.before in
     let closed = eights.before.before in
     let run = accepts (start closed).requires.form total (start closed).args.k _ _ taken in
-    bools-applied closed.Close-of.result (start closed).args.base
-    (laid_both _ (start closed).args.base eights.set-eights.auto.1.1.1.0 eights.set-eights.ensures
-    few.set-few.auto.1.1.1.0 few.set-few.ensures) run (closed.Close-of.ensures run.many run.run)
+    bools_applied closed.close_of-q.result (start closed).args.base
+    (laid_both _ (start closed).args.base eights.set_eights.auto.image eights.set_eights.ensures
+    few.set_few.auto.image few.set_few.ensures) run (closed.close_of-q.ensures run.many run.run)
 
-pub set-bools-spec : {M : Type 1} → statement M
-set-bools-spec =
+pub set_bools_spec : {M : Type 1} → statement M
+set_bools_spec =
     tie.close
     (tie.spec
-    close-of-requires
-    sub-whole
-    set-eights-requires
-    sub-set-few
-    mul-set-few
-    add-set-few
-    add-set-few-2
-    set-few-requires
-    add-result
+    close_of_requires
+    sub_whole
+    set_eights_requires
+    sub_set_few
+    mul_set_few
+    add_set_few
+    add_set_few_2
+    set_few_requires
+    add_result
     same_length
     returns)

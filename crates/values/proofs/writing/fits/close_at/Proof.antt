@@ -1,51 +1,52 @@
 -- `values::fits::close_at` meets its contract: after the last place only the close fits (document 01, "Writing").
 use native.Mathlib.Omega.{arith}
-use Rattle.values.proofs.writing.fits.FitRunLaws.{asked, end-closes, end-full, end-missing, few}
+use Rattle.values.proofs.writing.fits.FitRunLaws.{asked, end_closes, end_full, end_missing, few}
 use Rattle.values.proofs.writing.fits.close_at.Statement.{statement}
 use Rattle.values.proofs.writing.fits.close_at.Tie as tie
 
-refused-requires : tie.Need-refused-requires
-refused-requires c κs =
+refused_requires : tie.Need-refused-requires
+refused_requires c κs =
     let start = c.before.before in
     (omega arith, omega (arith, few start.requires.0, start.requires.1))
 
-returns : tie.Need-returns
+returns : tie.Need-returns-then-n-k
 returns c =
     let start = c.before.before.before in
-    end-missing start.requires.0 start.requires.1 c.before.if1.true c.refused.ensures
+    end_missing start.requires.0 start.requires.1 c.before.if-n-k.true c.refused.ensures
 
-kind-of-requires : tie.Need-kind-of-requires
-kind-of-requires c κs = asked c.before.before.requires.0 (omega (arith, c.if1.false))
+kind_of_requires : tie.Need-kind_of-kind-requires
+kind_of_requires c κs = asked c.before.before.requires.0 (omega (arith, c.if-n-k.false))
 
-add-result : tie.Need-overflow-add-result
-add-result c =
+add_result : tie.Need-overflow_add-result
+add_result c =
     let start = c.before.before.before.before in
     omega (arith, few start.requires.0, start.requires.1)
 
-returns-2 : tie.Need-returns-2
-returns-2 c = end-closes c.before.before.before.before.requires.0 c.before.kind-of.ensures c.if2.true
+returns_2 : tie.Need-returns-then-kind-eq-ARRAY_CLOSE
+returns_2 c =
+    end_closes c.before.before.before.before.requires.0 c.before.kind_of-kind.ensures c.if-kind-eq-ARRAY_CLOSE.true
 
-refused-requires-2 : tie.Need-refused-requires-2
-refused-requires-2 c κs =
+refused_requires_2 : tie.Need-refused-requires-2
+refused_requires_2 c κs =
     let start = c.before.before.before.before in
     (omega arith, omega (arith, few start.requires.0, start.requires.1))
 
-returns-3 : tie.Need-returns-3
-returns-3 c =
+returns_3 : tie.Need-returns
+returns_3 c =
     let other = c.before in
-    let at-kind = other.before in
-    let there = at-kind.before in
-    end-full there.before.before.requires.0 (omega (arith, there.if1.false)) at-kind.kind-of.ensures
-    other.if2.false c.refused2.ensures
+    let at_kind = other.before in
+    let there = at_kind.before in
+    end_full there.before.before.requires.0 (omega (arith, there.if-n-k.false)) at_kind.kind_of-kind.ensures
+    other.if-kind-eq-ARRAY_CLOSE.false c.refused-2.ensures
 
-pub close-at-spec : {M : Type 1} → statement M
-close-at-spec =
+pub close_at_spec : {M : Type 1} → statement M
+close_at_spec =
     tie.close
     (tie.spec
-    refused-requires
+    refused_requires
     returns
-    kind-of-requires
-    add-result
-    returns-2
-    refused-requires-2
-    returns-3)
+    kind_of_requires
+    add_result
+    returns_2
+    refused_requires_2
+    returns_3)

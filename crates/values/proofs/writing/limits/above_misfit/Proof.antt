@@ -4,13 +4,13 @@ use Rattle.values.specs.inside.writing.Limits.{above_misfit}
 use Rattle.values.proofs.writing.limits.above_misfit.Statement.{statement}
 use Rattle.values.proofs.writing.limits.above_misfit.Tie as tie
 
-returns : tie.Need-returns
+returns : tie.Need-returns-then-x-most
 unfolding above_misfit
-returns c = simp (le-leb _ _ c.if1.true)
+returns c = simp (le-leb _ _ c.if-x-most.true)
 
-returns-2 : tie.Need-returns-2
+returns_2 : tie.Need-returns
 unfolding above_misfit
-returns-2 c = simp (lt-leb _ _ c.if1.false)
+returns_2 c = simp (lt-leb _ _ c.if-x-most.false)
 
-pub above-misfit-spec : {M : Type 1} → statement M
-above-misfit-spec = tie.close (tie.spec returns returns-2)
+pub above_misfit_spec : {M : Type 1} → statement M
+above_misfit_spec = tie.close (tie.spec returns returns_2)

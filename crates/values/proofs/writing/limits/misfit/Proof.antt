@@ -5,32 +5,33 @@ use Rattle.values.specs.inside.writing.Limits.{misfit}
 use Rattle.values.proofs.writing.limits.misfit.Statement.{statement}
 use Rattle.values.proofs.writing.limits.misfit.Tie as tie
 
-returns : tie.Need-returns
+returns : tie.Need-returns-then-kind-eq-NULL
 unfolding misfit
-returns c = simp (eq-eqb _ _ c.if1.true)
+returns c = simp (eq-eqb _ _ c.if-kind-eq-NULL.true)
 
-returns-2 : tie.Need-returns-2
+returns_2 : tie.Need-returns-then-one-eq-SIGNED
 unfolding misfit
-returns-2 c =
-    simp (ne_eqb _ _ c.before.before.if1.false, eq-eqb _ _ c.before.if2.true) c.whole-misfit.ensures
+returns_2 c =
+    simp (ne_eqb _ _ c.before.before.if-kind-eq-NULL.false, eq-eqb _ _ c.before.if-one-eq-SIGNED.true)
+    c.whole_misfit.ensures
 
-returns-3 : tie.Need-returns-3
+returns_3 : tie.Need-returns-then-kind-one
 unfolding misfit
-returns-3 c =
+returns_3 c =
     simp (
-      ne_eqb _ _ c.before.before.if1.false,
-      ne_eqb _ _ c.before.if2.false,
-      eq-eqb _ _ c.if3.true,
+      ne_eqb _ _ c.before.before.if-kind-eq-NULL.false,
+      ne_eqb _ _ c.before.if-one-eq-SIGNED.false,
+      eq-eqb _ _ c.if-kind-one.true,
     )
 
-returns-4 : tie.Need-returns-4
+returns_4 : tie.Need-returns
 unfolding misfit
-returns-4 c =
+returns_4 c =
     simp (
-      ne_eqb _ _ c.before.before.if1.false,
-      ne_eqb _ _ c.before.if2.false,
-      ne_eqb _ _ c.if3.false,
+      ne_eqb _ _ c.before.before.if-kind-eq-NULL.false,
+      ne_eqb _ _ c.before.if-one-eq-SIGNED.false,
+      ne_eqb _ _ c.if-kind-one.false,
     )
 
-pub misfit-spec : {M : Type 1} → statement M
-misfit-spec = tie.close (tie.spec returns (λ c κs. search rules) returns-2 returns-3 returns-4)
+pub misfit_spec : {M : Type 1} → statement M
+misfit_spec = tie.close (tie.spec returns (λ c κs. search rules) returns_2 returns_3 returns_4)

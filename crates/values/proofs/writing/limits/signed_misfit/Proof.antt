@@ -5,17 +5,17 @@ use Rattle.values.specs.inside.writing.Limits.{signed_misfit}
 use Rattle.values.proofs.writing.limits.signed_misfit.Statement.{statement}
 use Rattle.values.proofs.writing.limits.signed_misfit.Tie as tie
 
-returns : tie.Need-returns
+returns : tie.Need-returns-then-under-x
 unfolding signed_misfit
-returns c = simp (le-leb _ _ c.before.if1.true, lt-ltb _ _ c.if2.true)
+returns c = simp (le-leb _ _ c.before.if-x-ge9223372036854775808.true, lt-ltb _ _ c.if-under-x.true)
 
-returns-2 : tie.Need-returns-2
+returns_2 : tie.Need-returns-then-x-ge9223372036854775808
 unfolding signed_misfit
-returns-2 c = simp (le-leb _ _ c.before.if1.true, le-ltb _ _ c.if2.false)
+returns_2 c = simp (le-leb _ _ c.before.if-x-ge9223372036854775808.true, le-ltb _ _ c.if-under-x.false)
 
-returns-3 : tie.Need-returns-3
+returns_3 : tie.Need-returns
 unfolding signed_misfit
-returns-3 c = simp (lt-leb _ _ c.before.if1.false) c.above-misfit.ensures
+returns_3 c = simp (lt-leb _ _ c.before.if-x-ge9223372036854775808.false) c.above_misfit.ensures
 
-pub signed-misfit-spec : {M : Type 1} → statement M
-signed-misfit-spec = tie.close (tie.spec returns returns-2 (λ c κs. search rules) returns-3)
+pub signed_misfit_spec : {M : Type 1} → statement M
+signed_misfit_spec = tie.close (tie.spec returns returns_2 (λ c κs. search rules) returns_3)

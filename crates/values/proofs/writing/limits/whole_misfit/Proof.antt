@@ -5,19 +5,20 @@ use Rattle.values.specs.inside.writing.Limits.{whole_misfit}
 use Rattle.values.proofs.writing.limits.whole_misfit.Statement.{statement}
 use Rattle.values.proofs.writing.limits.whole_misfit.Tie as tie
 
-returns : tie.Need-returns
+returns : tie.Need-returns-then-kind-eq-SIGNED
 unfolding whole_misfit
-returns c = simp (eq-eqb _ _ c.before.if1.true) c.signed-misfit.ensures
+returns c = simp (eq-eqb _ _ c.before.if-kind-eq-SIGNED.true) c.signed_misfit.ensures
 
-returns-2 : tie.Need-returns-2
+returns_2 : tie.Need-returns-then-kind-eq-UNSIGNED
 unfolding whole_misfit
-returns-2 c =
-    simp (ne_eqb _ _ c.before.before.if1.false, eq-eqb _ _ c.before.if2.true) c.above-misfit.ensures
+returns_2 c =
+    simp (ne_eqb _ _ c.before.before.if-kind-eq-SIGNED.false, eq-eqb _ _ c.before.if-kind-eq-UNSIGNED.true)
+    c.above_misfit.ensures
 
-returns-3 : tie.Need-returns-3
+returns_3 : tie.Need-returns
 unfolding whole_misfit
-returns-3 c = simp (ne_eqb _ _ c.before.if1.false, ne_eqb _ _ c.if2.false)
+returns_3 c = simp (ne_eqb _ _ c.before.if-kind-eq-SIGNED.false, ne_eqb _ _ c.if-kind-eq-UNSIGNED.false)
 
-pub whole-misfit-spec : {M : Type 1} → statement M
-whole-misfit-spec =
-    tie.close (tie.spec (λ c κs. search rules) returns (λ c κs. search rules) returns-2 returns-3)
+pub whole_misfit_spec : {M : Type 1} → statement M
+whole_misfit_spec =
+    tie.close (tie.spec (λ c κs. search rules) returns (λ c κs. search rules) returns_2 returns_3)

@@ -6,9 +6,9 @@ use mathlib.Core.Path.{sym, ◌∙◌}
 use Rattle.words.specs.Bits.{flat}
 use Rattle.values.specs.reading.Leaf.{flag}
 use Rattle.values.specs.writing.Effects.{or_null, taken}
-use Rattle.values.proofs.stream.LeftLaws.{EntryThere, few-entries}
-use Rattle.values.proofs.writing.ApplyLaws.{one-there}
-use Rattle.values.proofs.writing.sets.SetLaws.{flag-set, one_kept}
+use Rattle.values.proofs.stream.LeftLaws.{EntryThere, few_entries}
+use Rattle.values.proofs.writing.ApplyLaws.{one_there}
+use Rattle.values.proofs.writing.sets.SetLaws.{flag_set, one_kept}
 use Rattle.values.proofs.writing.sets.set_flag.Statement.{statement}
 use Rattle.values.proofs.writing.sets.set_flag.Tie as tie
 
@@ -16,52 +16,54 @@ use Rattle.values.proofs.writing.sets.set_flag.Tie as tie
 there : (c : tie.Start) → EntryThere c.args.s.now c.args.k
 there c =
     let a = c.args in
-    one-there c.requires.0.0 (or_null (taken flag)) 1 (8 * a.at + a.bit) (flat a.image.now) c.requires.1
+    one_there c.requires.0.0 (or_null (taken flag)) 1 (8 * a.at + a.bit) (flat a.image.now) c.requires.1
 
-kind-of-requires : tie.Need-kind-of-requires
-kind-of-requires c κs = (c.before.before.requires.0.0, (there c.before.before).inside)
+kind_of_requires : tie.Need-kind_of-kind-requires
+kind_of_requires c κs = (c.before.before.requires.0.0, (there c.before.before).inside)
 
-add-result : tie.Need-overflow-add-result
-add-result c =
-    let at-start = c.before.before.before.before in
-    omega (arith, (there at-start).inside, few-entries at-start.args.s.now at-start.requires.0.0)
+add_result : tie.Need-overflow_add-result
+add_result c =
+    let at_start = c.before.before.before.before in
+    omega (arith, (there at_start).inside, few_entries at_start.args.s.now at_start.requires.0.0)
 
-returns : tie.Need-returns
+returns : tie.Need-returns-then-kind-eq-NULL
 returns c =
-    let at-start = c.before.before.before.before in
-    let a = at-start.args in
-    one_kept (there at-start) (taken flag) 1 (8 * a.at + a.bit) (sym c.before.kind-of.ensures ∙ c.if1.true)
+    let at_start = c.before.before.before.before in
+    let a = at_start.args in
+    one_kept (there at_start) (taken flag) 1 (8 * a.at + a.bit)
+    (sym c.before.kind_of-kind.ensures ∙ c.if-kind-eq-NULL.true)
 
-payload-of-requires : tie.Need-payload-of-requires
-payload-of-requires c κs =
-    let at-start = c.before.before.before.before.before in
-    (at-start.requires.0.0, (there at-start).inside)
+payload_of_requires : tie.Need-payload_of-requires
+payload_of_requires c κs =
+    let at_start = c.before.before.before.before.before in
+    (at_start.requires.0.0, (there at_start).inside)
 
-add-result-2 : tie.Need-overflow-add-result-2
-add-result-2 c =
-    let at-start = c.before.before.before.before.before.before.before.before.before in
-    omega (arith, (there at-start).inside, few-entries at-start.args.s.now at-start.requires.0.0)
+add_result_2 : tie.Need-overflow_add-result-2
+add_result_2 c =
+    let at_start = c.before.before.before.before.before.before.before.before.before in
+    omega (arith, (there at_start).inside, few_entries at_start.args.s.now at_start.requires.0.0)
 
-returns-2 : tie.Need-returns-2
-returns-2 c =
-    let at-put = c.before.before in
-    let at-payload = at-put.before in
-    let else1 = at-payload.before.before in
-    let at-start = else1.before.before.before.before in
-    let a = at-start.args in
-    flag-set (there at-start) (8 * a.at + a.bit) at-payload.payload-of.result
-    (λ e. else1.if1.false (else1.before.kind-of.ensures ∙ e)) at-start.requires.1 at-payload.payload-of.ensures
-    (omega (arith, at-put.put-bit.auto.0)) at-put.put-bit.ensures
+returns_2 : tie.Need-returns
+returns_2 c =
+    let at_put = c.before.before in
+    let at_payload = at_put.before in
+    let else1 = at_payload.before.before in
+    let at_start = else1.before.before.before.before in
+    let a = at_start.args in
+    flag_set (there at_start) (8 * a.at + a.bit) at_payload.payload_of.result
+    (λ e. else1.if-kind-eq-NULL.false (else1.before.kind_of-kind.ensures ∙ e)) at_start.requires.1
+    at_payload.payload_of.ensures
+    (omega (arith, at_put.put_bit.auto.image)) at_put.put_bit.ensures
 
-pub set-flag-spec : {M : Type 1} → statement M
-set-flag-spec =
+pub set_flag_spec : {M : Type 1} → statement M
+set_flag_spec =
     tie.close
     (tie.spec
-    kind-of-requires
-    add-result
+    kind_of_requires
+    add_result
     returns
-    payload-of-requires
+    payload_of_requires
     (λ c κs. search rules)
-    add-result-2
+    add_result_2
     (λ c. search rules)
-    returns-2)
+    returns_2)

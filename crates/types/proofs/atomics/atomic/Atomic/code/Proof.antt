@@ -8,7 +8,7 @@ use Rattle.types.proofs.atomics.atomic.Atomic.code.Tie as tie
 
 returns : tie.Need-returns
 unfolding row_of
-returns c = ap (λ (r : AtomicRow). r.0) c.row.ensures
+returns c = ap (λ (r : AtomicRow). r.0) c.row-row.ensures
 
-pub code-spec : {M : Type 1} → statement M
-code-spec = tie.close (tie.spec (λ c κs. search rules) returns)
+pub code_spec : {M : Type 1} → statement M
+code_spec = tie.close (tie.spec (λ c κs. search rules) returns)

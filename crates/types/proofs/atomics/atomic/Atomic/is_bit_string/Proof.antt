@@ -8,7 +8,7 @@ use Rattle.types.proofs.atomics.atomic.Atomic.is_bit_string.Tie as tie
 
 returns : tie.Need-returns
 unfolding bit_string
-returns c = ap (leb 11) c.num.ensures.is
+returns c = ap (leb 11) c.num-n.ensures.is
 
-pub is-bit-string-spec : {M : Type 1} → statement M
-is-bit-string-spec = tie.close (tie.spec (λ c κs. search rules) returns)
+pub is_bit_string_spec : {M : Type 1} → statement M
+is_bit_string_spec = tie.close (tie.spec (λ c κs. search rules) returns)

@@ -8,7 +8,7 @@ use Rattle.types.proofs.atomics.atomic.Atomic.size.Tie as tie
 
 returns : tie.Need-returns
 unfolding row_of
-returns c = ap (λ (r : AtomicRow). r.1) c.row.ensures
+returns c = ap (λ (r : AtomicRow). r.1) c.row-row.ensures
 
-pub size-spec : {M : Type 1} → statement M
-size-spec = tie.close (tie.spec (λ c κs. search rules) returns)
+pub size_spec : {M : Type 1} → statement M
+size_spec = tie.close (tie.spec (λ c κs. search rules) returns)

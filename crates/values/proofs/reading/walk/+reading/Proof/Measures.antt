@@ -1,0 +1,50 @@
+-- The measures of the cycle, and what its functions ask of each other (document 01, "Reading"): a nested structure has
+-- a number below i, so that 4 i + 4 of an array, 4 i + 3 of a structure, 4 i + 2 of its members and 4 i + 1 of a row
+-- fall.
+use borrow.Fn.Kinds.{In}
+use borrow.Fn.PlainCycle.{Measures, is, falls, and}
+use Prim.Native.Nat.{ℕ, ◌+◌, ◌*◌, ◌<◌}
+use Rattle.values.proofs.reading.walk.read_elements.Reads as elements
+use Rattle.values.proofs.reading.walk.read_elements.Kinds as elements_kinds
+use Rattle.values.proofs.reading.walk.read_members.Reads as members
+use Rattle.values.proofs.reading.walk.read_members.Kinds as members_kinds
+use Rattle.values.proofs.reading.walk.read_nested.Reads as nested
+use Rattle.values.proofs.reading.walk.read_nested.Kinds as nested_kinds
+use Rattle.values.proofs.reading.walk.read_struct.Reads as struct
+use Rattle.values.proofs.reading.walk.read_struct.Kinds as struct_kinds
+
+abbrev pub μ-elements : Measures 4 elements_kinds.ps ℕ
+μ-elements κs a = 4 * a.1.1.0 + 4
+
+abbrev pub μ-members : Measures 4 members_kinds.ps ℕ
+μ-members κs a = 4 * a.1.1.0 + 2
+
+abbrev pub μ-nested : Measures 4 nested_kinds.ps ℕ
+μ-nested κs a = 4 * a.1.1.0 + 1
+
+abbrev pub μ-struct : Measures 4 struct_kinds.ps ℕ
+μ-struct κs a = 4 * a.1.1.0 + 3
+
+abbrev pub elements_at : ℕ → In 4 elements_kinds.ps
+elements_at t = and 4 elements_kinds.ps (is 4 elements_kinds.ps μ-elements t) elements.Pre
+
+abbrev pub elements_below : ℕ → In 4 elements_kinds.ps
+elements_below t = and 4 elements_kinds.ps (falls 4 elements_kinds.ps ◌<◌ μ-elements t) elements.Pre
+
+abbrev pub members_at : ℕ → In 4 members_kinds.ps
+members_at t = and 4 members_kinds.ps (is 4 members_kinds.ps μ-members t) members.Pre
+
+abbrev pub members_below : ℕ → In 4 members_kinds.ps
+members_below t = and 4 members_kinds.ps (falls 4 members_kinds.ps ◌<◌ μ-members t) members.Pre
+
+abbrev pub nested_at : ℕ → In 4 nested_kinds.ps
+nested_at t = and 4 nested_kinds.ps (is 4 nested_kinds.ps μ-nested t) nested.Pre
+
+abbrev pub nested_below : ℕ → In 4 nested_kinds.ps
+nested_below t = and 4 nested_kinds.ps (falls 4 nested_kinds.ps ◌<◌ μ-nested t) nested.Pre
+
+abbrev pub struct_at : ℕ → In 4 struct_kinds.ps
+struct_at t = and 4 struct_kinds.ps (is 4 struct_kinds.ps μ-struct t) struct.Pre
+
+abbrev pub struct_below : ℕ → In 4 struct_kinds.ps
+struct_below t = and 4 struct_kinds.ps (falls 4 struct_kinds.ps ◌<◌ μ-struct t) struct.Pre
