@@ -28,7 +28,7 @@ returns-in-Refused c =
     made_no c.loop-i.invariant c.loop-i-test.true c.take_turn-r.ensures.0 c.if-done-i-eq0.true _ c.in-Refused.is
 
 pub overflow_sub-rest : goal.overflow_sub-rest
-overflow_sub-rest c = within_left c.loop-i.invariant c.loop-i-test.true c.if-done-i-eq0.true
+overflow_sub-rest c = omega (arith, within_left c.loop-i.invariant c.loop-i-test.true c.if-done-i-eq0.true)
 
 -- a type's count, as it was read
 counted : (c : After-count_of-n) → c.count_of-n.result ≡ count_of c.args.book.now c.loop-i.i
