@@ -64,12 +64,7 @@ enter-requires c =
     let s = goal.at.enter-requires c in
     let a = c.args in (
       (fits s.Then-has_room).types,
-      rw (
-        c.bare_head-head.ensures,
-        c.rounded_size-size.ensures,
-        c.laid_kind-kind.ensures,
-        c.store_type.ensures.rows,
-      )
+      rw (c.bare_head-head.ensures, c.rounded_size-size.ensures, c.laid_kind-kind.ensures, c.store_type.ensures.rows)
           (stored_readable a.types.now a.members.now a.names.now a.new.used
           (counted s.After-has_room (λ k. (c.type_inv.book k).fits)) _ _ _ (room s.After-has_room)
           c.if-has_room.true c.requires.usable c.requires.rows),

@@ -49,45 +49,15 @@ loop-i-preserved c =
     rw (counted (goal.at.loop-i-preserved c).After-count_of-n)
     (elim c.if-done-i-eq0.branch [
       | then-done-i-eq0+in-Waits w ↦
-          rw (
-            w.types-is,
-            w.members-is,
-            w.names-is,
-            w.tys-is,
-            w.done-is,
-            w.stuck-is,
-            w.tried-is,
-            w.used-is,
-            w.rest-is,
-          )
+          rw (w.types-is, w.members-is, w.names-is, w.tys-is, w.done-is, w.stuck-is, w.tried-is, w.used-is, w.rest-is)
           (within_wait v l w.take_turn-r.ensures.0 w.if-done-i-eq0.true w.take_turn-r.auto.tys w.take_turn-r.auto.stuck
           w.take_turn-r.auto.tried w.take_turn-r.ensures.1 w.in-Waits.is)
       | then-done-i-eq0+in-Added w ↦
-          rw (
-            w.types-is,
-            w.members-is,
-            w.names-is,
-            w.tys-is,
-            w.done-is,
-            w.stuck-is,
-            w.tried-is,
-            w.used-is,
-            w.rest-is,
-          )
+          rw (w.types-is, w.members-is, w.names-is, w.tys-is, w.done-is, w.stuck-is, w.tried-is, w.used-is, w.rest-is)
           (within_yes v l w.take_turn-r.ensures.0 w.if-done-i-eq0.true w.take_turn-r.auto.tys w.take_turn-r.auto.stuck
           w.take_turn-r.auto.tried w.take_turn-r.ensures.1 _ w.in-Added.is)
       | else-done-i-eq0 w ↦
-          rw (
-            w.types-is,
-            w.members-is,
-            w.names-is,
-            w.tys-is,
-            w.done-is,
-            w.stuck-is,
-            w.tried-is,
-            w.used-is,
-            w.rest-is,
-          )
+          rw (w.types-is, w.members-is, w.names-is, w.tys-is, w.done-is, w.stuck-is, w.tried-is, w.used-is, w.rest-is)
           (within_past v l w.if-done-i-eq0.false)
     ])
 
