@@ -4,7 +4,7 @@
 
 ghost use Rattle.types.specs.tables.Kept.{Kept};
 
-use frames::{Next, START, answer_room, next_frame, room, send_frame};
+use frames::{START, answer_room, next_frame, room, send_frame};
 use replies::answer;
 use types::{MemberTable, NameTable, TypeTable, no_members, no_names, no_types};
 
@@ -38,8 +38,8 @@ fn serve_one(
     ensures { Kept types.new members.new names.new }
 {
     match next_frame(question) {
-        Next::Nothing => false,
-        Next::Bytes(n) => reply(&question[0..n], out, types, members, names),
+        Some(n) => reply(&question[..n], out, types, members, names),
+        None => false,
     }
 }
 
@@ -53,12 +53,10 @@ fn serve(
 )
     requires { Kept types.old members.old names.old }
 {
-    let mut turns = u64::MAX;
-    while turns > 0 {
+    for _ in 0..u64::MAX {
         if !serve_one(question, out, types, members, names) {
             return;
         }
-        turns -= 1;
     }
 }
 

@@ -10,7 +10,7 @@ mod lines;
 mod turns;
 
 use crate::lines::say_sum;
-use crate::turns::{count_other, ended, next_case, was_cut};
+use crate::turns::{Turn, count_other, next_case};
 use frames::{answer_room, room};
 use types::{MemberTable, NameTable, TypeTable, no_members, no_names, no_types};
 
@@ -25,18 +25,17 @@ fn replay_all(
 )
     requires { Kept types.old members.old names.old }
 {
-    let mut cases: u64 = 0;
     let mut different: u64 = 0;
-    while cases < u64::MAX {
+    for number in 0..u64::MAX {
         let turn = next_case(question, expected, out, types, members, names);
-        if ended(turn) {
-            say_sum(cases, different);
+        if turn == Turn::End {
+            say_sum(number, different);
             return;
         }
-        different += count_other(turn, cases);
-        cases += 1;
-        if was_cut(turn) {
-            say_sum(cases, different);
+        different += count_other(turn, number);
+        // After a case that is cut short there is none.
+        if turn == Turn::Cut {
+            say_sum(number + 1, different);
             return;
         }
     }

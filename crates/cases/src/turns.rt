@@ -4,12 +4,12 @@ ghost use Rattle.types.specs.tables.Kept.{Kept};
 
 use crate::expected::agrees;
 use crate::lines::say_differs;
-use frames::{Frame, Next, next_frame, read_frame};
+use frames::{next_frame, read_frame};
 use replies::answer;
 use types::{MemberTable, NameTable, TypeTable};
 
 // A case whose answer is as expected or another, one that is cut short, or the end of the input.
-#[derive(Clone, Copy)]
+#[derive(Clone, Copy, Debug, PartialEq, Eq)]
 pub enum Turn {
     Same,
     Other,
@@ -17,53 +17,22 @@ pub enum Turn {
     End,
 }
 
-pub fn ended(turn: Turn) -> bool {
-    match turn {
-        Turn::Same => false,
-        Turn::Other => false,
-        Turn::Cut => false,
-        Turn::End => true,
-    }
-}
-
-// After a case that is cut short there is none.
-pub fn was_cut(turn: Turn) -> bool {
-    match turn {
-        Turn::Same => false,
-        Turn::Other => false,
-        Turn::Cut => true,
-        Turn::End => false,
-    }
-}
-
 // Says where a case differs, and counts it; one that is cut short does.
 pub fn count_other(turn: Turn, number: u64) -> u64
     ensures { result ≤ 1 }
 {
     match turn {
-        Turn::Same => {
-            return 0;
-        }
-        Turn::Other => {
+        Turn::Same | Turn::End => 0,
+        Turn::Other | Turn::Cut => {
             say_differs(number);
-            return 1;
-        }
-        Turn::Cut => {
-            say_differs(number);
-            return 1;
-        }
-        Turn::End => {
-            return 0;
+            1
         }
     }
 }
 
 // An empty question has no kind.
 fn kind_of(question: &[u8]) -> u8 {
-    if question.len() < 1 {
-        return 0;
-    }
-    question[0]
+    question.first().copied().unwrap_or(0)
 }
 
 // Is the question answered as expected?
@@ -82,7 +51,7 @@ fn replay(
     if out.len() < long {
         return Turn::Other;
     }
-    if agrees(kind_of(question), expected, &out[0..long]) {
+    if agrees(kind_of(question), expected, &out[..long]) {
         return Turn::Same;
     }
     Turn::Other
@@ -101,8 +70,8 @@ fn check_answer(
     ensures { Kept types.new members.new names.new }
 {
     match next_frame(expected) {
-        Next::Nothing => Turn::Cut,
-        Next::Bytes(n) => replay(question, &expected[0..n], out, types, members, names),
+        Some(n) => replay(question, &expected[..n], out, types, members, names),
+        None => Turn::Cut,
     }
 }
 
@@ -118,8 +87,8 @@ pub fn next_case(
     ensures { Kept types.new members.new names.new }
 {
     match read_frame(question) {
-        Frame::End => Turn::End,
-        Frame::Broken => Turn::Cut,
-        Frame::Bytes(n) => check_answer(&question[0..n], expected, out, types, members, names),
+        Ok(Some(n)) => check_answer(&question[..n], expected, out, types, members, names),
+        Ok(None) => Turn::End,
+        Err(_) => Turn::Cut,
     }
 }

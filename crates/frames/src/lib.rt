@@ -6,6 +6,6 @@ mod reading;
 mod rooms;
 mod sending;
 
-pub use reading::{Frame, Next, next_frame, read_frame};
+pub use reading::{BrokenFrame, next_frame, read_frame};
 pub use rooms::{answer_room, room};
 pub use sending::{START, send_frame};

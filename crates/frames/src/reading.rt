@@ -2,15 +2,11 @@
 ghost use Rattle.std.specs.Prelude.{length};
 ghost use Rattle.frames.specs.inside.Reading.{FrameIn, NextIn};
 
-use words::load32;
+use words::Word;
 
-// How many bytes a frame has, that the input ended before it, or that it is cut short or longer than its room.
-#[derive(Clone, Copy)]
-pub enum Frame {
-    Bytes(usize),
-    End,
-    Broken,
-}
+// A frame that is cut short or longer than its room.
+#[derive(Clone, Copy, Debug, PartialEq, Eq)]
+pub struct BrokenFrame;
 
 // Reads want bytes to the start of the room. `io::count` keeps want within it.
 fn fill(room: &mut [u8], want: isize) -> bool {
@@ -19,40 +15,28 @@ fn fill(room: &mut [u8], want: isize) -> bool {
     got == n
 }
 
-pub fn read_frame(room: &mut [u8]) -> Frame
+// How many bytes the next frame has; none where the input ended before it.
+pub fn read_frame(room: &mut [u8]) -> Result<Option<usize>, BrokenFrame>
     ensures { FrameIn (length room.old) result }
 {
     let mut head = [0u8; 4];
     let got = io::read_full(0, &mut head);
     if got == 0 {
-        return Frame::End;
+        return Ok(None);
     }
     if got != 4 {
-        return Frame::Broken;
+        return Err(BrokenFrame);
     }
-    let n = load32(&head, 0) as usize;
-    if room.len() < n {
-        return Frame::Broken;
+    let n = u32::load(&head, 0) as usize;
+    if n <= room.len() && fill(room, n as isize) {
+        return Ok(Some(n));
     }
-    if fill(room, n as isize) {
-        return Frame::Bytes(n);
-    }
-    Frame::Broken
+    Err(BrokenFrame)
 }
 
 // How many bytes the next frame has, where it does not matter why there is none.
-#[derive(Clone, Copy)]
-pub enum Next {
-    Bytes(usize),
-    Nothing,
-}
-
-pub fn next_frame(room: &mut [u8]) -> Next
+pub fn next_frame(room: &mut [u8]) -> Option<usize>
     ensures { NextIn (length room.old) result }
 {
-    match read_frame(room) {
-        Frame::Bytes(n) => Next::Bytes(n),
-        Frame::End => Next::Nothing,
-        Frame::Broken => Next::Nothing,
-    }
+    read_frame(room).unwrap_or(None)
 }

@@ -1,5 +1,5 @@
 // Sending: a frame written to standard output from a lent buffer, whose first four bytes are left for its length.
-use words::store32;
+use words::Word;
 
 // The most bytes of a frame.
 const MOST: usize = 1048576;
@@ -23,6 +23,6 @@ pub fn send_frame(out: &mut [u8], long: usize) -> bool {
     if MOST < long {
         return false;
     }
-    store32(out, 0, long as u32);
+    (long as u32).store(out, 0);
     write_first(out, START + long)
 }

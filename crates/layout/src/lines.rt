@@ -4,9 +4,8 @@ ghost use Rattle.std.specs.Prelude.{◌≤◌, length};
 ghost use Rattle.types.specs.tables.Kept.{Kept};
 
 use types::{
-    MemberTable, NameTable, TypeTable, Wrote, put_member_line, put_refused_line, put_type_line,
+    MemberTable, NameTable, Refusal, TypeTable, put_member_line, put_refused_line, put_type_line,
 };
-use words::wide;
 
 // No line is longer.
 const LINE: usize = 512;
@@ -24,21 +23,13 @@ fn next_place(out: &[u8], at: usize) -> usize
 }
 
 // The place after a line that was given from a place on, in a buffer of so many bytes. A refused one adds nothing.
-fn place_after(from: usize, given: Wrote, long: usize) -> usize
+fn place_after(from: usize, given: Result<u32, Refusal>, long: usize) -> usize
     requires { from ≤ long }
     ensures { result ≤ long }
 {
     match given {
-        Wrote::Length(n) => {
-            let bytes = wide(n);
-            if long - from < bytes {
-                return from;
-            }
-            return from + bytes;
-        }
-        Wrote::Refused(_) => {
-            return from;
-        }
+        Ok(n) if n as usize <= long - from => from + n as usize,
+        _ => from,
     }
 }
 
@@ -78,8 +69,8 @@ pub fn add_member(
 }
 
 // A refusal's line, written.
-pub fn say_refused(number: u8, place: u32, out: &mut [u8]) {
-    let given = put_refused_line(number, place, out);
+pub fn say_refused(why: Refusal, out: &mut [u8]) {
+    let given = put_refused_line(why.number(), why.place(), out);
     let n = place_after(0, given, out.len());
     io::write_all(1, &out[..n]);
 }

@@ -5,7 +5,6 @@ ghost use Rattle.types.specs.tables.Kept.{Kept};
 
 use crate::lines::{add_member, add_type};
 use types::{MemberTable, NameTable, TypeTable, type_at, type_count};
-use words::wide;
 
 // The predefined types come first in the tables and are never shown.
 const PREDEFINED: usize = 4;
@@ -22,13 +21,9 @@ fn add_members(
     requires { Kept types.now members.now names.now × (from ≤ length out.old) }
     ensures { result ≤ length out.old }
 {
-    let d = type_at(types, i);
-    let count = wide(d.count);
     let mut at = from;
-    let mut k: usize = 0;
-    while k < count {
+    for k in 0..type_at(types, i).count as usize {
         at = add_member(types, members, names, i, k, out, at);
-        k += 1;
     }
     at
 }
@@ -37,13 +32,10 @@ fn add_members(
 pub fn list(types: &TypeTable, members: &MemberTable, names: &NameTable, out: &mut [u8])
     requires { Kept types.now members.now names.now }
 {
-    let n = type_count(types);
     let mut at: usize = 0;
-    let mut i = PREDEFINED;
-    while i < n {
-        let next = add_type(types, members, names, i, out, at);
-        at = add_members(types, members, names, i, out, next);
-        i += 1;
+    for i in PREDEFINED..type_count(types) {
+        at = add_type(types, members, names, i, out, at);
+        at = add_members(types, members, names, i, out, at);
     }
     io::write_all(1, &out[..at]);
 }

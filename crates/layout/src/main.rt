@@ -9,17 +9,13 @@ mod list;
 
 use crate::lines::say_refused;
 use crate::list::list;
-use types::{Built, PredefinedIds, Refusal, build, no_members, no_names, no_types};
+use types::{PredefinedIds, Refusal, build, no_members, no_names, no_types};
 
 // The room of the longest book and one byte more, which shows a longer one. Its length is all that is said of it.
 fn room() -> [u8; 65537]
     ensures { 65537 ≡ length result }
 {
     [0; 65537]
-}
-
-fn refuse(r: Refusal, out: &mut [u8]) {
-    say_refused(r.number(), r.place(), out);
 }
 
 // What a book of any length up to the longest is answered with. The predefined ids are never shown.
@@ -33,14 +29,9 @@ fn show(book: &[u8], out: &mut [u8]) {
         control: 3,
         string: 4,
     };
-    let built = build(book, ids, &mut types, &mut members, &mut names);
-    match built {
-        Built::Types(_) => {
-            list(&types, &members, &names, out);
-        }
-        Built::Refused(r) => {
-            refuse(r, out);
-        }
+    match build(book, ids, &mut types, &mut members, &mut names) {
+        Ok(_) => list(&types, &members, &names, out),
+        Err(why) => say_refused(why, out),
     }
 }
 
@@ -49,7 +40,7 @@ fn main() {
     let mut book = room();
     let n = io::read_full(0, &mut book);
     if 65536 < n {
-        refuse(Refusal::BookMalformed, &mut out);
+        say_refused(Refusal::BookMalformed, &mut out);
         return;
     }
     show(&book[..n], &mut out);

@@ -4,6 +4,7 @@
 #![tactic(auto)]
 
 mod describe;
+mod faults;
 mod kinds;
 mod normals;
 mod puts;

@@ -3,11 +3,12 @@
 ghost use Rattle.std.specs.Prelude.{◌+◌, ◌≤◌, length};
 ghost use Rattle.types.specs.tables.Kept.{KeptRows};
 
-use crate::puts::{BODY, accept, malformed, put_bytes, refuse};
+use crate::faults::Fault;
+use crate::puts::{BODY, accept, put_bytes, put_fault};
 use crate::type_words::ty_of_word;
 use types::{MemberTable, TypeTable};
-use values::{Taken, write};
-use words::{load16, load32, load64, wide};
+use values::write;
+use words::Word;
 
 // The image of the question, `long` bytes, put at its place in the answer, and the stream after it written there.
 fn put_written(
@@ -16,47 +17,47 @@ fn put_written(
     types: &TypeTable,
     members: &MemberTable,
     out: &mut [u8],
-) -> usize
+) -> Result<usize, Fault>
     requires kept_rows { KeptRows types.now members.now }
     requires long_in_bounds { 14 + long ≤ length rest.now }
 {
     let past = 14 + long;
     let end = BODY + long;
     if out.len() < end {
-        return malformed(out);
+        return Err(Fault::NotAQuestion);
     }
-    let ty = ty_of_word(load16(rest, 0));
-    let count = load64(rest, 2);
+    let ty = ty_of_word(u16::load(rest, 0));
+    let count = u64::load(rest, 2);
     put_bytes(out, BODY, &rest[14..past]);
-    let r = write(
+    match write(
         types,
         members,
         ty,
         count,
         &rest[past..],
         &mut out[BODY..end],
-    );
-    match r {
-        Taken::Whole => {
-            accept(out);
-        }
-        Taken::Refused(why) => {
-            refuse(out, why);
-        }
-    }
-    end
+    ) {
+        Ok(()) => accept(out),
+        Err(why) => put_fault(out, Fault::Refused(why)),
+    };
+    Ok(end)
 }
 
 // Kind 6.
-pub fn tell_write(rest: &[u8], types: &TypeTable, members: &MemberTable, out: &mut [u8]) -> usize
+pub fn tell_write(
+    rest: &[u8],
+    types: &TypeTable,
+    members: &MemberTable,
+    out: &mut [u8],
+) -> Result<usize, Fault>
     requires { KeptRows types.now members.now }
 {
     if rest.len() < 14 {
-        return malformed(out);
+        return Err(Fault::NotAQuestion);
     }
-    let long = wide(load32(rest, 10));
+    let long = u32::load(rest, 10) as usize;
     if rest.len() - 14 < long {
-        return malformed(out);
+        return Err(Fault::NotAQuestion);
     }
     put_written(rest, long, types, members, out)
 }

@@ -3,6 +3,7 @@ pub mod AddLaidLaws
 pub mod AddLaws
 pub mod AddStoreLaws
 pub mod AddTypeLaws
+pub mod FaultLaws
 pub mod IdLaws
 pub mod RoomLaws
 pub mod VerdictLaws

@@ -1,5 +1,4 @@
 -- Definitions for document 01, "Refusal numbers": what a call says, by number and place.
-pub mod Fit
 pub mod Given
 pub mod Refusal
 pub mod Said

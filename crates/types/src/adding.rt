@@ -4,5 +4,4 @@ pub(crate) mod checks;
 pub(crate) mod ids;
 pub(crate) mod new_row;
 pub(crate) mod new_types;
-pub(crate) mod progress;
 pub(crate) mod used;

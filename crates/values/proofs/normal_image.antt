@@ -2,6 +2,7 @@
 pub mod ArrayMade
 pub mod CharLaws
 pub mod DisjointLaws
+pub mod FilledLaws
 pub mod FlagRows
 pub mod ItemLaws
 pub mod KeptPlaced

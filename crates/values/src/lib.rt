@@ -9,8 +9,8 @@ mod stream;
 mod writing;
 
 pub use normal_image::normal::normal;
-pub use reading::read::{Streamed, read};
+pub use reading::read::read;
 pub use reading::stored::text;
-pub use stream::entry::{Entry, Loaded, entry_at, store_entry};
+pub use stream::entry::{Entry, entry_at, store_entry};
 pub use stream::form::stream_ok;
-pub use writing::write::{Taken, write};
+pub use writing::write::write;

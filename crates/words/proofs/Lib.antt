@@ -3,6 +3,5 @@ pub mod ArithLaws
 pub mod Lists
 pub mod WordLaws
 pub mod BitLaws
-pub mod Copying
 pub mod StampLaws
 pub mod TestLaws

@@ -3,13 +3,11 @@
 #![tactic(auto)]
 
 mod bits;
-mod bounds;
-mod load;
-mod store;
-mod widen;
+mod copies;
+mod halves;
+mod word;
 
 pub use bits::{bit_at, set_bit};
-pub use bounds::least;
-pub use load::{load8, load16, load32, load64};
-pub use store::{copy, high8, high32, low8, low32, store8, store16, store32, store64};
-pub use widen::{wide, wide8, wide16, wide64};
+pub use copies::copy;
+pub use halves::{high32, low32};
+pub use word::Word;

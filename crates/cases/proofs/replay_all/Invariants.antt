@@ -1,16 +1,13 @@
--- The cases of `cases::replay_all` keep the tables, and the measure is how many may still come.
-use Rattle.std.proofs.Common.{◌≡◌, ◌-◌, ◌^◌, ◌≤◌, length}
+-- The cases of `cases::replay_all` keep the tables, and no more differ than there were.
+use Rattle.std.proofs.Common.{◌≡◌, ◌≤◌, length}
 use Rattle.types.specs.tables.Kept.{Kept}
 use Rattle.cases.proofs.replay_all.Given as goal
 
-abbrev pub invariant-loop-cases : goal.invariant-loop-cases
-invariant-loop-cases l = record {
+abbrev pub invariant-loop-number : goal.invariant-loop-number
+invariant-loop-number l = record {
   kept : Kept l.types l.members l.names;
-  differ : l.different ≤ l.cases;
+  differ : l.different ≤ l.number;
   question : length l.question ≡ length l.initial.question;
   expected : length l.expected ≡ length l.initial.expected;
   out : length l.out ≡ length l.initial.out;
 }
-
-abbrev pub decreases-loop-cases : goal.decreases-loop-cases
-decreases-loop-cases l = 2 ^ 64 - l.cases

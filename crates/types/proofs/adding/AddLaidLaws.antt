@@ -1,5 +1,6 @@
 -- Laws of adding a type (document 01, "Refusal numbers"): what is known of a UDT, an AOI or a string where there is
 -- room, and the ways out of a layout.
+use Rattle.std.specs.Prelude.{Err}
 use Prim.Native.Nat.{ℕ, ◌+◌, ◌/◌, ◌^◌, ◌≤◌}
 use native.Mathlib.Omega.{arith}
 use mathlib.Core.Path.{◌≡◌, refl, sym, ◌∙◌}
@@ -11,13 +12,15 @@ use Rattle.types.specs.adding.Add.{Verdict, no, new_def, fitted, add_laid}
 use Rattle.types.specs.inside.adding.Add.{Usable, Declared}
 use Rattle.types.specs.inside.book.Decls.{decls_from}
 use Rattle.types.specs.inside.layout.Passes.{udt_parts, parts_of, measured_of, StorableType, StorableAoi, Storable}
+use Rattle.types.specs.inside.layout.Passes.{came}
 use Rattle.types.specs.inside.layout.Passes.{BoolsCounted}
-use Rattle.types.specs.layout.Placing.{align_up}
+use Rattle.types.specs.layout.Placing.{align_up, fault_number}
 use Rattle.types.specs.layout.Structs.{names_of, named_in, rounded_size, udt_start, aoi_hosts, laid_kind, string_parts}
 use Rattle.types.specs.tables.Defs.{Part}
 use Rattle.types.specs.tables.Registry.{View}
 use Rattle.types.specs.declared.adding.new_types.NewType.{NewType}
-use Rattle.types.specs.declared.layout.measure.Measured.TheVariants.{Came, AccessWrong, TooFar}
+use Rattle.types.specs.declared.layout.placing.LayoutFault.{LayoutFault}
+use Rattle.types.specs.declared.layout.placing.LayoutFault.TheVariants.{AccessWrong, TooFar}
 use Rattle.types.specs.declared.layout.placing.Cursor.{Cursor}
 use Rattle.types.specs.declared.layout.placing.Decl.{Decl}
 use Rattle.types.proofs.adding.AddLaws.{type_fits, string_fits}
@@ -41,18 +44,14 @@ module _ (v : View) (book name : List ℕ) (new : NewType) (ds : List Decl) wher
   abbrev verdict : Verdict
   verdict = add_laid v book new.number new.aoi name new.id ds
 
-  -- where a member's access is wrong, the verdict is refusal 11 with the type's number
-  pub laid_access : AccessWrong ≡ measured_of new.aoi name ds → verdict ≡ no (11, new.number)
+  -- where a member's access is wrong, or it ends too far, the verdict is that refusal with the type's number
+  pub laid_fault : (f : LayoutFault) → Err f ≡ measured_of new.aoi name ds → verdict ≡ no (fault_number f, new.number)
   unfolding add_laid
-  laid_access q = rw (laid_passes new.aoi (named_in book) name ds, ← q)
-
-  -- where a member ends too far, the verdict is refusal 12 with the type's number
-  pub laid_far : TooFar ≡ measured_of new.aoi name ds → verdict ≡ no (12, new.number)
-  unfolding add_laid
-  laid_far q = rw (laid_passes new.aoi (named_in book) name ds, ← q)
+  laid_fault AccessWrong q = rw (laid_passes new.aoi (named_in book) name ds, ← q)
+  laid_fault TooFar q = rw (laid_passes new.aoi (named_in book) name ds, ← q)
 
   -- where all members are measured, the verdict is the new type of the rounded size, or 13
-  pub laid_fitted : {c : Cursor} {long : ℕ} → Came c long ≡ measured_of new.aoi name ds
+  pub laid_fitted : {c : Cursor} {long : ℕ} → came c long ≡ measured_of new.aoi name ds
       → verdict
       ≡ fitted v new.number
       (new_def v name new.id (rounded_size c) (laid_kind new.aoi) (parts_of new.aoi (named_in book) name ds))
@@ -61,7 +60,7 @@ module _ (v : View) (book name : List ℕ) (new : NewType) (ds : List Decl) wher
 
 module _ {types names book tys : List ℕ} (new : NewType) (ready : Usable types names new.used)
     (d : Declared book tys new.used.types new.at new.count) (name : List ℕ) {c : Cursor} {long : ℕ}
-    (q : Came c long ≡ measured_of new.aoi name (decls_from types book tys new.at 0 new.count)) where
+    (q : came c long ≡ measured_of new.aoi name (decls_from types book tys new.at 0 new.count)) where
   abbrev ds : List Decl
   ds = decls_from types book tys new.at 0 new.count
 

@@ -1,5 +1,6 @@
 -- Laws of storing a new type: what its declared members give its functions to count on, and how the stored name, parts
 -- and row are what the definition says.
+use Rattle.std.specs.Prelude.{Result, Ok, Err}
 use Prim.Native.Nat.{ℕ, zero, suc, ◌+◌, ◌*◌, ◌<◌, ◌≤◌}
 use native.Mathlib.Omega.{arith}
 use mathlib.Core.Path.{◌≡◌, refl, sym, ap, ◌∙◌}
@@ -28,8 +29,6 @@ use Rattle.types.specs.tables.Limits.{most_types, most_members, most_names, memb
 use Rattle.types.specs.tables.Registry.{head_of}
 use Rattle.types.specs.templates.Handle.{handle_of}
 use Rattle.types.specs.templates.Template.{template_in}
-use Rattle.types.specs.declared.adding.progress.Progress.{Progress}
-use Rattle.types.specs.declared.adding.progress.Progress.TheVariants.{Refused, Added}
 use Rattle.types.specs.declared.adding.used.Used.{Used}
 use Rattle.types.specs.declared.refusals.refusal.Refusal.{Refusal}
 use Rattle.types.specs.declared.refusals.refusal.Refusal.TheVariants.{TablesFull}
@@ -130,7 +129,7 @@ module _ (types members names : List ℕ) (u : Used) {name : List ℕ} {parts : 
 
   -- without room 13 is answered, and the three tables stay as they were
   pub stored_full : (i : ℕ) → r ≡ false
-      → Took (fitted (view_in types names u) i new) u types members names types members names (Refused (TablesFull i))
+      → Took (fitted (view_in types names u) i new) u types members names types members names (Err (TablesFull i))
   stored_full i q =
       rw (fitted_no types members names u name id size kind parts i r room q)
       (record { is = refl; types = refl; members = refl; names = refl })
@@ -162,7 +161,7 @@ module _ (types members names : List ℕ) (u : Used) {name : List ℕ} {parts : 
           → m' ≡ sets members (8 * u.members) (rows_of (u.bytes + length name) parts)
           → n' ≡ sets (sets names u.bytes name) (u.bytes + length name) (names_of parts)
           → t' ≡ sets types (8 * u.types) (type_row (with_handle head (handle_of (template_in types m' n' head))))
-          → Took (fitted (view_in types names u) i new) u types members names t' m' n' (Added (used_with u count long))
+          → Took (fitted (view_in types names u) i new) u types members names t' m' n' (Ok (used_with u count long))
       unfolding new_def
       stored_took i k em en et =
           let en' = en ∙ sym (sets_append names u.bytes name (names_of parts)) in
@@ -197,7 +196,7 @@ module _ (types members names : List ℕ) (u : Used) {name : List ℕ} {parts : 
       → t' ≡ sets types (8 * u.types) (type_row (with_handle (bare_head u (length name) id size kind k)
       (handle_of (template_in types m' n' (bare_head u (length name) id size kind k)))))
       → r ≡ used_with u k l
-      → Took (yes (new_def (view_in types names u) name id size kind parts)) u types members names t' m' n' (Added r)
+      → Took (yes (new_def (view_in types names u) name id size kind parts)) u types members names t' m' n' (Ok r)
   new_took em en et er =
       let took = stored_took types members names u p id size kind ready_room refl ready.usable ready.members 0
       ready.names em en et in
@@ -205,15 +204,15 @@ module _ (types members names : List ℕ) (u : Used) {name : List ℕ} {parts : 
 
 -- a refusal was answered, and nothing stored
 pub took_no : {s : Verdict} {u : Used} {r : Refusal} {types members names : List ℕ} → s ≡ no (why_of r)
-    → Took s u types members names types members names (Refused r)
+    → Took s u types members names types members names (Err r)
 took_no {r} {types} {members} {names} e = rw e (record { is = refl; types = refl; members = refl; names = refl })
 
 -- a verdict was carried out that is the one asked for
-pub took_so : {s s' : Verdict} {u : Used} {t₀ m₀ n₀ t m n : List ℕ} {r : Progress}
+pub took_so : {s s' : Verdict} {u : Used} {t₀ m₀ n₀ t m n : List ℕ} {r : Result Used Refusal}
     → s ≡ s' → Took s' u t₀ m₀ n₀ t m n r → Took s u t₀ m₀ n₀ t m n r
 took_so e t = rw e t
 
 -- so much is used afterwards
 pub took_used : {s : Verdict} {u : Used} {t₀ m₀ n₀ t m n : List ℕ} {r r' : Used}
-    → r ≡ r' → Took s u t₀ m₀ n₀ t m n (Added r') → Took s u t₀ m₀ n₀ t m n (Added r)
+    → r ≡ r' → Took s u t₀ m₀ n₀ t m n (Ok r') → Took s u t₀ m₀ n₀ t m n (Ok r)
 took_used e t = rw e t

@@ -1,5 +1,6 @@
 -- Laws of template ids (document 01, "Ids"): one id more is held, the search over the rows finds what the definition
 -- over the list of ids does, and what is picked lies in the range and is held by no type.
+use Rattle.std.specs.Prelude.{Result, Ok, Err}
 use Prim.Native.Nat.{ℕ, zero, suc, ◌+◌, ◌-◌, ◌<◌, ◌≤◌}
 use native.Mathlib.Decide.{dec_lt}
 use native.Mathlib.Omega.{arith}
@@ -12,8 +13,8 @@ use Rattle.words.proofs.TestLaws.{or_right, clash}
 use Rattle.types.specs.adding.Ids.{id_word, in_use, lowest_from, lowest_free, id_for}
 use Rattle.types.specs.book.Contents.{list_from}
 use Rattle.types.specs.inside.adding.Ids.{Held, Lowest}
-use Rattle.types.specs.declared.adding.ids.Picked.{Picked}
-use Rattle.types.specs.declared.adding.ids.Picked.TheVariants.{Free, OutsideRange, InUse, NoneFree}
+use Rattle.types.specs.declared.adding.ids.IdFault.{IdFault}
+use Rattle.types.specs.declared.adding.ids.IdFault.TheVariants.{OutsideRange, InUse, NoneFree}
 
 -- where the ids from 0x100 to below r are held and a row holds r, those up to r are held
 pub held_more : (t : List ℕ) (n r i : ℕ) → ((k : ℕ) → 0x100 ≤ k → k < r → Held t n k) → i < n → id_word t i ≡ r
@@ -88,19 +89,19 @@ use_held t k j (suc n) e = go (use_held t k (j + 1) n) (eqb (id_word t j) k) ref
 -- ---- the lowest free id
 
 free_at : (ids : List ℕ) (k m r : ℕ) → k ≤ r → r < k + m → ((j : ℕ) → k ≤ j → j < r → in_use j ids ≡ true)
-    → in_use r ids ≡ false → Free r ≡ lowest_from ids k m
+    → in_use r ids ≡ false → Ok r ≡ lowest_from ids k m
 unfolding lowest_from
 free_at ids k zero r l h t f = absurd (let z : ⊥ = omega arith in z)
 free_at ids k (suc m) r l h t f =
     go (λ b. free_at ids (k + 1) m r (omega (arith, b)) (omega arith) (λ j a c. t j (omega arith) c) f) (dec_lt k r)
   where
-    go : (k < r → Free r ≡ lowest_from ids (k + 1) m) → Dec (k < r)
-        → Free r ≡ cond (in_use k ids) (lowest_from ids (k + 1) m) (Free k)
+    go : (k < r → Ok r ≡ lowest_from ids (k + 1) m) → Dec (k < r)
+        → Ok r ≡ cond (in_use k ids) (lowest_from ids (k + 1) m) (Ok k)
     go ih (yes b) = rw (t k (omega arith) b) (ih b)
     go ih (no b) = let q : k ≡ r = omega (arith, b) in rw (q, f)
 
 none_free : (ids : List ℕ) (k m : ℕ) → ((j : ℕ) → k ≤ j → j < k + m → in_use j ids ≡ true)
-    → NoneFree ≡ lowest_from ids k m
+    → Err NoneFree ≡ lowest_from ids k m
 unfolding lowest_from
 none_free ids k zero t = refl
 none_free ids k (suc m) t =
@@ -124,36 +125,36 @@ module _ (t : List ℕ) (n r : ℕ) (w : Lowest t n r) where
 
 module _ (ids : List ℕ) (id : ℕ) where
   -- a given id below 0x100 is outside the range
-  pub pick_low : id < 0x100 → OutsideRange ≡ id_for ids true id
+  pub pick_low : id < 0x100 → Err OutsideRange ≡ id_for ids true id
   unfolding id_for
   pick_low l = simp (lt-leb _ _ l)
 
   -- a given id above 0xEFF is outside the range
-  pub pick_high : 0x100 ≤ id → 0xEFF < id → OutsideRange ≡ id_for ids true id
+  pub pick_high : 0x100 ≤ id → 0xEFF < id → Err OutsideRange ≡ id_for ids true id
   unfolding id_for
   pick_high l h = simp (le-leb _ _ l, lt-leb _ _ h)
 
   module _ (l : 0x100 ≤ id) (h : id ≤ 0xEFF) (b : Bool) (e : b ≡ in_use id ids) where
     -- a given id inside the range that a type holds is in use
-    pub pick_used : b ≡ true → InUse ≡ id_for ids true id
+    pub pick_used : b ≡ true → Err InUse ≡ id_for ids true id
     unfolding id_for
     pick_used q = simp (le-leb _ _ l, le-leb _ _ h, sym e ∙ q)
 
     -- a given id inside the range that no type holds is picked
-    pub pick_given : b ≡ false → Free id ≡ id_for ids true id
+    pub pick_given : b ≡ false → Ok id ≡ id_for ids true id
     unfolding id_for
     pick_given q = simp (le-leb _ _ l, le-leb _ _ h, sym e ∙ q)
 
 module _ (t : List ℕ) (n id : ℕ) {r : ℕ} (w : Lowest t n r) where
   -- where no id is given, the lowest id that no row holds is picked
-  pub pick_lowest : r < 0xF00 → Free r ≡ id_for (list_from (id_word t) 0 n) false id
+  pub pick_lowest : r < 0xF00 → Ok r ≡ id_for (list_from (id_word t) 0 n) false id
   unfolding id_for lowest_free
   pick_lowest l =
       free_at (list_from (id_word t) 0 n) 0x100 0xE00 r w.low (omega arith) (taken_below t n r w)
       (free_there t n r w l)
 
   -- where no id is given and the rows hold every id of the range, none is free
-  pub pick_none : 0xF00 ≤ r → NoneFree ≡ id_for (list_from (id_word t) 0 n) false id
+  pub pick_none : 0xF00 ≤ r → Err NoneFree ≡ id_for (list_from (id_word t) 0 n) false id
   unfolding id_for lowest_free
   pick_none l =
       none_free (list_from (id_word t) 0 n) 0x100 0xE00 (λ j a b. taken_below t n r w j a (omega arith))
@@ -161,24 +162,18 @@ module _ (t : List ℕ) (n id : ℕ) {r : ℕ} (w : Lowest t n r) where
 -- ---- what is picked
 
 -- an id that is picked lies in the range
-abbrev pub InRange : Picked → Type 0
-InRange (Free id) = (0x100 ≤ id) × (id ≤ 0xEFF)
-InRange OutsideRange = Unit {0}
-InRange InUse = Unit {0}
-InRange NoneFree = Unit {0}
+abbrev pub InRange : Result ℕ IdFault → Type 0
+InRange (Ok id) = (0x100 ≤ id) × (id ≤ 0xEFF)
+InRange (Err f) = Unit {0}
 
 -- and so does one of m ids from k on
-abbrev AmongIds : ℕ → ℕ → Picked → Type 0
-AmongIds k m (Free id) = (k ≤ id) × (id < k + m)
-AmongIds k m OutsideRange = Unit {0}
-AmongIds k m InUse = Unit {0}
-AmongIds k m NoneFree = Unit {0}
+abbrev AmongIds : ℕ → ℕ → Result ℕ IdFault → Type 0
+AmongIds k m (Ok id) = (k ≤ id) × (id < k + m)
+AmongIds k m (Err f) = Unit {0}
 
-from_more : (k m : ℕ) (p : Picked) → AmongIds (k + 1) m p → AmongIds k (suc m) p
-from_more k m (Free id) (a, b) = (omega arith, omega arith)
-from_more k m OutsideRange a = tt
-from_more k m InUse a = tt
-from_more k m NoneFree a = tt
+from_more : (k m : ℕ) (p : Result ℕ IdFault) → AmongIds (k + 1) m p → AmongIds k (suc m) p
+from_more k m (Ok id) (a, b) = (omega arith, omega arith)
+from_more k m (Err f) a = tt
 
 from_range : (ids : List ℕ) (k m : ℕ) → AmongIds k m (lowest_from ids k m)
 unfolding lowest_from
@@ -186,7 +181,7 @@ from_range ids k zero = tt
 from_range ids k (suc m) = go (in_use k ids) (from_more k m (lowest_from ids (k + 1) m) (from_range ids (k + 1) m))
   where
     go : (b : Bool) → AmongIds k (suc m) (lowest_from ids (k + 1) m)
-        → AmongIds k (suc m) (cond b (lowest_from ids (k + 1) m) (Free k))
+        → AmongIds k (suc m) (cond b (lowest_from ids (k + 1) m) (Ok k))
     go true rest = rest
     go false rest = (omega arith, omega arith)
 
@@ -196,7 +191,7 @@ unfolding id_for lowest_free
 picked_range ids true id = go (leb 0x100 id && leb id 0xEFF) refl (in_use id ids)
   where
     go : (b : Bool) → (leb 0x100 id && leb id 0xEFF) ≡ b → (u : Bool)
-        → InRange (cond b (cond u InUse (Free id)) OutsideRange)
+        → InRange (cond b (cond u (Err InUse) (Ok id)) (Err OutsideRange))
     go true e true = tt
     go true e false =
         let both = (and-eq-true_iff (leb 0x100 id) (leb id 0xEFF)).0 e in
@@ -204,18 +199,14 @@ picked_range ids true id = go (leb 0x100 id && leb id 0xEFF) refl (in_use id ids
     go false e u = tt
 picked_range ids false id = go (lowest_from ids 0x100 0xE00) (from_range ids 0x100 0xE00)
   where
-    go : (p : Picked) → AmongIds 0x100 0xE00 p → InRange p
-    go (Free k) (a, b) = (a, omega arith)
-    go OutsideRange a = tt
-    go InUse a = tt
-    go NoneFree a = tt
+    go : (p : Result ℕ IdFault) → AmongIds 0x100 0xE00 p → InRange p
+    go (Ok k) (a, b) = (a, omega arith)
+    go (Err f) a = tt
 
 -- and no type holds it
-abbrev pub IdUnheld : List ℕ → Picked → Type 0
-IdUnheld ids (Free id) = in_use id ids ≡ false
-IdUnheld ids OutsideRange = Unit {0}
-IdUnheld ids InUse = Unit {0}
-IdUnheld ids NoneFree = Unit {0}
+abbrev pub IdUnheld : List ℕ → Result ℕ IdFault → Type 0
+IdUnheld ids (Ok id) = in_use id ids ≡ false
+IdUnheld ids (Err f) = Unit {0}
 
 from_unheld : (ids : List ℕ) (k m : ℕ) → IdUnheld ids (lowest_from ids k m)
 unfolding lowest_from
@@ -223,7 +214,7 @@ from_unheld ids k zero = tt
 from_unheld ids k (suc m) = go (in_use k ids) refl (from_unheld ids (k + 1) m)
   where
     go : (b : Bool) → in_use k ids ≡ b → IdUnheld ids (lowest_from ids (k + 1) m)
-        → IdUnheld ids (cond b (lowest_from ids (k + 1) m) (Free k))
+        → IdUnheld ids (cond b (lowest_from ids (k + 1) m) (Ok k))
     go true e rest = rest
     go false e rest = e
 
@@ -232,7 +223,7 @@ pub picked_unheld : (ids : List ℕ) (given : Bool) (id : ℕ) → IdUnheld ids 
 unfolding id_for lowest_free
 picked_unheld ids true id = go (leb 0x100 id && leb id 0xEFF) (in_use id ids) refl
   where
-    go : (b u : Bool) → in_use id ids ≡ u → IdUnheld ids (cond b (cond u InUse (Free id)) OutsideRange)
+    go : (b u : Bool) → in_use id ids ≡ u → IdUnheld ids (cond b (cond u (Err InUse) (Ok id)) (Err OutsideRange))
     go true true e = tt
     go true false e = e
     go false u e = tt

@@ -1,6 +1,7 @@
 -- Laws of a type's verdict (document 01, "Refusal numbers" and "Order of building"): a type that is added fits into the
 -- registry, has the name of its entry and an id and a name that no earlier type has, and no way out of adding is
 -- refusal 10.
+use Rattle.std.specs.Prelude.{Option, Some, None, Result, Ok, Err}
 use Prim.Native.Nat.{ℕ, zero, suc, ◌+◌, ◌*◌, ◌<◌, ◌≤◌}
 use native.Mathlib.Omega.{arith}
 use mathlib.Core.Path.{◌≡◌, refl, sym}
@@ -19,7 +20,7 @@ use Rattle.types.specs.atomics.Lookup.{type_among}
 use Rattle.types.specs.book.Contents.{is_aoi, is_string, has_id, list_from, type_entry}
 use Rattle.types.specs.book.Decls.{stored_ty, resolved, declared}
 use Rattle.types.specs.book.Names.{good_name}
-use Rattle.types.specs.inside.layout.Passes.{parts_of, measured_of}
+use Rattle.types.specs.inside.layout.Passes.{parts_of, measured_of, Measured, came}
 use Rattle.types.specs.layout.Laid.{Laid as Lies, Resolved, Every}
 use Rattle.types.specs.layout.Placing.{most_size}
 use Rattle.types.specs.layout.Structs.{named_in, laid_kind, rounded_size as size_of}
@@ -28,17 +29,13 @@ use Rattle.types.specs.rounds.Turns.{stuck_at, entries_at, count_of, then_decl, 
 use Rattle.types.specs.tables.Defs.{Part, Def, name_in}
 use Rattle.types.specs.tables.Limits.{most_members}
 use Rattle.types.specs.tables.Registry.{View, size_at, own_names, view_of}
-use Rattle.types.specs.declared.adding.checks.Checked.{Checked}
-use Rattle.types.specs.declared.adding.checks.Checked.TheVariants.{Good, NameWrong, Twice, LocalOutside}
-use Rattle.types.specs.declared.adding.ids.Picked.{Picked}
-use Rattle.types.specs.declared.adding.ids.Picked.TheVariants.{Free, OutsideRange, InUse, NoneFree}
-use Rattle.types.specs.declared.atomics.lookup.FoundTy.{FoundTy}
-use Rattle.types.specs.declared.atomics.lookup.FoundTy.TheVariants.{Is, Nothing}
+use Rattle.types.specs.declared.adding.checks.MemberFault.{MemberFault}
+use Rattle.types.specs.declared.adding.checks.MemberFault.TheVariants.{NameWrong, Twice, LocalOutside}
+use Rattle.types.specs.declared.adding.ids.IdFault.{IdFault}
+use Rattle.types.specs.declared.adding.ids.IdFault.TheVariants.{OutsideRange, InUse, NoneFree}
 use Rattle.types.specs.declared.book.contents.MemberEntry.{MemberEntry}
 use Rattle.types.specs.declared.book.contents.TypeEntry.{TypeEntry}
-use Rattle.types.specs.declared.layout.measure.Measured.{Measured}
-use Rattle.types.specs.declared.layout.measure.Measured.TheVariants.{Came, AccessWrong as access_wrong}
-use Rattle.types.specs.declared.layout.measure.Measured.TheVariants.{TooFar as too_far}
+use Rattle.types.specs.declared.layout.placing.LayoutFault.TheVariants.{AccessWrong, TooFar}
 use Rattle.types.specs.declared.layout.placing.Cursor.{Cursor}
 use Rattle.types.specs.declared.layout.placing.Decl.{Decl}
 use Rattle.types.specs.declared.tables.member.StructKind.{StructKind}
@@ -92,7 +89,7 @@ module _ (v : View) (book : List ℕ) (i at : ℕ) (e : TypeEntry) (name : List 
   VerdictEnds s = VerdictMade v name ds s
 
   module _ (good : good_name name ≡ true) (new : is_found (type_among v.names name) ≡ false) (id : ℕ)
-      (range : InRange (Free id)) (free : IdUnheld v.ids (Free id)) where
+      (range : InRange (Ok id)) (free : IdUnheld v.ids (Ok id)) where
     fitted_ends : (size : ℕ) (kind : StructKind) (parts : List Part)
         → ((n : ℕ) → Every (DeclAble n) ds → Every (PartFits n) parts)
         → ((n : ℕ) → Every (Resolved (size_at v) n) ds → Lies (size_at v) n size parts)
@@ -135,21 +132,22 @@ module _ (v : View) (book : List ℕ) (i at : ℕ) (e : TypeEntry) (name : List 
         (not_predefined (laid_kind aoi) (declared_kind aoi))))
       where
         go : (m : Measured)
-            → ((c : Cursor) (n : ℕ) → m ≡ Came c n
+            → ((c : Cursor) (n : ℕ) → m ≡ came c n
             → VerdictEnds (fitted v i (new_def v name id (size_of c) (laid_kind aoi)
             (parts_of aoi (named_in book) name ds))))
             → VerdictEnds (on_laid (both (parts_of aoi (named_in book) name ds) m) i
             (λ parts size. fitted v i (new_def v name id size (laid_kind aoi) parts)))
-        go (Came c n) f = f c n refl
-        go access_wrong f = λ z. omega arith
-        go too_far f = λ z. omega arith
+        go (Ok (c, n)) f = f c n refl
+        go (Err AccessWrong) f = λ z. omega arith
+        go (Err TooFar) f = λ z. omega arith
 
     -- per member 2, 8, 9
-    checked_ends : (c : Checked) (k : Verdict) → (c ≡ Good → VerdictEnds k) → VerdictEnds (on_checked c i k)
-    checked_ends Good k f = f refl
-    checked_ends NameWrong k f = λ z. omega arith
-    checked_ends Twice k f = λ z. omega arith
-    checked_ends LocalOutside k f = λ z. omega arith
+    checked_ends : (c : Result (Unit {0}) MemberFault) (k : Verdict) → (c ≡ Ok tt → VerdictEnds k)
+        → VerdictEnds (on_checked c i k)
+    checked_ends (Ok tt) k f = f refl
+    checked_ends (Err NameWrong) k f = λ z. omega arith
+    checked_ends (Err Twice) k f = λ z. omega arith
+    checked_ends (Err LocalOutside) k f = λ z. omega arith
 
     members_ends : (aoi : Bool) → VerdictEnds (add_members v book i at e.count aoi name id ds)
     unfolding add_members
@@ -174,12 +172,12 @@ module _ (v : View) (book : List ℕ) (i at : ℕ) (e : TypeEntry) (name : List 
     named_ends = either VerdictEnds (is_string e) (λ q. string_ends) (λ q. members_ends (is_aoi e))
 
   -- 4, 5, 6
-  picked_ends : (p : Picked) (k : ℕ → Verdict) → InRange p → IdUnheld v.ids p
-      → ((id : ℕ) → InRange (Free id) → IdUnheld v.ids (Free id) → VerdictEnds (k id)) → VerdictEnds (on_id p i k)
-  picked_ends (Free id) k range free f = f id range free
-  picked_ends OutsideRange k range free f = λ z. omega arith
-  picked_ends InUse k range free f = λ z. omega arith
-  picked_ends NoneFree k range free f = λ z. omega arith
+  picked_ends : (p : Result ℕ IdFault) (k : ℕ → Verdict) → InRange p → IdUnheld v.ids p
+      → ((id : ℕ) → InRange (Ok id) → IdUnheld v.ids (Ok id) → VerdictEnds (k id)) → VerdictEnds (on_id p i k)
+  picked_ends (Ok id) k range free f = f id range free
+  picked_ends (Err OutsideRange) k range free f = λ z. omega arith
+  picked_ends (Err InUse) k range free f = λ z. omega arith
+  picked_ends (Err NoneFree) k range free f = λ z. omega arith
 
   fresh_ends : good_name name ≡ true → is_found (type_among v.names name) ≡ false
       → VerdictEnds (add_fresh v book i at e name ds)
@@ -206,7 +204,7 @@ entries_small book at j (suc n) b =
     (word_below 1 book (at + 16 * j + 7) b, entries_small book at (j + 1) n b)
 
 -- each is of a type that was found among the names
-decl_able : (v : View) (e : MemberEntry) (s : List ℕ) (ty : Ty) → e.access < 256 → type_among v.names s ≡ Is ty
+decl_able : (v : View) (e : MemberEntry) (s : List ℕ) (ty : Ty) → e.access < 256 → type_among v.names s ≡ Some ty
     → DeclAble (length v.names) (declared (size_at v) ty e)
 unfolding resolved
 decl_able v e s ty a q =
@@ -219,11 +217,11 @@ decls_able v book [] a = tt
 decls_able v book (e ∷ es) (a, rest) =
     go (type_among v.names (name_in book e.ty)) refl (decls_able v book es rest)
   where
-    go : (f : FoundTy) → type_among v.names (name_in book e.ty) ≡ f
+    go : (f : Option Ty) → type_among v.names (name_in book e.ty) ≡ f
         → Every (DeclAble (length v.names)) (decls_of v book es)
         → Every (DeclAble (length v.names)) (then_decl f (λ ty. declared (size_at v) ty e) (decls_of v book es))
-    go (Is ty) q ih = (decl_able v e (name_in book e.ty) ty a q, ih)
-    go Nothing q ih = tt
+    go (Some ty) q ih = (decl_able v e (name_in book e.ty) ty a q, ih)
+    go None q ih = tt
 
 -- and has the name of its entry
 decls_named : (v : View) (book : List ℕ) (es : List MemberEntry) → NamedEntries book es
@@ -233,10 +231,10 @@ decls_named v book [] a = tt
 decls_named v book (e ∷ es) (a, rest) =
     go (type_among v.names (name_in book e.ty)) (decls_named v book es rest)
   where
-    go : (f : FoundTy) → NamedDecls book (decls_of v book es)
+    go : (f : Option Ty) → NamedDecls book (decls_of v book es)
         → NamedDecls book (then_decl f (λ ty. declared (size_at v) ty e) (decls_of v book es))
-    go (Is ty) ih = (a, ih)
-    go Nothing ih = tt
+    go (Some ty) ih = (a, ih)
+    go None ih = tt
 
 -- ---- a verdict over a registry
 
@@ -285,7 +283,7 @@ verdict_fits book ds i d b s e =
 
 -- ---- and is laid out well
 
-decl_resolved : (v : View) (e : MemberEntry) (s : List ℕ) (ty : Ty) → type_among v.names s ≡ Is ty
+decl_resolved : (v : View) (e : MemberEntry) (s : List ℕ) (ty : Ty) → type_among v.names s ≡ Some ty
     → Resolved (size_at v) (length v.names) (declared (size_at v) ty e)
 unfolding resolved
 decl_resolved v e s ty q =
@@ -302,12 +300,12 @@ decls_resolved v book [] = tt
 decls_resolved v book (e ∷ es) =
     go (type_among v.names (name_in book e.ty)) refl (decls_resolved v book es)
   where
-    go : (f : FoundTy) → type_among v.names (name_in book e.ty) ≡ f
+    go : (f : Option Ty) → type_among v.names (name_in book e.ty) ≡ f
         → Every (Resolved (size_at v) (length v.names)) (decls_of v book es)
         → Every (Resolved (size_at v) (length v.names))
         (then_decl f (λ ty. declared (size_at v) ty e) (decls_of v book es))
-    go (Is ty) q ih = (decl_resolved v e (name_in book e.ty) ty q, ih)
-    go Nothing q ih = tt
+    go (Some ty) q ih = (decl_resolved v e (name_in book e.ty) ty q, ih)
+    go None q ih = tt
 
 module _ (book : List ℕ) (ds : List Def) (i : ℕ) (d : Def) (e : verdict_on book (view_of ds) i ≡ yes d) where
   -- the parts of a type that is added have earlier types and lie inside its size, the visible ones apart

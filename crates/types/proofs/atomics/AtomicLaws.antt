@@ -1,5 +1,6 @@
 -- Laws of the atomic types: places and atomics name each other; the code's table is the definition's rows; a search
 -- over the fifteen goes one after the other.
+use Rattle.std.specs.Prelude.{Option, Some, None}
 use Prim.Native.Nat.{ℕ, zero, suc, ◌+◌, ◌-◌, ◌≤◌, ◌<◌}
 use native.Mathlib.Nat.{not-suc-le-zero, le_of_suc-le-suc}
 use native.Mathlib.Numerals.{add-one}
@@ -8,7 +9,7 @@ use mathlib.Core.Path.{◌≡◌, refl, sym, ap, ◌∙◌}
 use mathlib.Core.Bool.{Bool, true, false, cond}
 use mathlib.Core.List.{List, [], ◌∷◌, map}
 use lib.Arith.{lt_of_le-ne}
-use lib.Dec.{lit<, ltb}
+use lib.Dec.{lit<, lit≤, ltb}
 use lib.ListN.{length, get_or, take, drop, length-append, get_or-eq_default, get_or-map}
 use lib.Seq.{drop-cons, take-append_seam}
 use Rattle.types.specs.atomics.Atomic.{atomics, atomic_at, code_of, num_of, name_of, row_of, first_of, atomic_named}
@@ -21,8 +22,6 @@ use Rattle.types.specs.declared.atomics.atomic.Atomic.TheVariants.{Bool as BOOL,
 use Rattle.types.specs.declared.atomics.atomic.Atomic.TheVariants.{UInt, UDInt, ULInt, Real, LReal, Byte, Word}
 use Rattle.types.specs.declared.atomics.atomic.Atomic.TheVariants.{DWord, LWord}
 use Rattle.types.specs.declared.atomics.atomic.AtomicRow.{AtomicRow}
-use Rattle.types.specs.declared.atomics.atomic.FoundAtomic.{FoundAtomic}
-use Rattle.types.specs.declared.atomics.atomic.FoundAtomic.TheVariants.{Is, Nothing}
 
 -- the atomic at the place of an atomic is that atomic
 pub at_num : (a : Atomic) → atomic_at (num_of a) ≡ a
@@ -70,10 +69,34 @@ pub row_long : (a : Atomic) {r : AtomicRow} → r ≡ row_of a → r.2 ≤ lengt
 unfolding row_of
 row_long a {r} e = rw e (simp length-append (omega arith))
 
+-- a name has at most five bytes
+name_five : (a : Atomic) → length (name_of a) ≤ 5
+unfolding name_of
+name_five BOOL = lit≤ tt
+name_five SInt = lit≤ tt
+name_five Int = lit≤ tt
+name_five DInt = lit≤ tt
+name_five LInt = lit≤ tt
+name_five USInt = lit≤ tt
+name_five UInt = lit≤ tt
+name_five UDInt = lit≤ tt
+name_five ULInt = lit≤ tt
+name_five Real = lit≤ tt
+name_five LReal = lit≤ tt
+name_five Byte = lit≤ tt
+name_five Word = lit≤ tt
+name_five DWord = lit≤ tt
+name_five LWord = lit≤ tt
+
+-- so has the name that stands in a row
+pub row_five : (a : Atomic) {r : AtomicRow} → r ≡ row_of a → r.2 ≤ 5
+unfolding row_of
+row_five a {r} e = rw e (name_five a)
+
 -- one atomic of those that are left in a search
 module _ (p : Atomic → Bool) (i : ℕ) (l : i < 15) (b : Bool) (e : b ≡ p (atomic_at i)) where
   -- where the i-th passes the test, it is the first of those left that does
-  pub first_hit : b ≡ true → Is (atomic_at i) ≡ first_of p (drop i atomics)
+  pub first_hit : b ≡ true → Some (atomic_at i) ≡ first_of p (drop i atomics)
   unfolding first_of atomic_at
   first_hit q = rw (drop-cons atomics i BOOL l, ← e, q)
 
@@ -83,7 +106,7 @@ module _ (p : Atomic → Bool) (i : ℕ) (l : i < 15) (b : Bool) (e : b ≡ p (a
   first_miss q = rw (add-one, drop-cons atomics i BOOL l, ← e, q)
 
 -- where none is left, no atomic is found
-pub first_none : (p : Atomic → Bool) (i : ℕ) → 15 ≤ i → i ≤ 15 → Nothing ≡ first_of p (drop i atomics)
+pub first_none : (p : Atomic → Bool) (i : ℕ) → 15 ≤ i → i ≤ 15 → None ≡ first_of p (drop i atomics)
 unfolding first_of
 first_none p i h k =
     let e : i ≡ 15 = omega arith in
@@ -96,7 +119,7 @@ first_said p [] = refl
 first_said p (a ∷ l) = go (p a) (first_said p l)
   where
     go : (b : Bool) → said_by (first_of p l) ≡ first_code p l
-        → said_by (cond b (Is a) (first_of p l)) ≡ cond b (done (code_of a)) (first_code p l)
+        → said_by (cond b (Some a) (first_of p l)) ≡ cond b (done (code_of a)) (first_code p l)
     go true e = refl
     go false e = e
 
@@ -141,16 +164,16 @@ pub at_is : {a : Atomic} (i : ℕ) → code_of a ≡ code_at i → a ≡ atomic_
 at_is {a} i e = code_same a (atomic_at i) (e ∙ sym (at_said i))
 
 -- answers that say the same are the same
-pub found_same : (r s : FoundAtomic) → said_by r ≡ said_by s → r ≡ s
-found_same (Is a) (Is b) e =
+pub found_same : (r s : Option Atomic) → said_by r ≡ said_by s → r ≡ s
+found_same (Some a) (Some b) e =
     let c : code_of a ≡ code_of b = cc in
-    ap Is (code_same a b c)
-found_same (Is a) Nothing e = cc
-found_same Nothing (Is b) e = cc
-found_same Nothing Nothing e = refl
+    ap Some (code_same a b c)
+found_same (Some a) None e = cc
+found_same None (Some b) e = cc
+found_same None None e = refl
 
 -- so an answer that says a name's code is the atomic of that name
-pub named_is : {r : FoundAtomic} (s : List ℕ) → said_by r ≡ code_named s → r ≡ atomic_named s
+pub named_is : {r : Option Atomic} (s : List ℕ) → said_by r ≡ code_named s → r ≡ atomic_named s
 named_is {r} s e = found_same r (atomic_named s) (e ∙ sym (named_said s))
 
 -- i is none of 1 to n, as the arms of a match leave it

@@ -1,15 +1,15 @@
 -- Laws of names: equality without case goes by the small letters, one byte after the other; the rule goes byte by byte.
 use Prim.Native.Nat.{ℕ, zero, suc, ◌+◌, ◌-◌, ◌≤◌, ◌<◌}
+use Rattle.std.specs.Char.{to_ascii_lowercase}
+use Rattle.std.proofs.lemmas.Str.Ascii.{lowercase_is}
 use native.Mathlib.Decide.{dec_lt}
-use native.Mathlib.Numerals.{add-one}
 use native.Mathlib.Omega.{arith}
 use mathlib.Core.Path.{◌≡◌, refl, sym, ap, ◌∙◌}
 use mathlib.Core.Bool.{Bool, true, false, ◌&&◌, not}
 use mathlib.Core.List.{List, [], ◌∷◌, map}
 use borrow.Author.Tests.{eq-eqb, ne_eqb, eqb-true, le-leb, lt-leb, leb-true}
 use lib.Dec.{eqb, leb}
-use lib.ListN.{length, get_or, drop, drop_of_length-le}
-use lib.Seq.{drop-cons}
+use lib.ListN.{length, get_or}
 use Rattle.words.proofs.TestLaws.{and_left, and_right, and_off}
 use Rattle.types.specs.book.Names.{lower_of, same_name, name_byte, name_bytes, good_name}
 
@@ -29,6 +29,18 @@ lower_capital x h k = simp (le-leb 65 x h, le-leb x 90 k)
 pub lower_above : (x : ℕ) → 65 ≤ x → 90 < x → x ≡ lower_of x
 unfolding lower_of
 lower_above x h k = simp (le-leb 65 x h, lt-leb x 90 k)
+
+-- std's small letter of a byte is that small letter
+pub lower_is : (x : ℕ) → to_ascii_lowercase x ≡ lower_of x
+lower_is x = go (dec_lt x 65) (dec_lt 90 x)
+  where
+    go : Dec (x < 65) → Dec (90 < x) → to_ascii_lowercase x ≡ lower_of x
+    go (yes a) o = (lowercase_is x).1 a ∙ lower_below x a
+    go (no a) (yes b) = (lowercase_is x).2 b ∙ lower_above x (omega (arith, a)) b
+    go (no a) (no b) =
+        let least : 65 ≤ x = omega (arith, a) in
+        let most : x ≤ 90 = omega (arith, b) in
+        (lowercase_is x).0 (least, most) ∙ lower_capital x least most
 
 -- ---- equality without case
 
@@ -148,26 +160,29 @@ pub byte_within : (x : ℕ) → 0x21 ≤ x → x ≤ 0x7E → not (eqb x 59) ≡
 unfolding name_byte
 byte_within x h k = simp (le-leb 0x21 x h, le-leb x 0x7E k)
 
--- one byte of what is left of a name
-module _ (s : List ℕ) (i : ℕ) (l : i < length s) {b : Bool} (e : b ≡ name_byte (get_or s i 0)) where
-  -- where the i-th byte is allowed, what is left is allowed where the bytes after it are
-  pub bytes_on : b ≡ true → name_bytes (drop i s) ≡ name_bytes (drop (i + 1) s)
-  unfolding name_bytes
-  bytes_on q =
-      let g : name_byte (get_or s i 0) ≡ true = sym e ∙ q in
-      rw (add-one, drop-cons s i 0 l, g)
-
-  -- where the i-th byte is not allowed, what is left is not
-  pub bytes_off : b ≡ false → name_bytes (drop i s) ≡ false
-  unfolding name_bytes
-  bytes_off q =
-      let g : name_byte (get_or s i 0) ≡ false = sym e ∙ q in
-      rw (drop-cons s i 0 l, g)
-
--- where no byte is left, what is left is allowed
-pub bytes_done : (s : List ℕ) (i : ℕ) → length s ≤ i → name_bytes (drop i s) ≡ true
+-- where all bytes of a name are allowed, each is
+bytes_each : (s : List ℕ) → name_bytes s ≡ true → (k : ℕ) → k < length s → name_byte (get_or s k 0) ≡ true
 unfolding name_bytes
-bytes_done s i l = rw (drop_of_length-le s l)
+bytes_each [] q k h = absurd (let z : ⊥ = omega arith in z)
+bytes_each (x ∷ xs) q zero h = and_left (name_byte x) (name_bytes xs) q
+bytes_each (x ∷ xs) q (suc k) h = bytes_each xs (and_right (name_byte x) (name_bytes xs) q) k (omega arith)
+
+-- where each byte of a name is allowed, all are
+each_bytes : (s : List ℕ) → ((k : ℕ) → k < length s → name_byte (get_or s k 0) ≡ true) → name_bytes s ≡ true
+unfolding name_bytes
+each_bytes [] e = refl
+each_bytes (x ∷ xs) e = rw (e 0 (omega arith)) (each_bytes xs (λ k h. e (suc k) (omega arith)))
+
+-- a test that is passed where each byte of a name is allowed says whether all are
+pub bytes_tested : (s : List ℕ) (b : Bool)
+    → (b ≡ true → (k : ℕ) → k < length s → name_byte (get_or s k 0) ≡ true)
+    → (((k : ℕ) → k < length s → name_byte (get_or s k 0) ≡ true) → b ≡ true) → b ≡ name_bytes s
+bytes_tested s true each some = sym (each_bytes s (each refl))
+bytes_tested s false each some = go (name_bytes s) refl
+  where
+    go : (t : Bool) → name_bytes s ≡ t → false ≡ t
+    go true q = some (bytes_each s q)
+    go false q = refl
 
 -- a name of no bytes is not good
 pub good_empty : (s : List ℕ) → length s < 1 → false ≡ good_name s

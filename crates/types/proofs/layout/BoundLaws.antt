@@ -1,12 +1,13 @@
 -- How large a layout gets (document 01, "Layout"): as many parts and bytes of names as were counted, and at most
 -- 2^26 + 224 bytes where at most 2,000 members result.
+use Rattle.std.specs.Prelude.{Result}
 use Prim.Native.Nat.{ℕ, zero, suc, ◌+◌, ◌-◌, ◌*◌, ◌≤◌}
 use native.Mathlib.Omega.{arith}
 use mathlib.Core.Path.{◌≡◌, refl, ap}
 use mathlib.Core.Bool.{Bool, true, false}
 use mathlib.Core.List.{List, [], ◌∷◌}
 use lib.ListN.{length, length-append}
-use Rattle.types.specs.inside.layout.Passes.{then_parts, parts_from, measured, udt_parts, aoi_parts, parts_of}
+use Rattle.types.specs.inside.layout.Passes.{then_parts, parts_from, measured, udt_parts, aoi_parts, parts_of, came}
 use Rattle.types.specs.inside.layout.Passes.{measured_aoi, measured_of}
 use Rattle.types.specs.layout.HostNames.{host_name}
 use Rattle.types.specs.layout.Laid.{Every}
@@ -14,27 +15,28 @@ use Rattle.types.specs.layout.Placing.{most_size, align_up, opened, next_bit}
 use Rattle.types.specs.layout.Structs.{names_of, rounded_size, udt_start, aoi_hosts, host_parts, aoi_start, string_size}
 use Rattle.types.specs.tables.Defs.{Part}
 use Rattle.types.specs.tables.Limits.{most_members}
-use Rattle.types.specs.declared.layout.measure.Measured.TheVariants.{Came}
 use Rattle.types.specs.declared.layout.placing.Cursor.{Cursor}
 use Rattle.types.specs.declared.layout.placing.Decl.{Decl}
 use Rattle.types.specs.declared.layout.placing.Host.{Host}
 use Rattle.types.specs.declared.layout.placing.Host.TheVariants.{Closed, Open, Shared}
+use Rattle.types.specs.declared.layout.placing.LayoutFault.{LayoutFault}
 use Rattle.types.specs.declared.layout.placing.Placed.{Placed}
-use Rattle.types.proofs.layout.PlaceLaws.{Full, place_cases, LayoutEnds, no_access, no_far, past_other}
+use Rattle.types.proofs.layout.PlaceLaws.{Full, place_cases, LayoutEnds, no_access, no_far, past_other, came_cursor}
+use Rattle.types.proofs.layout.PlaceLaws.{came_names}
 use Rattle.types.proofs.layout.StoreLaws.{names_append}
 
 -- ---- the counts
 
 module _ (name : Decl → List ℕ) (host : ℕ → List ℕ) (e : Cursor) (n' : ℕ) where
   -- the parts from a step on
-  abbrev after : Cursor → Decl → List Decl → Placed → List Part
+  abbrev after : Cursor → Decl → List Decl → Result Placed LayoutFault → List Part
   after c d ds p = then_parts p (host c.members) (name d) (λ c'. parts_from name host c' ds)
 
   -- there are as many parts as were counted
-  pub parts_count : (ds : List Decl) (c : Cursor) (n : ℕ) → measured host c n ds ≡ Came e n'
+  pub parts_count : (ds : List Decl) (c : Cursor) (n : ℕ) → measured host c n ds ≡ came e n'
       → c.members + length (parts_from name host c ds) ≡ e.members
   unfolding measured parts_from opened next_bit
-  parts_count [] c n q = let z : c ≡ e = cc in rw z (omega arith)
+  parts_count [] c n q = rw (came_cursor q) (omega arith)
   parts_count (d ∷ ds) c n q =
       place_cases (λ p. LayoutEnds host e n' c n d ds p → c.members + length (after c d ds p) ≡ e.members) c d
       (record {
@@ -49,9 +51,9 @@ module _ (name : Decl → List ℕ) (host : ℕ → List ℕ) (e : Cursor) (n' :
 
   -- and as many bytes of names
   pub names_count : (ds : List Decl) (c : Cursor) (n : ℕ) → Every (λ d. length (name d) ≡ d.name.long) ds
-      → measured host c n ds ≡ Came e n' → n + length (names_of (parts_from name host c ds)) ≡ n'
+      → measured host c n ds ≡ came e n' → n + length (names_of (parts_from name host c ds)) ≡ n'
   unfolding measured parts_from opened next_bit names_of Every
-  names_count [] c n l q = let z : n ≡ n' = cc in omega arith
+  names_count [] c n l q = omega (arith, came_names q)
   names_count (d ∷ ds) c n (l, ls) q =
       place_cases (λ p. LayoutEnds host e n' c n d ds p → n + length (names_of (after c d ds p)) ≡ n') c d
       (record {
@@ -71,7 +73,7 @@ hosts_count k zero = refl
 hosts_count k (suc h) = ap suc (hosts_count (k + 1) h)
 
 module _ (name : Decl → List ℕ) (type : List ℕ) (ds : List Decl) (n₀ : ℕ) (c : Cursor) (n : ℕ)
-    (q : measured (host_name type) udt_start n₀ ds ≡ Came c n) where
+    (q : measured (host_name type) udt_start n₀ ds ≡ came c n) where
   udt_count : length (udt_parts name type ds) ≡ c.members
   unfolding udt_parts
   udt_count = omega (arith, parts_count name (host_name type) c n ds udt_start n₀ q)
@@ -82,7 +84,7 @@ module _ (name : Decl → List ℕ) (type : List ℕ) (ds : List Decl) (n₀ : �
 
 -- an AOI's names begin with its hosts', EnableIn and EnableOut, which have 17 bytes
 module _ (name : Decl → List ℕ) (type : List ℕ) (ds : List Decl) (n₀ : ℕ) (c : Cursor) (n : ℕ)
-    (q : measured (host_name type) (aoi_start (aoi_hosts ds)) n₀ ds ≡ Came c n) where
+    (q : measured (host_name type) (aoi_start (aoi_hosts ds)) n₀ ds ≡ came c n) where
   aoi_count : length (aoi_parts name type ds) ≡ c.members
   unfolding aoi_parts
   aoi_count =
@@ -98,14 +100,14 @@ module _ (name : Decl → List ℕ) (type : List ℕ) (ds : List Decl) (n₀ : �
 
 -- a UDT or an AOI has as many parts as were counted
 pub type_count : (aoi : Bool) (name : Decl → List ℕ) (type : List ℕ) (ds : List Decl) (c : Cursor) (n : ℕ)
-    → measured_of aoi type ds ≡ Came c n → length (parts_of aoi name type ds) ≡ c.members
+    → measured_of aoi type ds ≡ came c n → length (parts_of aoi name type ds) ≡ c.members
 unfolding measured_aoi
 type_count true name type ds c n q = aoi_count name type ds _ c n q
 type_count false name type ds c n q = udt_count name type ds 0 c n q
 
 -- a UDT or an AOI has as many bytes of names as were counted, where each is as long as its entry says
 pub type_names : (aoi : Bool) (name : Decl → List ℕ) (type : List ℕ) (ds : List Decl) (c : Cursor) (n : ℕ)
-    → measured_of aoi type ds ≡ Came c n → Every (λ d. length (name d) ≡ d.name.long) ds
+    → measured_of aoi type ds ≡ came c n → Every (λ d. length (name d) ≡ d.name.long) ds
     → length (names_of (parts_of aoi name type ds)) ≡ n
 unfolding measured_aoi
 type_names true name type ds c n q l = aoi_names name type ds _ c n q l refl
@@ -134,9 +136,9 @@ abbrev NearEnd : Cursor → Type 0
 NearEnd c = 9 * c.offset ≤ 9 * most_size + (c.members + spare c.host)
 
 module _ (host : ℕ → List ℕ) (e : Cursor) (n' : ℕ) where
-  near : (c : Cursor) (n : ℕ) (ds : List Decl) → NearEnd c → measured host c n ds ≡ Came e n' → NearEnd e
+  near : (c : Cursor) (n : ℕ) (ds : List Decl) → NearEnd c → measured host c n ds ≡ came e n' → NearEnd e
   unfolding measured opened next_bit
-  near c n [] k q = let z : c ≡ e = cc in rw (← z) k
+  near c n [] k q = rw (← came_cursor q) k
   near c n (d ∷ ds) k q =
       place_cases (λ p. LayoutEnds host e n' c n d ds p → NearEnd e) c d
       (record {
@@ -156,7 +158,7 @@ module _ (host : ℕ → List ℕ) (e : Cursor) (n' : ℕ) where
       q
 
   -- 2,000 members are at most 222 hosts of nine and one of two past 2^26
-  size_most : (c : Cursor) (n : ℕ) (ds : List Decl) → NearEnd c → measured host c n ds ≡ Came e n'
+  size_most : (c : Cursor) (n : ℕ) (ds : List Decl) → NearEnd c → measured host c n ds ≡ came e n'
       → e.members ≤ most_members
       → rounded_size e ≤ most_size + 224
   unfolding align_up
@@ -164,10 +166,10 @@ module _ (host : ℕ → List ℕ) (e : Cursor) (n' : ℕ) where
 
 -- the hosts of an AOI are members too
 module _ (host : ℕ → List ℕ) (n₀ : ℕ) (ds : List Decl) (c : Cursor) (n : ℕ) where
-  udt_most : measured host udt_start n₀ ds ≡ Came c n → c.members ≤ most_members → rounded_size c ≤ most_size + 224
+  udt_most : measured host udt_start n₀ ds ≡ came c n → c.members ≤ most_members → rounded_size c ≤ most_size + 224
   udt_most q l = size_most host c n udt_start n₀ ds (omega arith) q l
 
-  aoi_most : (h : ℕ) → measured host (aoi_start h) n₀ ds ≡ Came c n → c.members ≤ most_members
+  aoi_most : (h : ℕ) → measured host (aoi_start h) n₀ ds ≡ came c n → c.members ≤ most_members
       → rounded_size c ≤ most_size + 224
   aoi_most h q l =
       let few = parts_count (λ d. []) host c n ds (aoi_start h) n₀ q in
@@ -175,7 +177,7 @@ module _ (host : ℕ → List ℕ) (n₀ : ℕ) (ds : List Decl) (c : Cursor) (n
 
 -- a UDT or an AOI of at most 2,000 members has at most 2^26 + 224 bytes
 pub type_most : (aoi : Bool) (type : List ℕ) (ds : List Decl) (c : Cursor) (n : ℕ)
-    → measured_of aoi type ds ≡ Came c n → c.members ≤ most_members → rounded_size c ≤ most_size + 224
+    → measured_of aoi type ds ≡ came c n → c.members ≤ most_members → rounded_size c ≤ most_size + 224
 unfolding measured_aoi
 type_most true type ds c n q l = aoi_most (host_name type) _ ds c n (aoi_hosts ds) q l
 type_most false type ds c n q l = udt_most (host_name type) 0 ds c n q l

@@ -1,5 +1,6 @@
 -- One step of a layout, in bits (document 01, "Layout"): it takes the bits of its visible member from those that the
 -- cursor has free, and leaves them used. Free are all bits from the offset on, and the rest of the host.
+use Rattle.std.specs.Prelude.{Some, Result, Ok, Err}
 use Prim.Native.Nat.{ℕ, ◌+◌, ◌-◌, ◌*◌, ◌/◌, ◌%◌, ◌≤◌, ◌<◌}
 use native.Mathlib.Nat.{div-add-mod', mod-lt}
 use native.Mathlib.Omega.{arith}
@@ -17,9 +18,9 @@ use Rattle.types.specs.declared.layout.placing.Cursor.{Cursor}
 use Rattle.types.specs.declared.layout.placing.Decl.{Decl}
 use Rattle.types.specs.declared.layout.placing.Host.{Host}
 use Rattle.types.specs.declared.layout.placing.Host.TheVariants.{Closed, Open, Shared}
+use Rattle.types.specs.declared.layout.placing.LayoutFault.{LayoutFault}
 use Rattle.types.specs.declared.layout.placing.Placed.{Placed}
-use Rattle.types.specs.declared.layout.placing.Placed.TheVariants.{Hosted, One, AccessWrong, TooFar}
-use Rattle.types.specs.declared.tables.member.Bit.TheVariants.{At}
+use Rattle.types.specs.declared.layout.placing.Placed.TheVariants.{Hosted, One}
 use Rattle.types.specs.declared.tables.member.Member.{Member}
 use Rattle.types.proofs.layout.PlaceLaws.{end_of, past_other, place_cases}
 
@@ -71,16 +72,15 @@ module _ (sizes : ℕ → ℕ) (limit i : ℕ) (c : Cursor) (ds : List Decl) whe
     pub inside : past_bit sizes h ≤ 8 * c'.offset
 
   -- what a step places is placed so, its host too; nothing is asked of a refused step
-  abbrev pub PlacedStep : Placed → Type 0
-  PlacedStep (Hosted h m c') = HostStep h c' × MemberStep m c'
-  PlacedStep (One m c') = MemberStep m c'
-  PlacedStep AccessWrong = Unit {0}
-  PlacedStep TooFar = Unit {0}
+  abbrev pub PlacedStep : Result Placed LayoutFault → Type 0
+  PlacedStep (Ok (Hosted h m c')) = HostStep h c' × MemberStep m c'
+  PlacedStep (Ok (One m c')) = MemberStep m c'
+  PlacedStep (Err f) = Unit {0}
 
 -- ---- its parts
 
 -- a BOOL of a host is not plain
-pub not_plain : {A : Type 0} {m : Member} {k : ℕ} → m.bit ≡ At k → Plain m → A
+pub not_plain : {A : Type 0} {m : Member} {k : ℕ} → m.bit ≡ Some k → Plain m → A
 not_plain e p = absurd (true≢false (sym (ap has_bit e) ∙ ap has_bit p.whole))
 
 -- the lowest multiple of a from x on is not below x
@@ -130,7 +130,7 @@ record Takes (limit : ℕ) (h : Host) (at : ℕ) (h' : Host) : Type 0 where
 module _ {sizes : ℕ → ℕ} {limit i : ℕ} {c : Cursor} {d : Decl} {ds : List Decl}
     (k : HostReady limit c (d ∷ ds)) (r : Resolved sizes i d) where
   -- a host opens
-  opens : is_bool d.ty ≡ true → PlacedStep sizes limit i c ds (opened c d)
+  opens : is_bool d.ty ≡ true → PlacedStep sizes limit i c ds (Ok (opened c d))
   unfolding opened size_of times
   opens b = (
     record { hidden = refl; earlier = tt; inside = omega arith },
@@ -147,7 +147,7 @@ module _ {sizes : ℕ → ℕ} {limit i : ℕ} {c : Cursor} {d : Decl} {ds : Lis
 
   -- a BOOL takes a bit of a host that stands already
   takes : (byte bit : ℕ) (h : Host) → Takes limit c.host (8 * byte + bit) h → shared_bits h + bools ds ≤ limit
-      → PlacedStep sizes limit i c ds (next_bit c d byte bit h)
+      → PlacedStep sizes limit i c ds (Ok (next_bit c d byte bit h))
   unfolding next_bit
   takes byte bit h t n =
       record {
@@ -162,7 +162,8 @@ module _ {sizes : ℕ → ℕ} {limit i : ℕ} {c : Cursor} {d : Decl} {ds : Lis
       }
 
   -- any other member
-  others : is_bool d.ty ≡ false → PlacedStep sizes limit i c ds (One (other_at d (start_of c d)) (past_other c d))
+  others : is_bool d.ty ≡ false
+      → PlacedStep sizes limit i c ds (Ok (One (other_at d (start_of c d)) (past_other c d)))
   unfolding end_of start_of
   others b =
       let a = align_least c.offset d.align r.align in

@@ -1,6 +1,7 @@
 -- Every layout is laid (document 01, "Layout"): each part has an earlier type and lies inside the size, no two visible
 -- parts share a bit, and those that are no BOOLs stand in their order. A UDT, an AOI, a string, and the predefined
 -- types.
+use Rattle.std.specs.Prelude.{Some, Result, Ok, Err}
 use Prim.Native.Nat.{ℕ, zero, suc, ◌+◌, ◌-◌, ◌*◌, ◌≤◌, ◌<◌}
 use native.Mathlib.Omega.{arith}
 use mathlib.Core.Path.{◌≡◌, refl, sym, ◌∙◌}
@@ -9,7 +10,7 @@ use mathlib.Core.List.{List, [], ◌∷◌, ◌++◌}
 use mathlib.Core.Logic.{inl, inr}
 use lib.ListN.{length, get_or, drop}
 use Rattle.types.specs.atomics.Atomic.{size_of}
-use Rattle.types.specs.inside.layout.Passes.{then_parts, parts_from, measured, udt_parts, aoi_parts, parts_of}
+use Rattle.types.specs.inside.layout.Passes.{then_parts, parts_from, measured, udt_parts, aoi_parts, parts_of, came}
 use Rattle.types.specs.inside.layout.Passes.{measured_aoi, measured_of}
 use Rattle.types.specs.layout.HostNames.{host_name}
 use Rattle.types.specs.layout.Laid.{first_bit, past_bit, Apart, Clear, Plain, Rising, Lies, Laid, Resolved, Every}
@@ -18,17 +19,17 @@ use Rattle.types.specs.layout.Structs.{named, rounded_size, udt_start, bools, ao
 use Rattle.types.specs.layout.Structs.{enable_at, enable_out, aoi_start, string_parts, string_size, data_of, dint_at}
 use Rattle.types.specs.layout.Structs.{status_at, status_parts, ctl_at, control_parts}
 use Rattle.types.specs.tables.Defs.{Part}
-use Rattle.types.specs.declared.layout.measure.Measured.TheVariants.{Came}
 use Rattle.types.specs.declared.layout.placing.Cursor.{Cursor}
 use Rattle.types.specs.declared.layout.placing.Decl.{Decl}
+use Rattle.types.specs.declared.layout.placing.LayoutFault.{LayoutFault}
+use Rattle.types.specs.declared.layout.placing.LayoutFault.TheVariants.{AccessWrong, TooFar}
 use Rattle.types.specs.declared.layout.placing.Placed.{Placed}
-use Rattle.types.specs.declared.layout.placing.Placed.TheVariants.{Hosted, One, AccessWrong, TooFar}
-use Rattle.types.specs.declared.tables.member.Bit.TheVariants.{At}
+use Rattle.types.specs.declared.layout.placing.Placed.TheVariants.{Hosted, One}
 use Rattle.types.specs.declared.tables.member.Member.{Member}
 use Rattle.types.proofs.layout.FreeLaws.{HostReady, BitsTaken, MemberStep, HostStep, PlacedStep, not_plain}
 use Rattle.types.proofs.layout.FreeLaws.{steps}
 use Rattle.types.proofs.layout.LayoutLaws.{times_one, times_same}
-use Rattle.types.proofs.layout.PlaceLaws.{LayoutEnds, no_access, no_far}
+use Rattle.types.proofs.layout.PlaceLaws.{LayoutEnds, came_cursor, no_access, no_far}
 
 -- ---- declared members, one after the other
 
@@ -47,7 +48,7 @@ free_rising sizes m f (p ∷ ps) = (λ v w. absurd (f v), free_rising sizes m f 
 hidden_rising : (sizes : ℕ → ℕ) (m : Member) → m.hidden ≡ true → (ps : List Part) → Rising sizes m ps
 hidden_rising sizes m h ps = free_rising sizes m (λ v. true≢false (sym h ∙ v.visible)) ps
 
-bool_rising : (sizes : ℕ → ℕ) (m : Member) (k : ℕ) → m.bit ≡ At k → (ps : List Part) → Rising sizes m ps
+bool_rising : (sizes : ℕ → ℕ) (m : Member) (k : ℕ) → m.bit ≡ Some k → (ps : List Part) → Rising sizes m ps
 bool_rising sizes m k e ps = free_rising sizes m (λ v. not_plain e v) ps
 
 -- what holds of the parts from a cursor on, in a structure of so many bytes: nothing of what was before is in their way
@@ -103,25 +104,24 @@ module _ (sizes : ℕ → ℕ) (limit i size : ℕ) (name : Decl → List ℕ) (
   -- where the layout of these members ends at e, it is as said
   abbrev LaidFrom : List Decl → Type 0
   LaidFrom ds =
-      (c : Cursor) (n₀ : ℕ) → HostReady limit c ds → measured host c n₀ ds ≡ Came e n
+      (c : Cursor) (n₀ : ℕ) → HostReady limit c ds → measured host c n₀ ds ≡ came e n
       → Rest sizes limit i size c (parts_from name host c ds)
 
-  rest_then : (c : Cursor) (d : Decl) (n₀ : ℕ) (ds : List Decl) → LaidFrom ds → (p : Placed)
+  rest_then : (c : Cursor) (d : Decl) (n₀ : ℕ) (ds : List Decl) → LaidFrom ds → (p : Result Placed LayoutFault)
       → PlacedStep sizes limit i c ds p
       → LayoutEnds host e n c n₀ d ds p
       → Rest sizes limit i size c (then_parts p (host c.members) (name d) (λ c'. parts_from name host c' ds))
-  rest_then c d n₀ ds go (Hosted h m c') (f, s) q =
+  rest_then c d n₀ ds go (Ok (Hosted h m c')) (f, s) q =
       let r = go c' _ s.ready q in
       host_more f r.room (one_more s r)
-  rest_then c d n₀ ds go (One m c') s q = one_more s (go c' _ s.ready q)
-  rest_then c d n₀ ds go AccessWrong s q = no_access q
-  rest_then c d n₀ ds go TooFar s q = no_far q
+  rest_then c d n₀ ds go (Ok (One m c')) s q = one_more s (go c' _ s.ready q)
+  rest_then c d n₀ ds go (Err AccessWrong) s q = no_access q
+  rest_then c d n₀ ds go (Err TooFar) s q = no_far q
 
   rest : (ds : List Decl) → Every (Resolved sizes i) ds → e.offset ≤ size → LaidFrom ds
   unfolding Every measured parts_from Laid Clear Rising
   rest [] rs l c n₀ k q =
-      let z : c ≡ e = cc in
-      record { room = rw z l; laid = tt; clear = λ m u. tt; rising = λ m u. tt }
+      record { room = rw (came_cursor q) l; laid = tt; clear = λ m u. tt; rising = λ m u. tt }
   rest (d ∷ ds) (r, rs) l c n₀ k q = rest_then c d n₀ ds (rest ds rs l) (placed c d) (steps k r) q
 
 -- the size is not below the offset that it is rounded from
@@ -133,7 +133,7 @@ module _ (sizes : ℕ → ℕ) (i : ℕ) where
   -- ---- UDT
 
   udt_laid : (name : Decl → List ℕ) (type : List ℕ) (ds : List Decl) (n₀ : ℕ) (c : Cursor) (n : ℕ)
-      → Every (Resolved sizes i) ds → measured (host_name type) udt_start n₀ ds ≡ Came c n
+      → Every (Resolved sizes i) ds → measured (host_name type) udt_start n₀ ds ≡ came c n
       → Laid sizes i (rounded_size c) (udt_parts name type ds)
   unfolding udt_parts
   udt_laid name type ds n₀ c n rs q =
@@ -160,7 +160,7 @@ module _ (sizes : ℕ → ℕ) (i : ℕ) where
 
   -- EnableIn and EnableOut have bits 0 and 1, and all BOOLs to come fit into the hosts
   aoi_laid : (name : Decl → List ℕ) (type : List ℕ) (ds : List Decl) (n₀ : ℕ) (c : Cursor) (n : ℕ)
-      → Every (Resolved sizes i) ds → measured (host_name type) (aoi_start (aoi_hosts ds)) n₀ ds ≡ Came c n
+      → Every (Resolved sizes i) ds → measured (host_name type) (aoi_start (aoi_hosts ds)) n₀ ds ≡ came c n
       → Laid sizes i (rounded_size c) (aoi_parts name type ds)
   unfolding aoi_parts aoi_hosts Laid Clear
   aoi_laid name type ds n₀ c n rs q =
@@ -185,7 +185,7 @@ module _ (sizes : ℕ → ℕ) (i : ℕ) where
 
   -- the parts of a UDT or an AOI that was measured to its end are laid out well
   pub type_laid : (aoi : Bool) (name : Decl → List ℕ) (type : List ℕ) (ds : List Decl) (c : Cursor) (n : ℕ)
-      → Every (Resolved sizes i) ds → measured_of aoi type ds ≡ Came c n
+      → Every (Resolved sizes i) ds → measured_of aoi type ds ≡ came c n
       → Laid sizes i (rounded_size c) (parts_of aoi name type ds)
   unfolding measured_aoi
   type_laid true name type ds c n rs q = aoi_laid name type ds _ c n rs q

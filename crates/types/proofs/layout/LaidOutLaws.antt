@@ -1,11 +1,13 @@
 -- What is laid out (document 01, "Layout") is what the code's two passes give: the parts that are stored, and how far
 -- they were measured to come.
+use Rattle.std.specs.Prelude.{Result, Ok, Err}
 use Prim.Native.Nat.{ℕ, ◌+◌}
 use mathlib.Core.Path.{◌≡◌, refl, ap, ◌∙◌}
 use mathlib.Core.Bool.{Bool, true, false}
 use mathlib.Core.List.{List, [], ◌∷◌, ◌++◌}
 use lib.ListN.{length}
 use Rattle.types.specs.inside.layout.Passes.{then_parts, parts_from, then_measure, measured, udt_parts, aoi_parts}
+use Rattle.types.specs.inside.layout.Passes.{Measured}
 use Rattle.types.specs.inside.layout.Passes.{parts_of, measured_aoi, measured_of}
 use Rattle.types.specs.layout.HostNames.{host_name}
 use Rattle.types.specs.layout.Placing.{placed}
@@ -14,24 +16,23 @@ use Rattle.types.specs.layout.Structs.{udt_start, udt_layout, aoi_hosts, host_pa
 use Rattle.types.specs.layout.Structs.{aoi_layout}
 use Rattle.types.specs.layout.Structs.{layout_of}
 use Rattle.types.specs.tables.Defs.{Part}
-use Rattle.types.specs.declared.layout.measure.Measured.{Measured}
-use Rattle.types.specs.declared.layout.measure.Measured.TheVariants.{Came, AccessWrong as access_wrong}
-use Rattle.types.specs.declared.layout.measure.Measured.TheVariants.{TooFar as too_far}
 use Rattle.types.specs.declared.layout.placing.Cursor.{Cursor}
 use Rattle.types.specs.declared.layout.placing.Decl.{Decl}
+use Rattle.types.specs.declared.layout.placing.LayoutFault.{LayoutFault}
+use Rattle.types.specs.declared.layout.placing.LayoutFault.TheVariants.{AccessWrong, TooFar}
 use Rattle.types.specs.declared.layout.placing.Placed.{Placed}
-use Rattle.types.specs.declared.layout.placing.Placed.TheVariants.{Hosted, One, AccessWrong, TooFar}
+use Rattle.types.specs.declared.layout.placing.Placed.TheVariants.{Hosted, One}
 
 -- parts, and how far they come, as one
 abbrev pub both : List Part → Measured → LaidOut
-both parts (Came c n) = laid parts c
-both parts access_wrong = stopped 11
-both parts too_far = stopped 12
+both parts (Ok (c, n)) = laid parts c
+both parts (Err AccessWrong) = stopped 11
+both parts (Err TooFar) = stopped 12
 
 after_both : (ps qs : List Part) (m : Measured) → after ps (both qs m) ≡ both (ps ++ qs) m
-after_both ps qs (Came c n) = refl
-after_both ps qs access_wrong = refl
-after_both ps qs too_far = refl
+after_both ps qs (Ok (c, n)) = refl
+after_both ps qs (Err AccessWrong) = refl
+after_both ps qs (Err TooFar) = refl
 
 module _ (name : Decl → List ℕ) (host : ℕ → List ℕ) where
   -- so many bytes of names may come before
@@ -41,22 +42,22 @@ module _ (name : Decl → List ℕ) (host : ℕ → List ℕ) where
   from_passes c n [] = refl
   from_passes c n (d ∷ ds) = go (placed c d) (λ c' n'. from_passes c' n' ds)
     where
-      go : (p : Placed)
+      go : (p : Result Placed LayoutFault)
           → ((c' : Cursor) (n' : ℕ)
           → layout_from name host c' ds ≡ both (parts_from name host c' ds) (measured host c' n' ds))
           → then_laid p (host c.members) (name d) (λ c'. layout_from name host c' ds)
           ≡ both (then_parts p (host c.members) (name d) (λ c'. parts_from name host c' ds))
           (then_measure p (length (host c.members)) d.name.long n (λ c' n'. measured host c' n' ds))
-      go (Hosted h m c') rest =
+      go (Ok (Hosted h m c')) rest =
           let long = n + length (host c.members) + d.name.long in
           let ps = named (host c.members) h ∷ named (name d) m ∷ [] in
           ap (after ps) (rest c' long) ∙ after_both ps (parts_from name host c' ds) (measured host c' long ds)
-      go (One m c') rest =
+      go (Ok (One m c')) rest =
           let long = n + d.name.long in
           let ps = named (name d) m ∷ [] in
           ap (after ps) (rest c' long) ∙ after_both ps (parts_from name host c' ds) (measured host c' long ds)
-      go AccessWrong rest = refl
-      go TooFar rest = refl
+      go (Err AccessWrong) rest = refl
+      go (Err TooFar) rest = refl
 
 -- the layout of a UDT or an AOI is its parts, and how far they come, as one
 pub laid_passes : (aoi : Bool) (name : Decl → List ℕ) (type : List ℕ) (ds : List Decl)

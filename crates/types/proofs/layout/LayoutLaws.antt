@@ -1,18 +1,18 @@
 -- Laws of one step of a layout: a member's end, the ways out of placing, and what a step leaves.
-use Prim.Native.Nat.{ℕ, ◌+◌, ◌*◌, ◌≤◌, ◌<◌}
-use mathlib.Core.Path.{◌≡◌, sym}
+use Rattle.std.specs.Prelude.{Option, Some, None, Ok, Err}
+use Prim.Native.Nat.{ℕ, zero, suc, ◌+◌, ◌-◌, ◌*◌, ◌%◌, ◌≤◌, ◌<◌, max}
+use native.Mathlib.Omega.{arith}
+use mathlib.Core.Path.{◌≡◌, refl, sym, ◌∙◌}
 use mathlib.Core.Bool.{true, false}
 use borrow.Author.Tests.{eq-eqb, ne_eqb, le-leb, lt-leb}
-use lib.Dec.{eqb}
-use Rattle.types.specs.layout.Placing.{most_size, times, member_end, access_ok, is_bool, other_at, closed, start_of}
-use Rattle.types.specs.layout.Placing.{said_by, place_bool, place_other, placed}
+use Rattle.types.specs.layout.Placing.{most_size, times, member_end, access_ok, is_bool, align_up, other_at, closed}
+use Rattle.types.specs.layout.Placing.{said_by, start_of, place_bool, place_other, placed}
 use Rattle.types.specs.refusals.Said.{done, refused}
 use Rattle.types.specs.declared.layout.placing.Cursor.{Cursor}
 use Rattle.types.specs.declared.layout.placing.Decl.{Decl}
-use Rattle.types.specs.declared.layout.placing.End.{End}
-use Rattle.types.specs.declared.layout.placing.End.TheVariants.{At, Over}
 use Rattle.types.specs.declared.layout.placing.Host.{Host}
-use Rattle.types.specs.declared.layout.placing.Placed.TheVariants.{One, AccessWrong, TooFar}
+use Rattle.types.specs.declared.layout.placing.LayoutFault.TheVariants.{AccessWrong, TooFar}
+use Rattle.types.specs.declared.layout.placing.Placed.TheVariants.{One}
 
 -- a count of 0 is one element
 pub times_one : (n : ℕ) → n ≡ 0 → 1 ≡ times n
@@ -23,6 +23,23 @@ times_one n e = simp (eq-eqb n 0 e)
 pub times_same : (n : ℕ) → (n ≡ 0 → ⊥) → n ≡ times n
 unfolding times
 times_same n e = simp (ne_eqb n 0 e)
+
+-- so it is as many elements, and at least one
+pub times_most : (n : ℕ) → max n 1 ≡ times n
+times_most zero = times_one 0 refl
+times_most (suc n) =
+    let same : max (suc n) 1 ≡ suc n = omega arith in
+    same ∙ times_same (suc n) (λ e. omega arith)
+
+-- the next multiple of an alignment
+pub next_multiple : (x a : ℕ) → 0 < a → a ≤ 4 → x + (a - x % a) % a ≡ align_up x a
+unfolding align_up
+next_multiple x zero l m = omega arith
+next_multiple x (suc zero) l m = let e : suc zero ≡ 1 = refl in rw e (omega arith)
+next_multiple x (suc (suc zero)) l m = let e : suc (suc zero) ≡ 2 = refl in rw e (omega arith)
+next_multiple x (suc (suc (suc zero))) l m = let e : suc (suc (suc zero)) ≡ 3 = refl in rw e (omega arith)
+next_multiple x (suc (suc (suc (suc zero)))) l m = let e : suc (suc (suc (suc zero))) ≡ 4 = refl in rw e (omega arith)
+next_multiple x (suc (suc (suc (suc (suc n))))) l m = let f : ⊥ = omega arith in elim f [ ]
 
 module _ (offset size count : ℕ) {end : ℕ} (e : end ≡ offset + size * times count) where
   -- a member that ends at or below 2^26 has that end
@@ -37,40 +54,25 @@ module _ (offset size count : ℕ) {end : ℕ} (e : end ≡ offset + size * time
 
 -- ---- the ways out of one step
 
--- access 0 is good
-pub access_first : (a : ℕ) → a ≡ 0 → true ≡ access_ok a
-unfolding access_ok
-access_first a e = simp (eq-eqb a 0 e)
-
--- access 2 is good
-pub access_second : (a : ℕ) → (a ≡ 0 → ⊥) → a ≡ 2 → true ≡ access_ok a
-unfolding access_ok
-access_second a n e = simp (ne_eqb a 0 n, eq-eqb a 2 e)
-
--- an access that is neither is good where it is 3
-pub access_third : (a : ℕ) → (a ≡ 0 → ⊥) → (a ≡ 2 → ⊥) → eqb a 3 ≡ access_ok a
-unfolding access_ok
-access_third a n m = simp (ne_eqb a 0 n, ne_eqb a 2 m)
-
-module _ (c : Cursor) (d : Decl) {at : ℕ} (end : End) (s : at ≡ start_of c d)
+module _ (c : Cursor) (d : Decl) {at : ℕ} (end : Option ℕ) (s : at ≡ start_of c d)
     (e : said_by end ≡ member_end at d.size d.count) where
   ends : member_end (start_of c d) d.size d.count ≡ said_by end
   ends = rw (← s) (sym e)
 
   -- the way out of any other member where it ends above 2^26: too far
-  pub other_over : end ≡ Over → TooFar ≡ place_other c d
+  pub other_over : end ≡ None → Err TooFar ≡ place_other c d
   unfolding place_other
   other_over q = rw (ends, q)
 
   -- any other member stands at its start, closes the host, and leaves the cursor at its end
-  pub other_at_lem : {o : ℕ} {h : Host} → end ≡ At o → h ≡ closed c.host
-      → One (other_at d at) (record { offset = o; host = h; members = c.members + 1 }) ≡ place_other c d
+  pub other_at_lem : {o : ℕ} {h : Host} → end ≡ Some o → h ≡ closed c.host
+      → Ok (One (other_at d at) (record { offset = o; host = h; members = c.members + 1 })) ≡ place_other c d
   unfolding place_other
   other_at_lem {o} {h} q k = rw (s, k, ends, q)
 
 module _ (c : Cursor) (d : Decl) where
   -- a BOOL with a good access goes into a host
-  pub placed_bool : access_ok d.access ≡ true → is_bool d.ty ≡ true → place_bool c.host c d ≡ placed c d
+  pub placed_bool : access_ok d.access ≡ true → is_bool d.ty ≡ true → Ok (place_bool c.host c d) ≡ placed c d
   unfolding placed
   placed_bool a b = rw (a, b)
 
@@ -80,6 +82,6 @@ module _ (c : Cursor) (d : Decl) where
   placed_other a b = rw (a, b)
 
   -- the way out at the access, where it is not 0, 2 or 3
-  pub placed_wrong : access_ok d.access ≡ false → AccessWrong ≡ placed c d
+  pub placed_wrong : access_ok d.access ≡ false → Err AccessWrong ≡ placed c d
   unfolding placed
   placed_wrong a = rw a

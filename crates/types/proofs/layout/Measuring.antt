@@ -6,15 +6,13 @@ use mathlib.Core.Path.{◌≡◌, sym, ap, ◌∙◌}
 use mathlib.Core.List.{List, ◌∷◌}
 use Rattle.words.specs.Words.{Bytes}
 use Rattle.types.specs.inside.book.Decls.{decl_at, decls_from, Found}
-use Rattle.types.specs.inside.layout.Passes.{measure_one, measured, Far, Near, Measurable}
+use Rattle.types.specs.inside.layout.Passes.{measure_one, measured, Far, Near, Measurable, Measured, came}
 use Rattle.types.specs.layout.HostNames.{host_name}
 use Rattle.types.specs.layout.Structs.{udt_start, aoi_start}
-use Rattle.types.specs.declared.layout.measure.Measured.{Measured}
-use Rattle.types.specs.declared.layout.measure.Measured.TheVariants.{Came, AccessWrong, TooFar}
 use Rattle.types.specs.declared.layout.placing.Cursor.{Cursor}
 use Rattle.types.proofs.book.DeclLaws.{decls_cons, decls_none, found_first, decl_fair}
 use Rattle.types.proofs.layout.DigitLaws.{host_most}
-use Rattle.types.proofs.layout.MeasureLaws.{measured_on, measured_access, measured_far, measured_done, far_on}
+use Rattle.types.proofs.layout.MeasureLaws.{measured_on, measured_refused, measured_done, far_on}
 use Rattle.types.proofs.layout.MeasureLaws.{near}
 
 -- the whole measures as the members from the j-th on do from this cursor, which is not too far
@@ -44,7 +42,7 @@ starts types book tys name at n c names m =
 module _ {types book tys name : List ℕ} {at n n₀ names j : ℕ} {c₀ c : Cursor}
     (m : Measuring types book tys name at n c₀ n₀ c names j) where
   -- after the last member the cursor and the bytes of names are what the whole measures
-  pub all_done : n ≤ j → Came c names ≡ measured (host_name name) c₀ n₀ (decls_from types book tys at 0 n)
+  pub all_done : n ≤ j → came c names ≡ measured (host_name name) c₀ n₀ (decls_from types book tys at 0 n)
   all_done l = sym (rw (decls_none types book tys at n j l) at m.same ∙ sym (measured_done (host_name name) c names))
 
   module _ (l : j < n) (b : Bytes book) where
@@ -63,17 +61,13 @@ module _ {types book tys name : List ℕ} {at n n₀ names j : ℕ} {c₀ c : Cu
     split = m.same ∙ ap (measured (host_name name) c names) (decls_cons types book tys at n j l)
 
     module _ (one : Measured) (e : one ≡ measure_one (host_name name) c names (decl_at types book tys at j)) where
-      -- where the access of the j-th member is wrong, the whole is refused so
-      pub refused_access : one ≡ AccessWrong
-          → AccessWrong ≡ measured (host_name name) c₀ n₀ (decls_from types book tys at 0 n)
-      refused_access q = sym (split ∙ measured_access (host_name name) c names _ _ (sym e ∙ q))
-
-      -- where the j-th member ends too far, the whole is refused so
-      pub refused_far : one ≡ TooFar → TooFar ≡ measured (host_name name) c₀ n₀ (decls_from types book tys at 0 n)
-      refused_far q = sym (split ∙ measured_far (host_name name) c names _ _ (sym e ∙ q))
+      -- where the j-th member is refused, the whole is refused so
+      pub refused : ((c' : Cursor) (n' : ℕ) → one ≡ came c' n' → ⊥)
+          → one ≡ measured (host_name name) c₀ n₀ (decls_from types book tys at 0 n)
+      refused r = sym (split ∙ measured_refused (host_name name) c names _ _ r e)
 
       -- where the j-th member is measured, it is so at the next
-      pub goes_on : {c' : Cursor} {n' : ℕ} → one ≡ Came c' n'
+      pub goes_on : {c' : Cursor} {n' : ℕ} → one ≡ came c' n'
           → Measuring types book tys name at n c₀ n₀ c' n' (j + 1)
       goes_on {c'} {n'} q =
           let f : m.passed + j + 1 ≡ m.passed + (j + 1) = omega arith in

@@ -1,6 +1,7 @@
 -- What every part of a layout has (document 01, "Layout" and "Declaration book"): its name follows the rule, hidden
 -- hosts' too; a BOOL has a bit of a byte and count 0, any other member no bit; a hidden one has access 0 and is not
 -- local.
+use Rattle.std.specs.Prelude.{Some, None, Result, Ok, Err}
 use Prim.Native.Nat.{ℕ, zero, suc, ◌+◌, ◌-◌, ◌%◌, ◌<◌}
 use native.Mathlib.Omega.{arith}
 use mathlib.Core.Path.{◌≡◌, refl}
@@ -19,12 +20,11 @@ use Rattle.types.specs.layout.Structs.{named_in, host_parts, aoi_hosts, aoi_star
 use Rattle.types.specs.layout.Structs.{status_parts}
 use Rattle.types.specs.layout.Structs.{control_parts, bit_host_at, enable_at, dint_at, data_of, status_at, ctl_at}
 use Rattle.types.specs.tables.Defs.{Part, name_in}
-use Rattle.types.specs.declared.adding.checks.Checked.{Checked}
-use Rattle.types.specs.declared.adding.checks.Checked.TheVariants.{Good, NameWrong, Twice, LocalOutside}
+use Rattle.types.specs.declared.adding.checks.MemberFault.{MemberFault}
+use Rattle.types.specs.declared.adding.checks.MemberFault.TheVariants.{NameWrong, Twice, LocalOutside}
 use Rattle.types.specs.declared.book.contents.MemberEntry.{MemberEntry}
 use Rattle.types.specs.declared.layout.placing.Cursor.{Cursor}
 use Rattle.types.specs.declared.layout.placing.Decl.{Decl}
-use Rattle.types.specs.declared.tables.member.Bit.TheVariants.{None, At}
 use Rattle.types.specs.declared.tables.member.Member.{Member}
 use Rattle.types.proofs.adding.AddLaws.{every_append}
 use Rattle.types.proofs.layout.HostNames.{host_good, bit_host_good}
@@ -36,7 +36,7 @@ use Rattle.types.proofs.layout.PlaceLaws.{place_cases}
 pub record BoolBit (m : Member) : Type 0 where
   pub at : ℕ
   pub small : at < 8
-  pub bit : m.bit ≡ At at
+  pub bit : m.bit ≡ Some at
   pub count : m.count ≡ 0
 
 -- a BOOL has a bit and count 0, any other member no bit; a hidden one has access 0 and is not local
@@ -51,7 +51,7 @@ pub record PartFormed (p : Part) : Type 0 where
   pub member : Formed p.member
 
 -- a visible BOOL
-bool_formed : (m : Member) (k : ℕ) → k < 8 → is_bool m.ty ≡ true → m.bit ≡ At k → m.count ≡ 0 → m.hidden ≡ false
+bool_formed : (m : Member) (k : ℕ) → k < 8 → is_bool m.ty ≡ true → m.bit ≡ Some k → m.count ≡ 0 → m.hidden ≡ false
     → Formed m
 bool_formed m k l e b c v =
     record {
@@ -179,8 +179,8 @@ control_formed one two bits e =
 
 -- ---- members that were checked
 
-good_only : (g t l : Bool) (k : Checked) → cond g (cond t Twice (cond l LocalOutside k)) NameWrong ≡ Good
-    → (g ≡ true) × (k ≡ Good)
+good_only : (g t l : Bool) (k : Result (Unit {0}) MemberFault)
+    → cond g (cond t (Err Twice) (cond l (Err LocalOutside) k)) (Err NameWrong) ≡ Ok tt → (g ≡ true) × (k ≡ Ok tt)
 good_only true false false k e = (refl, e)
 good_only true false true k e = (refl, cc)
 good_only true true l k e = (refl, cc)
@@ -188,7 +188,7 @@ good_only false t l k e = (cc, cc)
 
 -- entries that were checked and found good have good names
 pub checked_named : (book : List ℕ) (aoi : Bool) (before : List (List ℕ)) (es : List MemberEntry)
-    → checked book aoi before es ≡ Good → NamedEntries book es
+    → checked book aoi before es ≡ Ok tt → NamedEntries book es
 unfolding checked Every
 checked_named book aoi before [] q = tt
 checked_named book aoi before (e ∷ es) q =

@@ -1,27 +1,28 @@
 -- The ways that placing a declared member can go (document 01, "Layout"): what holds of each of them holds of the step.
 -- And any other member closes a UDT's host, so that the next BOOL opens a new one at the current offset.
+use Rattle.std.specs.Prelude.{Result, Ok, Err}
 use Prim.Native.Nat.{ℕ, ◌+◌, ◌*◌, ◌/◌, ◌%◌, ◌≤◌, ◌<◌}
-use mathlib.Core.Path.{◌≡◌, refl, sym, ◌∙◌}
+use mathlib.Core.Path.{◌≡◌, refl, sym, ap, ◌∙◌}
 use mathlib.Core.Bool.{Bool, true, false, cond, true≢false}
 use mathlib.Core.List.{List, [], ◌∷◌}
 use borrow.Author.Tests.{ltb-true, ltb-false, leb-true, leb-false}
 use lib.Dec.{leb, ltb}
 use lib.ListN.{length}
 use Rattle.words.proofs.TestLaws.{either}
-use Rattle.types.specs.inside.layout.Passes.{then_measure, measured}
+use Rattle.types.specs.inside.layout.Passes.{Measured, then_measure, measured, came}
 use Rattle.types.specs.inside.layout.Placing.{InUdt, Shut}
 use Rattle.types.specs.layout.Placing.{most_size, access_ok, is_bool, other_at, opened, next_bit, place_bool, closed}
 use Rattle.types.specs.layout.Placing.{times, member_end, start_of, on_end, place_other, placed}
 use Rattle.types.specs.layout.Structs.{udt_start}
 use Rattle.types.specs.refusals.Said.{done, refused}
-use Rattle.types.specs.declared.layout.measure.Measured.TheVariants.{Came, AccessWrong as access_wrong}
-use Rattle.types.specs.declared.layout.measure.Measured.TheVariants.{TooFar as too_far}
 use Rattle.types.specs.declared.layout.placing.Cursor.{Cursor}
 use Rattle.types.specs.declared.layout.placing.Decl.{Decl}
 use Rattle.types.specs.declared.layout.placing.Host.{Host}
 use Rattle.types.specs.declared.layout.placing.Host.TheVariants.{Closed, Open, Shared}
+use Rattle.types.specs.declared.layout.placing.LayoutFault.{LayoutFault}
+use Rattle.types.specs.declared.layout.placing.LayoutFault.TheVariants.{AccessWrong, TooFar}
 use Rattle.types.specs.declared.layout.placing.Placed.{Placed}
-use Rattle.types.specs.declared.layout.placing.Placed.TheVariants.{One, AccessWrong, TooFar}
+use Rattle.types.specs.declared.layout.placing.Placed.TheVariants.{One}
 use Rattle.types.specs.declared.tables.member.Member.{Member}
 use Rattle.types.proofs.layout.LayoutLaws.{placed_bool}
 
@@ -40,23 +41,24 @@ abbrev pub past_other : Cursor → Decl → Cursor
 past_other c d = record { offset = end_of c d; host = closed c.host; members = c.members + 1 }
 
 -- P holds of each way that a step can go
-pub record Ways (P : Placed → Type 0) (c : Cursor) (d : Decl) : Type 0 where
-  pub wrong : access_ok d.access ≡ false → P AccessWrong
-  pub opens : is_bool d.ty ≡ true → Full c.host → P (opened c d)
+pub record Ways (P : Result Placed LayoutFault → Type 0) (c : Cursor) (d : Decl) : Type 0 where
+  pub wrong : access_ok d.access ≡ false → P (Err AccessWrong)
+  pub opens : is_bool d.ty ≡ true → Full c.host → P (Ok (opened c d))
   pub next : is_bool d.ty ≡ true → (byte bit : ℕ) → c.host ≡ Open byte bit → bit < 8
-      → P (next_bit c d byte bit (Open byte (bit + 1)))
+      → P (Ok (next_bit c d byte bit (Open byte (bit + 1))))
   pub shared : is_bool d.ty ≡ true → (i : ℕ) → c.host ≡ Shared i
-      → P (next_bit c d (4 * (i / 32) + i % 32 / 8) (i % 8) (Shared (i + 1)))
-  pub other : is_bool d.ty ≡ false → end_of c d ≤ most_size → P (One (other_at d (start_of c d)) (past_other c d))
-  pub far : is_bool d.ty ≡ false → most_size < end_of c d → P TooFar
+      → P (Ok (next_bit c d (4 * (i / 32) + i % 32 / 8) (i % 8) (Shared (i + 1))))
+  pub other : is_bool d.ty ≡ false → end_of c d ≤ most_size
+      → P (Ok (One (other_at d (start_of c d)) (past_other c d)))
+  pub far : is_bool d.ty ≡ false → most_size < end_of c d → P (Err TooFar)
 
 -- what holds of both answers of a test holds of the picked one
-module _ (P : Placed → Type 0) (c : Cursor) (d : Decl) (w : Ways P c d) where
-  bool_cases : is_bool d.ty ≡ true → (h : Host) → c.host ≡ h → P (place_bool h c d)
+module _ (P : Result Placed LayoutFault → Type 0) (c : Cursor) (d : Decl) (w : Ways P c d) where
+  bool_cases : is_bool d.ty ≡ true → (h : Host) → c.host ≡ h → P (Ok (place_bool h c d))
   unfolding place_bool
   bool_cases b Closed e = w.opens b (rw e tt)
   bool_cases b (Open byte bit) e =
-      either P (ltb bit 8)
+      either (λ p. P (Ok p)) (ltb bit 8)
       (λ l. w.next b byte bit e (ltb-true bit 8 l))
       (λ l. w.opens b (rw e (ltb-false bit 8 l)))
   bool_cases b (Shared i) e = w.shared b i e
@@ -81,20 +83,30 @@ module _ (P : Placed → Type 0) (c : Cursor) (d : Decl) (w : Ways P c d) where
 
 -- ---- a step among others
 
+came_so : {p q : Cursor × ℕ} → ◌≡◌ {A = Measured} (Ok p) (Ok q) → p ≡ q
+came_so e = cc
+
 module _ (host : ℕ → List ℕ) (e : Cursor) (n' : ℕ) where
   -- a layout that goes on from a step ends at e, with so many bytes of names
-  abbrev pub LayoutEnds : Cursor → ℕ → Decl → List Decl → Placed → Type 0
+  abbrev pub LayoutEnds : Cursor → ℕ → Decl → List Decl → Result Placed LayoutFault → Type 0
   LayoutEnds c n d ds p =
-      then_measure p (length (host c.members)) d.name.long n (λ c' k. measured host c' k ds) ≡ Came e n'
+      then_measure p (length (host c.members)) d.name.long n (λ c' k. measured host c' k ds) ≡ came e n'
+
+-- two layouts that came as far came to one cursor, and have as many bytes of names
+pub came_cursor : {c c' : Cursor} {n n' : ℕ} → came c n ≡ came c' n' → c ≡ c'
+came_cursor q = ap (λ (p : Cursor × ℕ). p.0) (came_so q)
+
+pub came_names : {c c' : Cursor} {n n' : ℕ} → came c n ≡ came c' n' → n ≡ n'
+came_names q = ap (λ (p : Cursor × ℕ). p.1) (came_so q)
 
 -- a refused layout ends nowhere
 module _ {A : Type 0} {c : Cursor} {n : ℕ} where
   -- no layout with a wrong access comes to an end
-  pub no_access : access_wrong ≡ Came c n → A
+  pub no_access : (Err AccessWrong) ≡ came c n → A
   no_access q = let z : true ≡ false = cc in absurd (true≢false z)
 
   -- no layout with a member too far comes to an end
-  pub no_far : too_far ≡ Came c n → A
+  pub no_far : (Err TooFar) ≡ came c n → A
   no_far q = let z : true ≡ false = cc in absurd (true≢false z)
 
 -- ---- in a UDT no host stays open across another member
@@ -111,10 +123,10 @@ shut {c} h = record { host = h; opens = λ e a b. sym (placed_bool c e a b) ∙ 
 
 -- after any other member the next BOOL opens a new host at the current offset
 pub host_closed : (c : Cursor) (d : Decl) (m : Member) (c' : Cursor) → InUdt c.host → is_bool d.ty ≡ false
-    → placed c d ≡ One m c' → Shut c'
+    → placed c d ≡ Ok (One m c') → Shut c'
 unfolding opened next_bit
 host_closed c d m c' u b =
-    place_cases (λ p. p ≡ One m c' → Shut c') c d
+    place_cases (λ p. p ≡ Ok (One m c') → Shut c') c d
     (record {
       wrong = λ a q. let z : true ≡ false = cc in absurd (true≢false z);
       opens = λ t f q. absurd (true≢false (sym t ∙ b));
@@ -125,10 +137,10 @@ host_closed c d m c' u b =
     })
 
 module _ (host : ℕ → List ℕ) (e : Cursor) (n' : ℕ) where
-  stays_udt : (ds : List Decl) (c : Cursor) (n : ℕ) → InUdt c.host → measured host c n ds ≡ Came e n'
+  stays_udt : (ds : List Decl) (c : Cursor) (n : ℕ) → InUdt c.host → measured host c n ds ≡ came e n'
       → InUdt e.host
   unfolding measured opened next_bit
-  stays_udt [] c n u q = let z : c ≡ e = cc in rw (← z) u
+  stays_udt [] c n u q = rw (← came_cursor q) u
   stays_udt (d ∷ ds) c n u q =
       place_cases (λ p. LayoutEnds host e n' c n d ds p → InUdt e.host) c d
       (record {
@@ -143,5 +155,5 @@ module _ (host : ℕ → List ℕ) (e : Cursor) (n' : ℕ) where
 
   -- so it is after any members of a UDT
   pub udt_shut : (n₀ : ℕ) (ds : List Decl) (d : Decl) (m : Member) (c' : Cursor)
-      → measured host udt_start n₀ ds ≡ Came e n' → is_bool d.ty ≡ false → placed e d ≡ One m c' → Shut c'
+      → measured host udt_start n₀ ds ≡ came e n' → is_bool d.ty ≡ false → placed e d ≡ Ok (One m c') → Shut c'
   udt_shut n₀ ds d m c' q b p = host_closed e d m c' (stays_udt ds udt_start n₀ tt q) b p

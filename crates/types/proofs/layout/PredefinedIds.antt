@@ -1,41 +1,13 @@
 -- Laws of the predefined types' ids (document 01, "What is ported": distinct, 1..0xFFF, outside 0x100..0xEFF): one
 -- test after the other.
-use Prim.Native.Nat.{ℕ, ◌<◌, ◌≤◌}
+use Prim.Native.Nat.{ℕ, ◌≤◌}
 use mathlib.Core.Path.{◌≡◌}
 use mathlib.Core.Bool.{true, false, not, and-eq-true_iff}
-use borrow.Author.Tests.{le-leb, lt-leb, leb-true, eq-eqb, ne_eqb}
+use borrow.Author.Tests.{leb-true, eq-eqb, ne_eqb}
 use lib.Dec.{eqb, leb}
 use Rattle.types.specs.layout.Predefined.{predefined_id, distinct, predefined_ids}
 use Rattle.types.specs.templates.Template.{user_id}
 use Rattle.types.specs.declared.layout.predefined.PredefinedIds.{PredefinedIds}
-
-module _ (id : ℕ) where
-  -- id 0 is no predefined type's
-  pub id_zero : id < 1 → false ≡ predefined_id id
-  unfolding predefined_id
-  id_zero l = simp (lt-leb _ _ l)
-
-  module _ (p : 1 ≤ id) where
-    -- an id above 0xFFF is no predefined type's
-    pub id_large : 0xFFF < id → false ≡ predefined_id id
-    unfolding predefined_id
-    id_large l = simp (le-leb _ _ p, lt-leb _ _ l)
-
-    module _ (q : id ≤ 0xFFF) where
-      -- an id from 1 to 0xFF may be a predefined type's
-      pub id_low : id < 0x100 → true ≡ predefined_id id
-      unfolding predefined_id user_id
-      id_low l = simp (le-leb _ _ p, le-leb _ _ q, lt-leb _ _ l)
-
-      -- an id from 0x100 to 0xEFF is no predefined type's
-      pub id_user : 0x100 ≤ id → id ≤ 0xEFF → false ≡ predefined_id id
-      unfolding predefined_id user_id
-      id_user l h = simp (le-leb _ _ p, le-leb _ _ q, le-leb _ _ l, le-leb _ _ h)
-
-      -- an id from 0xF00 to 0xFFF may be a predefined type's
-      pub id_high : 0x100 ≤ id → 0xEFF < id → true ≡ predefined_id id
-      unfolding predefined_id user_id
-      id_high l h = simp (le-leb _ _ p, le-leb _ _ q, le-leb _ _ l, lt-leb _ _ h)
 
 module _ (ids : PredefinedIds) where
   -- where TIMER and COUNTER have one id, the four are not distinct
@@ -72,34 +44,11 @@ module _ (ids : PredefinedIds) where
           unfolding distinct
           same_6 t = simp (ne_eqb _ _ p, ne_eqb _ _ q, ne_eqb _ _ r, ne_eqb _ _ s, ne_eqb _ _ t)
 
-module _ (ids : PredefinedIds) where
-  -- where TIMER's id is not allowed, the ids are wrong
-  pub wrong_1 : predefined_id ids.timer ≡ false → false ≡ predefined_ids ids
-  unfolding predefined_ids
-  wrong_1 e = simp e
-
-  module _ (p : predefined_id ids.timer ≡ true) where
-    -- where COUNTER's id is not allowed, the ids are wrong
-    pub wrong_2 : predefined_id ids.counter ≡ false → false ≡ predefined_ids ids
-    unfolding predefined_ids
-    wrong_2 e = simp (p, e)
-
-    module _ (q : predefined_id ids.counter ≡ true) where
-      -- where CONTROL's id is not allowed, the ids are wrong
-      pub wrong_3 : predefined_id ids.control ≡ false → false ≡ predefined_ids ids
-      unfolding predefined_ids
-      wrong_3 e = simp (p, q, e)
-
-      module _ (r : predefined_id ids.control ≡ true) where
-        -- where STRING's id is not allowed, the ids are wrong
-        pub wrong_4 : predefined_id ids.string ≡ false → false ≡ predefined_ids ids
-        unfolding predefined_ids
-        wrong_4 e = simp (p, q, r, e)
-
-        -- where each of the four is allowed, the ids are good where they are distinct
-        pub ids_differ : predefined_id ids.string ≡ true → distinct ids ≡ predefined_ids ids
-        unfolding predefined_ids
-        ids_differ e = simp (p, q, r, e)
+-- where each of the four is allowed, the ids are good where they are distinct
+pub ids_differ : (ids : PredefinedIds) → predefined_id ids.timer ≡ true → predefined_id ids.counter ≡ true
+    → predefined_id ids.control ≡ true → predefined_id ids.string ≡ true → distinct ids ≡ predefined_ids ids
+unfolding predefined_ids
+ids_differ ids p q r e = simp (p, q, r, e)
 
 -- what they are where all tests are passed
 pub record Allowed (ids : PredefinedIds) : Type 0 where

@@ -1,5 +1,6 @@
 -- Laws of the predefined types (document 01, "Layout", Predefined; "Order of building"): their parts can be stored and
 -- read back, each is added to the earlier ones, and the tables show all four.
+use Rattle.std.specs.Prelude.{Ok}
 use Prim.Native.Nat.{ℕ, ◌+◌, ◌/◌, ◌<◌, ◌≤◌}
 use native.Mathlib.Omega.{arith}
 use mathlib.Core.Path.{◌≡◌, refl}
@@ -22,7 +23,6 @@ use Rattle.types.specs.tables.Defs.{Part, Def}
 use Rattle.types.specs.tables.Limits.{most_types, most_members, most_names}
 use Rattle.types.specs.tables.Registry.{view_of, members_of, name_bytes_of, no_types, no_members, no_names, type_rows}
 use Rattle.types.specs.tables.Registry.{member_rows, types_table, members_table, names_table}
-use Rattle.types.specs.declared.adding.progress.Progress.TheVariants.{Added}
 use Rattle.types.specs.declared.adding.used.Used.{Used}
 use Rattle.types.specs.declared.layout.predefined.PredefinedIds.{PredefinedIds}
 use Rattle.types.specs.declared.tables.member.StructKind.{StructKind}
@@ -170,7 +170,7 @@ module _ (ds : List Def) (name : List ℕ) (id size : ℕ) (kind : StructKind) (
 
   -- and the tables that stand for it
   added_stands : {t m n t' m' n' : List ℕ} {u r : Used} → TablesShow ds → Stands ds t m n u
-      → Took (yes (new_def (view_in t n u) name id size kind parts)) u t m n t' m' n' (Added r)
+      → Took (yes (new_def (view_in t n u) name id size kind parts)) u t m n t' m' n' (Ok r)
       → Stands (with_one ds name id size kind parts) t' m' n' r
   added_stands {t} {n = n} {u = u} s k took =
       let view : view_in t n u ≡ view_of ds = rw (k.types, k.names, k.used) (view_same ds s) in
@@ -227,7 +227,7 @@ module _ (ids : PredefinedIds) {t m n t' m' n' : List ℕ} {u r : Used} where
   -- where TIMER was added to the tables of no types, they are those of TIMER
   pub timer_stands : Stands [] t m n u
       → Took (yes (new_def (view_in t n u) timer_name ids.timer 12 Predefined (control_of pre_acc timer_bits))) u t m n
-      t' m' n' (Added r)
+      t' m' n' (Ok r)
       → Stands (with_timer ids) t' m' n' r
   unfolding with_timer timer_parts part pairs
   timer_stands s k = added_stands [] _ _ _ _ _ shown_none s k
@@ -236,7 +236,7 @@ module _ (ids : PredefinedIds) {t m n t' m' n' : List ℕ} {u r : Used} where
     -- where COUNTER was added after TIMER, the tables are those of both
     pub counter_stands : Stands (with_timer ids) t m n u
         → Took (yes (new_def (view_in t n u) counter_name ids.counter 12 Predefined (control_of pre_acc counter_bits)))
-        u t m n t' m' n' (Added r)
+        u t m n t' m' n' (Ok r)
         → Stands (with_counter ids) t' m' n' r
     unfolding with_counter counter_parts part pairs
     counter_stands s k = added_stands (with_timer ids) _ _ _ _ _ (timer_built ids good).shown s k
@@ -244,7 +244,7 @@ module _ (ids : PredefinedIds) {t m n t' m' n' : List ℕ} {u r : Used} where
     -- where CONTROL was added after these, the tables are those of the three
     pub control_stands : Stands (with_counter ids) t m n u
         → Took (yes (new_def (view_in t n u) control_name ids.control 12 Predefined (control_of len_pos control_bits)))
-        u t m n t' m' n' (Added r)
+        u t m n t' m' n' (Ok r)
         → Stands (with_control ids) t' m' n' r
     unfolding with_control control_type_parts part pairs
     control_stands s k = added_stands (with_counter ids) _ _ _ _ _ (counter_built ids good).shown s k
@@ -252,7 +252,7 @@ module _ (ids : PredefinedIds) {t m n t' m' n' : List ℕ} {u r : Used} where
     -- where STRING was added after these, the tables are those of all four
     pub string_stands : Stands (with_control ids) t m n u
         → Took (yes (new_def (view_in t n u) string_name ids.string (string_size 82) Str (string_parts 82))) u t m n
-        t' m' n' (Added r)
+        t' m' n' (Ok r)
         → Stands (predefined ids) t' m' n' r
     unfolding predefined
     string_stands s k = added_stands (with_control ids) _ _ _ _ _ (control_built ids good).shown s k

@@ -1,4 +1,5 @@
 -- Laws of bytes given into a caller's buffer (document 01, "Refusal numbers": 15, then 16).
+use Rattle.std.specs.Prelude.{Result, Ok, Err}
 use Prim.Native.Nat.{ℕ, ◌^◌, ◌≤◌, ◌<◌}
 use native.Mathlib.Omega.{arith}
 use mathlib.Core.Path.{◌≡◌, refl}
@@ -9,29 +10,28 @@ use lib.ListN.{length, take}
 use lib.Seq.{sets, sets-eq, take_at, length-sets}
 use Rattle.types.specs.inside.listing.Lines.{Lined}
 use Rattle.types.specs.refusals.Given.{Given, buffer_left, length_given}
-use Rattle.types.specs.declared.refusals.given.Wrote.{Wrote}
-use Rattle.types.specs.declared.refusals.given.Wrote.TheVariants.{Length, Refused}
+use Rattle.types.specs.declared.refusals.refusal.Refusal.{Refusal}
 use Rattle.types.specs.declared.refusals.refusal.Refusal.TheVariants.{NoRoom, NoSuchType}
 
 -- ---- the ways out
 
 module _ {s out : List ℕ} where
   -- where the buffer has room, the bytes are put at its start and their length is answered
-  pub given_room : length s ≤ length out → Given true s out (Length (length s)) (sets out 0 s)
+  pub given_room : length s ≤ length out → Given true s out (Ok (length s)) (sets out 0 s)
   unfolding length_given buffer_left
   given_room h =
       let e = le-leb (length s) (length out) h in
       record { is = simp e; bytes = simp e }
 
   -- the way out with 16, where the buffer is too short: it stays as it was
-  pub given_none : length out < length s → Given true s out (Refused NoRoom) out
+  pub given_none : length out < length s → Given true s out (Err NoRoom) out
   unfolding length_given buffer_left
   given_none h =
       let e = lt-leb (length s) (length out) h in
       record { is = simp e; bytes = simp e }
 
   -- the way out with 15, where there is nothing to give: the buffer stays as it was
-  pub given_absent : {there : Bool} → there ≡ false → Given there s out (Refused NoSuchType) out
+  pub given_absent : {there : Bool} → there ≡ false → Given there s out (Err NoSuchType) out
   unfolding length_given buffer_left
   given_absent e = record { is = rw e; bytes = rw e }
 
@@ -60,6 +60,6 @@ module _ {s out left : List ℕ} {n : ℕ} (l : Lined s out n left) where
   line_short h = omega (arith, line_long, l.long, l.room)
 
   -- giving that part is giving the line, where there is one
-  pub line_given : {there : Bool} {buffer given : List ℕ} {r : Wrote} → there ≡ true
+  pub line_given : {there : Bool} {buffer given : List ℕ} {r : Result ℕ Refusal} → there ≡ true
       → Given true (take n left) buffer r given → Given there s buffer r given
   line_given e g = rw (e, ← line_part) g

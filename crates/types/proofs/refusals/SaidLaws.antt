@@ -1,40 +1,19 @@
 -- What is said tells the answer (document 01, "Refusal numbers"): a refusal is the only one with its number and place,
 -- so that two answers that say the same are the same.
+use Rattle.std.specs.Prelude.{Option, Some, None, Result, Ok, Err}
 use Prim.Native.Nat.{ℕ, ◌-◌}
 use native.Mathlib.Omega.{arith}
 use mathlib.Core.Path.{◌≡◌, refl, sym, ap, ap₂, ◌∙◌}
 use mathlib.Core.List.{List, [], ◌∷◌}
 use lib.ListN.{get_or}
-use Rattle.types.specs.atomics.Header.{said_by as headed_says}
 use Rattle.types.specs.atomics.Lookup.{word_of, said_by as found_says}
 use Rattle.types.specs.layout.Placing.{said_by as end_says}
-use Rattle.types.specs.refusals.Fit.{fit_says}
-use Rattle.types.specs.refusals.Given.{said_by}
 use Rattle.types.specs.refusals.Refusal.{number_of, place_of}
-use Rattle.types.specs.refusals.Said.{why}
-use Rattle.types.specs.rounds.Build.{said_by as built_says}
-use Rattle.types.specs.shape.Tags.{said_by as shaped_says, symbol_says}
-use Rattle.types.specs.templates.Waste.{said_by as wasted_says}
-use Rattle.types.specs.declared.atomics.header.Headed.{Headed}
-use Rattle.types.specs.declared.atomics.lookup.FoundTy.{FoundTy}
-use Rattle.types.specs.declared.atomics.lookup.FoundTy.TheVariants as found
-use Rattle.types.specs.declared.layout.placing.End.{End}
-use Rattle.types.specs.declared.layout.placing.End.TheVariants as ends
-use Rattle.types.specs.declared.refusals.fit.Fit.{Fit}
-use Rattle.types.specs.declared.refusals.fit.Fit.TheVariants as fit
-use Rattle.types.specs.declared.refusals.given.Wrote.{Wrote}
-use Rattle.types.specs.declared.refusals.given.Wrote.TheVariants as wrote
+use Rattle.types.specs.refusals.Said.{said_by, why}
 use Rattle.types.specs.declared.refusals.refusal.Refusal.{Refusal}
 use Rattle.types.specs.declared.refusals.refusal.Refusal.TheVariants as refusal
-use Rattle.types.specs.declared.rounds.build.Built.{Built}
-use Rattle.types.specs.declared.rounds.build.Built.TheVariants as built
-use Rattle.types.specs.declared.shape.tags.Shaped.{Shaped}
-use Rattle.types.specs.declared.shape.tags.Symbol.{Symbol}
-use Rattle.types.specs.declared.shape.tags.Symbol.TheVariants as symbol
 use Rattle.types.specs.declared.tables.member.Ty.{Ty}
 use Rattle.types.specs.declared.tables.member.Ty.TheVariants.{Atomic, Struct}
-use Rattle.types.specs.declared.templates.waste.Wasted.{Wasted}
-use Rattle.types.specs.declared.templates.waste.Wasted.TheVariants as wasted
 use Rattle.types.proofs.atomics.AtomicLaws.{code_same}
 use Rattle.types.proofs.shape.ShapeLaws.{code_below}
 
@@ -87,38 +66,12 @@ why_same r s e =
     let place : place_of r ≡ place_of s = cc in
     refusal_same r s number place
 
-pub wrote_same : (r s : Wrote) → said_by r ≡ said_by s → r ≡ s
-wrote_same (wrote.Length n) (wrote.Length m) e = cc
-wrote_same (wrote.Length n) (wrote.Refused s) e = cc
-wrote_same (wrote.Refused r) (wrote.Length m) e = cc
-wrote_same (wrote.Refused r) (wrote.Refused s) e = let f = why_same r s e in cc
-
-pub fit_same : (r s : Fit) → fit_says r ≡ fit_says s → r ≡ s
-fit_same fit.Fits fit.Fits e = refl
-fit_same fit.Fits (fit.Refused s) e = cc
-fit_same (fit.Refused r) fit.Fits e = cc
-fit_same (fit.Refused r) (fit.Refused s) e = let f = why_same r s e in cc
-
-pub shaped_same : (r s : Shaped) → shaped_says r ≡ shaped_says s → r ≡ s
-shaped_same r s e =
-    ap₂ (λ f x. record { fit = f; shape = x }) (fit_same r.fit s.fit (ap (λ t. t.said) e)) (ap (λ t. t.shape) e)
-
-pub headed_same : (r s : Headed) → headed_says r ≡ headed_says s → r ≡ s
-headed_same r s e =
-    ap₂ (λ f h. record { fit = f; header = h }) (fit_same r.fit s.fit (ap (λ t. t.said) e))
-    (ap (λ t. t.header) e)
-
-pub symbol_same : (r s : Symbol) → symbol_says r ≡ symbol_says s → r ≡ s
-symbol_same (symbol.Type n) (symbol.Type m) e = cc
-symbol_same (symbol.Type n) (symbol.Refused s) e = cc
-symbol_same (symbol.Refused r) (symbol.Type m) e = cc
-symbol_same (symbol.Refused r) (symbol.Refused s) e = let f = why_same r s e in cc
-
-pub wasted_same : (r s : Wasted) → wasted_says r ≡ wasted_says s → r ≡ s
-wasted_same (wasted.Bits n) (wasted.Bits m) e = cc
-wasted_same (wasted.Bits n) (wasted.Refused s) e = cc
-wasted_same (wasted.Refused r) (wasted.Bits m) e = cc
-wasted_same (wasted.Refused r) (wasted.Refused s) e = let f = why_same r s e in cc
+-- an answer is the only one that says what it says
+pub said_same : {A : Type 0} (r s : Result A Refusal) → said_by r ≡ said_by s → r ≡ s
+said_same (Ok n) (Ok m) e = cc
+said_same (Ok n) (Err s) e = cc
+said_same (Err r) (Ok m) e = cc
+said_same (Err r) (Err s) e = let f = why_same r s e in cc
 
 -- a type's word tells the type
 word_same : (a b : Ty) → word_of a ≡ word_of b → a ≡ b
@@ -127,22 +80,16 @@ word_same (Atomic a) (Struct n) e = absurd (let z : ⊥ = omega (arith, code_bel
 word_same (Struct n) (Atomic b) e = absurd (let z : ⊥ = omega (arith, code_below b) in z)
 word_same (Struct n) (Struct m) e = ap Struct (omega arith)
 
-pub found_same : (r s : FoundTy) → found_says r ≡ found_says s → r ≡ s
-found_same (found.Is a) (found.Is b) e =
+pub found_same : (r s : Option Ty) → found_says r ≡ found_says s → r ≡ s
+found_same (Some a) (Some b) e =
     let w : word_of a ≡ word_of b = cc in
-    ap found.Is (word_same a b w)
-found_same (found.Is a) found.Nothing e = cc
-found_same found.Nothing (found.Is b) e = cc
-found_same found.Nothing found.Nothing e = refl
+    ap Some (word_same a b w)
+found_same (Some a) None e = cc
+found_same None (Some b) e = cc
+found_same None None e = refl
 
-pub built_same : (r s : Built) → built_says r ≡ built_says s → r ≡ s
-built_same (built.Types n) (built.Types m) e = cc
-built_same (built.Types n) (built.Refused s) e = cc
-built_same (built.Refused r) (built.Types m) e = cc
-built_same (built.Refused r) (built.Refused s) e = let f = why_same r s e in cc
-
-pub end_same : (r s : End) → end_says r ≡ end_says s → r ≡ s
-end_same (ends.At n) (ends.At m) e = cc
-end_same (ends.At n) ends.Over e = cc
-end_same ends.Over (ends.At m) e = cc
-end_same ends.Over ends.Over e = refl
+pub end_same : (r s : Option ℕ) → end_says r ≡ end_says s → r ≡ s
+end_same (Some n) (Some m) e = cc
+end_same (Some n) None e = cc
+end_same None (Some m) e = cc
+end_same None None e = refl

@@ -1,5 +1,6 @@
 -- Laws of one round in code (document 01, "Order of building"): what the registries have that rounds reach, what the
 -- loop over a book's types keeps, the ways on and the ways out of it.
+use Rattle.std.specs.Prelude.{Option, Some, None, Result, Ok, Err}
 use Prim.Native.Nat.{ℕ, ◌+◌, ◌-◌, ◌*◌, ◌<◌, ◌≤◌}
 use native.Mathlib.Omega.{arith}
 use mathlib.Core.Path.{◌≡◌, refl, ap, ◌∙◌}
@@ -22,11 +23,8 @@ use Rattle.types.specs.rounds.Rounds.{no, ok, went}
 use Rattle.types.specs.rounds.Turns.{stuck_at, entries_at, count_of, decls_of, ready_in, verdict_on, add_in}
 use Rattle.types.specs.tables.Defs.{Def}
 use Rattle.types.specs.tables.Registry.{view_of}
-use Rattle.types.specs.declared.adding.progress.Progress.{Progress}
-use Rattle.types.specs.declared.adding.progress.Progress.TheVariants.{Waits, Refused as Against, Added}
 use Rattle.types.specs.declared.adding.used.Used.{Used}
 use Rattle.types.specs.declared.refusals.refusal.Refusal.{Refusal}
-use Rattle.types.specs.declared.rounds.round.Round.TheVariants.{Refused, Went}
 use Rattle.types.proofs.adding.VerdictLaws.{verdict_fits}
 use Rattle.types.proofs.book.SoundLaws.{BookSound, sound, among_all}
 use Rattle.types.proofs.rounds.RoundLaws.{round_keep}
@@ -130,7 +128,7 @@ module _ {book t₀ m₀ n₀ tys₀ f₀ k₀ r₀ t m n tys f k r : List ℕ} 
   -- ---- the end of a round
 
   -- past the last type the round was made: it refused none, and so many still wait
-  pub made_all : T ≤ i → RoundMade book T u₀ t₀ m₀ n₀ f₀ t m n f k r (Went u left)
+  pub made_all : T ≤ i → RoundMade book T u₀ t₀ m₀ n₀ f₀ t m n f k r (Ok (u, left))
   made_all l =
       record {
         each = λ ds q s.
@@ -191,7 +189,7 @@ module _ {book t₀ m₀ n₀ tys₀ f₀ k₀ r₀ t m n tys f k r : List ℕ} 
           rows = w.rows;
         }
 
-    module _ {t' m' n' : List ℕ} {x : Progress} (h : Turned
+    module _ {t' m' n' : List ℕ} {x : Result (Option Used) Refusal} (h : Turned
         (all_known has_name (row_names t n u.types) (type_names book at 0 (count_of book i)))
         (add_to (view_in t n u) book i at (decls_of (view_in t n u) book (entries_from book at 0 (count_of book i)))) u
         t m n t' m' n' x) (o : get_or f i 0 ≡ 0) where
@@ -201,8 +199,8 @@ module _ {book t₀ m₀ n₀ tys₀ f₀ k₀ r₀ t m n tys f k r : List ℕ} 
       turned v = turn_same v.shown v.stands book i at v.place h
 
       -- where the turn refuses the type, the round was made with that refusal
-      pub made_no : {k' r' : List ℕ} (y : Refusal) → x ≡ Against y
-          → RoundMade book T u₀ t₀ m₀ n₀ f₀ t' m' n' f k' r' (Refused y)
+      pub made_no : {k' r' : List ℕ} (y : Refusal) → x ≡ Err y
+          → RoundMade book T u₀ t₀ m₀ n₀ f₀ t' m' n' f k' r' (Err y)
       made_no y e =
           record {
             each = λ ds q s.
@@ -212,7 +210,7 @@ module _ {book t₀ m₀ n₀ tys₀ f₀ k₀ r₀ t m n tys f k r : List ℕ} 
           }
 
       -- with the type that was added
-      module _ {ds₀ : List Def} (v : Inner book ds₀ f₀ T t m n f u left i at) (u' : Used) (e : x ≡ Added u') where
+      module _ {ds₀ : List Def} (v : Inner book ds₀ f₀ T t m n f u left i at) (u' : Used) (e : x ≡ Ok (Some u')) where
         new : AddedBy (ready_in book v.ds i) (verdict_on book (view_of v.ds) i) u t m n t' m' n' u'
         new = turn_added (turned v) u' e
 
@@ -232,7 +230,7 @@ module _ {book t₀ m₀ n₀ tys₀ f₀ k₀ r₀ t m n tys f k r : List ℕ} 
       module _ {tys' k' r' : List ℕ} (kept : length tys' ≡ length tys) (kept_k : length k' ≡ length k)
           (kept_r : length r' ≡ length r) (tries : Tries book (row_names t n u.types) k' r') where
         -- where the type still waits, the round goes on with the next one and the same flags
-        pub within_wait : x ≡ Waits
+        pub within_wait : x ≡ Ok None
             → InRound book T t₀ m₀ n₀ tys₀ f₀ k₀ r₀ u₀ t' m' n' tys' f k' r' u left (i + 1)
             (at + 16 * count_of book i)
         within_wait e =
@@ -254,7 +252,7 @@ module _ {book t₀ m₀ n₀ tys₀ f₀ k₀ r₀ t m n tys f k r : List ℕ} 
             }
 
         -- where the type is added, its flag is set, one fewer is left, and the round goes on with the next one
-        pub within_yes : (u' : Used) → x ≡ Added u'
+        pub within_yes : (u' : Used) → x ≡ Ok (Some u')
             → InRound book T t₀ m₀ n₀ tys₀ f₀ k₀ r₀ u₀ t' m' n' tys' (set f i 1) k' r' u' (left - 1) (i + 1)
             (at + 16 * count_of book i)
         within_yes u' e =

@@ -1,5 +1,6 @@
 -- The theorem about refusal 10 for a book (document 01, "Order of building"): acceptance shows an ordering of its
 -- types, and where refusal 10 comes there is none. Names are known as the lookup finds them, without ASCII case.
+use Rattle.std.specs.Prelude.{Option, Some, None}
 use Prim.Native.Nat.{ℕ, ◌+◌}
 use native.Mathlib.Omega.{arith}
 use mathlib.Core.Path.{◌≡◌, refl, sym, ap, ◌∙◌}
@@ -23,9 +24,6 @@ use Rattle.types.specs.rounds.Turns.{stuck_at, uses_of, ready_in, verdict_on, st
 use Rattle.types.specs.tables.Defs.{Def}
 use Rattle.types.specs.tables.Registry.{view_of}
 use Rattle.types.specs.declared.atomics.atomic.Atomic.{Atomic as Kind}
-use Rattle.types.specs.declared.atomics.atomic.FoundAtomic.{FoundAtomic}
-use Rattle.types.specs.declared.atomics.atomic.FoundAtomic.TheVariants.{Is as found, Nothing as None-found}
-use Rattle.types.specs.declared.atomics.lookup.FoundTy.TheVariants.{Is, Nothing}
 use Rattle.types.specs.declared.layout.predefined.PredefinedIds.{PredefinedIds}
 use Rattle.types.specs.declared.tables.member.Ty.TheVariants.{Struct}
 use Rattle.types.proofs.adding.VerdictLaws.{verdict_name, verdict_never}
@@ -73,15 +71,15 @@ named_more : (K : List (List ℕ)) (n x : List ℕ) (i : ℕ)
 unfolding named_among
 named_more [] n x i = go (same_name n x)
   where
-    go : (b : Bool) → is_found (cond b (Is (Struct i)) Nothing) ≡ b
+    go : (b : Bool) → is_found (cond b (Some (Struct i)) None) ≡ b
     go true = refl
     go false = refl
 named_more (y ∷ K) n x i = go (same_name y x) (named_more K n x (i + 1))
   where
     go : (b : Bool)
         → is_found (named_among (K ++ n ∷ []) x (i + 1)) ≡ (is_found (named_among K x (i + 1)) || same_name n x)
-        → is_found (cond b (Is (Struct i)) (named_among (K ++ n ∷ []) x (i + 1)))
-        ≡ (is_found (cond b (Is (Struct i)) (named_among K x (i + 1))) || same_name n x)
+        → is_found (cond b (Some (Struct i)) (named_among (K ++ n ∷ []) x (i + 1)))
+        ≡ (is_found (cond b (Some (Struct i)) (named_among K x (i + 1))) || same_name n x)
     go true ih = refl
     go false ih = ih
 
@@ -89,10 +87,10 @@ has_more : (K : List (List ℕ)) (n x : List ℕ) → has_name (K ++ n ∷ []) x
 unfolding type_among
 has_more K n x = go (atomic_named x)
   where
-    go : (a : FoundAtomic) → is_found (atomic_or a (named_among (K ++ n ∷ []) x 0))
+    go : (a : Option Kind) → is_found (atomic_or a (named_among (K ++ n ∷ []) x 0))
         ≡ (is_found (atomic_or a (named_among K x 0)) || same_name n x)
-    go (found a) = refl
-    go None-found = named_more K n x 0
+    go (Some a) = refl
+    go None = named_more K n x 0
 
 pub names_known : Known has_name
 names_known =

@@ -1,5 +1,6 @@
 -- Laws of resolving member types: what is found is one of the known types, and the words of all are those found so far
 -- and those of the rest.
+use Rattle.std.specs.Prelude.{Option, Some, None}
 use Prim.Native.Nat.{ℕ, suc, ◌+◌, ◌-◌, ◌<◌, ◌≤◌}
 use native.Mathlib.Omega.{arith}
 use native.Mathlib.Nat.{zero-add}
@@ -15,32 +16,29 @@ use Rattle.types.specs.inside.rounds.Resolve.{found_words, Resolves}
 use Rattle.types.specs.layout.Laid.{Earlier}
 use Rattle.types.specs.rounds.Resolve.{type_name, type_names}
 use Rattle.types.specs.tables.Lent.{ty_word}
-use Rattle.types.specs.declared.atomics.atomic.FoundAtomic.{FoundAtomic}
-use Rattle.types.specs.declared.atomics.atomic.FoundAtomic.TheVariants.{Is as found, Nothing as none}
-use Rattle.types.specs.declared.atomics.lookup.FoundTy.{FoundTy}
-use Rattle.types.specs.declared.atomics.lookup.FoundTy.TheVariants.{Is, Nothing}
+use Rattle.types.specs.declared.atomics.atomic.Atomic.{Atomic as AtomicType}
 use Rattle.types.specs.declared.tables.member.Ty.{Ty}
 use Rattle.types.specs.declared.tables.member.Ty.TheVariants.{Atomic, Struct}
 use Rattle.types.proofs.book.BookLaws.{from_cons, from_none}
 
 -- ---- what is found
 
-abbrev Below : ℕ → FoundTy → Type 0
-Below n (Is ty) = Earlier n ty
-Below n Nothing = Unit {0}
+abbrev Below : ℕ → Option Ty → Type 0
+Below n (Some ty) = Earlier n ty
+Below n None = Unit {0}
 
 among_below : (known : List (List ℕ)) (s : List ℕ) (i : ℕ) → Below (i + length known) (named_among known s i)
 unfolding named_among
 among_below [] s i = tt
 among_below (x ∷ xs) s i = go (same_name x s) (among_below xs s (i + 1))
   where
-    up : (f : FoundTy) → Below (i + 1 + length xs) f → Below (i + suc (length xs)) f
-    up (Is (Atomic a)) b = tt
-    up (Is (Struct n)) b = omega arith
-    up Nothing b = tt
+    up : (f : Option Ty) → Below (i + 1 + length xs) f → Below (i + suc (length xs)) f
+    up (Some (Atomic a)) b = tt
+    up (Some (Struct n)) b = omega arith
+    up None b = tt
 
     go : (b : Bool) → Below (i + 1 + length xs) (named_among xs s (i + 1))
-        → Below (i + suc (length xs)) (cond b (Is (Struct i)) (named_among xs s (i + 1)))
+        → Below (i + suc (length xs)) (cond b (Some (Struct i)) (named_among xs s (i + 1)))
     go true b = omega arith
     go false b = up (named_among xs s (i + 1)) b
 
@@ -48,12 +46,12 @@ found_below : (known : List (List ℕ)) (s : List ℕ) → Below (length known) 
 unfolding type_among
 found_below known s = go (atomic_named s)
   where
-    go : (a : FoundAtomic) → Below (length known) (atomic_or a (named_among known s 0))
-    go (found a) = tt
-    go none = rw zero-add at (among_below known s 0)
+    go : (a : Option AtomicType) → Below (length known) (atomic_or a (named_among known s 0))
+    go (Some a) = tt
+    go None = rw zero-add at (among_below known s 0)
 
 -- a type that is found is an atomic or one of the known types
-pub found_earlier : (known : List (List ℕ)) (s : List ℕ) (ty : Ty) → type_among known s ≡ Is ty
+pub found_earlier : (known : List (List ℕ)) (s : List ℕ) (ty : Ty) → type_among known s ≡ Some ty
     → Earlier (length known) ty
 found_earlier known s ty e = rw e at (found_below known s)
 
@@ -74,7 +72,7 @@ module _ {known : List (List ℕ)} {book : List ℕ} {at n : ℕ} {tys₀ tys : 
     names_cons = from_cons (type_name book at) n j l
 
     -- where the j-th member's type is found, its word is stored and those after it are left
-    pub left_on : (ty : Ty) → type_among known (type_name book at j) ≡ Is ty
+    pub left_on : (ty : Ty) → type_among known (type_name book at j) ≡ Some ty
         → WordsLeft known book at n tys₀ (set tys j (ty_word ty)) (j + 1)
     unfolding found_words
     left_on ty e =
@@ -86,7 +84,7 @@ module _ {known : List (List ℕ)} {book : List ℕ} {at n : ℕ} {tys₀ tys : 
         }
 
     -- where the j-th member's type is not known, the types are resolved up to it
-    pub left_stop : type_among known (type_name book at j) ≡ Nothing
+    pub left_stop : type_among known (type_name book at j) ≡ None
         → Resolves known (type_names book at 0 n) tys₀ tys j
     unfolding found_words
     left_stop e =

@@ -1,5 +1,6 @@
 -- Laws of the search for member types (document 01, "Order of building"): a name that was not among the first types and
 -- is not among the later ones is not among all; what is known of earlier turns stays where a type is added.
+use Rattle.std.specs.Prelude.{Option, Some, None}
 use Prim.Native.Nat.{ℕ, zero, suc, ◌+◌, ◌-◌, ◌<◌, ◌≤◌}
 use native.Mathlib.Decide.{dec_lt}
 use native.Mathlib.Omega.{arith}
@@ -19,41 +20,39 @@ use Rattle.types.specs.inside.rounds.Turns.{Missed, Tries}
 use Rattle.types.specs.rounds.Order.{all_known}
 use Rattle.types.specs.rounds.Resolve.{type_name, is_found, has_name}
 use Rattle.types.specs.rounds.Turns.{entries_at, count_of}
-use Rattle.types.specs.declared.atomics.atomic.FoundAtomic.{FoundAtomic}
-use Rattle.types.specs.declared.atomics.atomic.FoundAtomic.TheVariants.{Is as found, Nothing as none}
-use Rattle.types.specs.declared.atomics.lookup.FoundTy.{FoundTy}
-use Rattle.types.specs.declared.atomics.lookup.FoundTy.TheVariants.{Is, Nothing}
+use Rattle.types.specs.declared.tables.member.Ty.{Ty}
+use Rattle.types.specs.declared.atomics.atomic.Atomic.{Atomic}
 use Rattle.types.specs.declared.tables.member.Ty.TheVariants.{Struct}
 use Rattle.types.proofs.tables.AgreeLaws.{length_list, get_d_from, get_d_list}
 
 -- ---- a name that is not found is none of the names
 
-none_other : (xs : List (List ℕ)) (s : List ℕ) (i : ℕ) → named_among xs s i ≡ Nothing → (j : ℕ) → j < length xs
+none_other : (xs : List (List ℕ)) (s : List ℕ) (i : ℕ) → named_among xs s i ≡ None → (j : ℕ) → j < length xs
     → same_name (get_or xs j []) s ≡ false
 unfolding named_among
 none_other [] s i e j l = absurd (let z : ⊥ = omega arith in z)
 none_other (x ∷ xs) s i e j l = go (same_name x s) refl e (none_other xs s (i + 1)) j l
   where
-    go : (b : Bool) → same_name x s ≡ b → cond b (Is (Struct i)) (named_among xs s (i + 1)) ≡ Nothing
-        → (named_among xs s (i + 1) ≡ Nothing → (j : ℕ) → j < length xs → same_name (get_or xs j []) s ≡ false)
+    go : (b : Bool) → same_name x s ≡ b → cond b (Some (Struct i)) (named_among xs s (i + 1)) ≡ None
+        → (named_among xs s (i + 1) ≡ None → (j : ℕ) → j < length xs → same_name (get_or xs j []) s ≡ false)
         → (j : ℕ) → j < suc (length xs) → same_name (get_or (x ∷ xs) j []) s ≡ false
     go true q e rest j l = let z : true ≡ false = cc in absurd (true≢false z)
     go false q e rest zero l = q
     go false q e rest (suc j) l = rest e j (omega arith)
 
 other_none : (xs : List (List ℕ)) (s : List ℕ) (i : ℕ)
-    → ((j : ℕ) → j < length xs → same_name (get_or xs j []) s ≡ false) → named_among xs s i ≡ Nothing
+    → ((j : ℕ) → j < length xs → same_name (get_or xs j []) s ≡ false) → named_among xs s i ≡ None
 unfolding named_among
 other_none [] s i h = refl
 other_none (x ∷ xs) s i h =
     let q : same_name x s ≡ false = h 0 (omega arith) in
     rw q (other_none xs s (i + 1) (λ j l. h (suc j) (omega arith)))
 
-neither : (a : FoundAtomic) (f : FoundTy) → atomic_or a f ≡ Nothing → (a ≡ none) × (f ≡ Nothing)
-neither (found a) f e = let z : true ≡ false = cc in absurd (true≢false z)
-neither none f e = (refl, e)
+neither : (a : Option Atomic) (f : Option Ty) → atomic_or a f ≡ None → (a ≡ None) × (f ≡ None)
+neither (Some a) f e = let z : true ≡ false = cc in absurd (true≢false z)
+neither None f e = (refl, e)
 
-pub unseen_all : (known : List (List ℕ)) {s : List ℕ} → type_among known s ≡ Nothing → (n : ℕ) → n ≡ length known
+pub unseen_all : (known : List (List ℕ)) {s : List ℕ} → type_among known s ≡ None → (n : ℕ) → n ≡ length known
     → Unseen known s n
 unfolding type_among
 unseen_all known {s} e n q =
@@ -67,7 +66,7 @@ unseen_all known {s} e n q =
 -- ---- not among the first, nor among the later ones
 
 module _ (f : ℕ → List ℕ) (s : List ℕ) (from n : ℕ) (u : Unseen (list_from f 0 n) s from)
-    (e : named_among (list_from f from (n - from)) s from ≡ Nothing) where
+    (e : named_among (list_from f from (n - from)) s from ≡ None) where
   each : (j : ℕ) → j < n → same_name (get_or (list_from f 0 n) j []) s ≡ false
   each j l = go (dec_lt j from)
     where
@@ -81,7 +80,7 @@ module _ (f : ℕ → List ℕ) (s : List ℕ) (from n : ℕ) (u : Unseen (list_
           (rw (get_d_from f from (n - from) (j - from) [] (omega (arith, o))) at q)
 
   -- a name that is no atomic's, none of the first types' and none of the later ones' is not found
-  pub unseen_none : type_among (list_from f 0 n) s ≡ Nothing
+  pub unseen_none : type_among (list_from f 0 n) s ≡ None
   unfolding type_among
   unseen_none = rw u.plain (other_none (list_from f 0 n) s 0 (λ j l. each j (omega (arith, length_list f 0 n))))
 
@@ -89,7 +88,7 @@ module _ (f : ℕ → List ℕ) (s : List ℕ) (from n : ℕ) (u : Unseen (list_
 
 -- where one name is not known, not all are
 pub one_unknown : (known names : List (List ℕ)) (k : ℕ) → k < length names
-    → type_among known (get_or names k []) ≡ Nothing
+    → type_among known (get_or names k []) ≡ None
     → all_known has_name known names ≡ false
 unfolding every
 one_unknown known [] k l e = absurd (let z : ⊥ = omega arith in z)
@@ -99,17 +98,17 @@ one_unknown known (s ∷ ss) (suc k) l e =
 
 -- the first that is not known
 pub first_unknown : (known names : List (List ℕ)) → length (found_words known names) < length names
-    → type_among known (get_or names (length (found_words known names)) []) ≡ Nothing
+    → type_among known (get_or names (length (found_words known names)) []) ≡ None
 unfolding found_words
 first_unknown known [] l = absurd (let z : ⊥ = omega arith in z)
 first_unknown known (s ∷ ss) l = go (type_among known s) refl l (first_unknown known ss)
   where
-    go : (f : FoundTy) → type_among known s ≡ f → length (then_word f (found_words known ss)) < suc (length ss)
+    go : (f : Option Ty) → type_among known s ≡ f → length (then_word f (found_words known ss)) < suc (length ss)
         → (length (found_words known ss) < length ss
-        → type_among known (get_or ss (length (found_words known ss)) []) ≡ Nothing)
-        → type_among known (get_or (s ∷ ss) (length (then_word f (found_words known ss))) []) ≡ Nothing
-    go (Is ty) e h rest = rest (omega arith)
-    go Nothing e h rest = e
+        → type_among known (get_or ss (length (found_words known ss)) []) ≡ None)
+        → type_among known (get_or (s ∷ ss) (length (then_word f (found_words known ss))) []) ≡ None
+    go (Some ty) e h rest = rest (omega arith)
+    go None e h rest = e
 
 -- ---- what is known of earlier turns
 
@@ -166,7 +165,7 @@ module _ {book stuck tried : List ℕ} {known : List (List ℕ)} (t : Tries book
             rw (e, get_or-set_same tried i n 0 (omega (arith, t.rows))) m
 
     module _ (long : n ≡ length known) (k : ℕ) (below : k < count_of book i)
-        (none_is : type_among known (type_name book (entries_at book i) k) ≡ Nothing) where
+        (none_is : type_among known (type_name book (entries_at book i) k) ≡ None) where
       missed_now : Missed book known i k n
       missed_now = record { below = below; unseen = unseen_all known none_is n long }
 

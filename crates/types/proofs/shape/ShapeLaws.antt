@@ -1,25 +1,27 @@
 -- Laws of tag shapes (document 01, "Tag shape"): the ways out of the tests, the product of the lengths one after the
--- other, a test of a product that does not multiply, and that a symbol type fits 16 bits.
+-- other, and that a symbol type fits 16 bits.
+use Rattle.std.specs.Prelude.{Option, Some, None}
 use Prim.Native.Nat.{ℕ, ◌+◌, ◌-◌, ◌*◌, ◌/◌, ◌^◌, ◌≤◌, ◌<◌}
 use native.Mathlib.Nat.{mul_assoc, le-mul_of_pos_right}
 use native.Mathlib.Numerals.{add-one}
 use native.Mathlib.Omega.{arith}
 use mathlib.Core.Path.{◌≡◌, refl, sym, ap, ◌∙◌}
-use mathlib.Core.Bool.{Bool, true, false, cond, not}
+use mathlib.Core.Bool.{Bool, true, false, cond, not, ◌&&◌}
 use mathlib.Core.List.{List, [], ◌∷◌}
-use borrow.Author.Tests.{eq-eqb, ne_eqb, eqb-false, le-leb, lt-leb, leb-true, leb-false, lt-ltb, le-ltb, ltb-true}
+use borrow.Author.Tests.{eqb-false, le-leb, lt-leb, leb-true, lt-ltb, le-ltb, ltb-true}
 use borrow.Author.Tests.{not-true}
 use lib.Dec.{eqb, leb, ltb, lit<}
 use lib.ListN.{length, get_or, drop, drop_of_length-le}
 use lib.Seq.{drop-cons}
+use Rattle.std.specs.Int.{next_multiple_of}
+use Rattle.std.specs.List.{list_all}
 use Rattle.words.proofs.TestLaws.{and_left, and_right}
 use Rattle.types.specs.atomics.Atomic.{code_of}
 use Rattle.types.specs.inside.shape.Tags.{product_of}
 use Rattle.types.specs.inside.tables.Lent.{TyFits}
 use Rattle.types.specs.layout.Placing.{most_size, is_bool, align_up}
-use Rattle.types.specs.refusals.Said.{done}
-use Rattle.types.specs.refusals.Said as say
-use Rattle.types.specs.shape.Tags.{ShapeSaid, given, refused_shape, most_lengths, none_zero, lengths_ok, product}
+use Rattle.types.specs.refusals.Said.{Said, done, refused}
+use Rattle.types.specs.shape.Tags.{most_lengths, none_zero, lengths_ok, product}
 use Rattle.types.specs.shape.Tags.{three, within, bool_tag, bool_shape, plain_shape, shape_of, symbol_for, symbol_of}
 use Rattle.types.specs.tables.Kept.{KeptTypes}
 use Rattle.types.specs.tables.Lent.{type_at}
@@ -31,8 +33,6 @@ use Rattle.types.specs.declared.atomics.atomic.Atomic.{Atomic as Kind}
 use Rattle.types.specs.declared.atomics.atomic.Atomic.TheVariants.{Bool as BOOL, SInt, Int, DInt, LInt, USInt}
 use Rattle.types.specs.declared.atomics.atomic.Atomic.TheVariants.{UInt, UDInt, ULInt, Real, LReal, Byte, Word}
 use Rattle.types.specs.declared.atomics.atomic.Atomic.TheVariants.{DWord, LWord}
-use Rattle.types.specs.declared.shape.tags.Product.{Product}
-use Rattle.types.specs.declared.shape.tags.Product.TheVariants.{Is, Over}
 use Rattle.types.specs.declared.shape.tags.Shape.{Shape}
 use Rattle.types.specs.declared.tables.member.StructDef.{StructDef}
 use Rattle.types.specs.declared.tables.member.Ty.{Ty}
@@ -67,21 +67,11 @@ pub most_other : (t : Ty) → is_bool t ≡ false → 3 ≡ most_lengths t
 unfolding most_lengths
 most_other t b = rw b
 
-module _ (s : List ℕ) (i : ℕ) (l : i < length s) where
-  -- where length i is 0, one of those from it on is 0
-  pub none_off : get_or s i 0 ≡ 0 → none_zero (drop i s) ≡ false
-  unfolding none_zero
-  none_off e = rw (drop-cons s i 0 l) (simp (eq-eqb _ 0 e))
-
-  -- where length i is not 0, none from it on is 0 just where none after it is
-  pub none_on : (get_or s i 0 ≡ 0 → ⊥) → none_zero (drop i s) ≡ none_zero (drop (i + 1) s)
-  unfolding none_zero
-  none_on n = rw (add-one, drop-cons s i 0 l) (simp (ne_eqb _ 0 n))
-
--- where no length is left, none is 0
-pub none_done : (s : List ℕ) (i : ℕ) → length s ≤ i → none_zero (drop i s) ≡ true
+-- none is 0 just where the test holds of all
+pub none_all : (s : List ℕ) → list_all (λ n. not (eqb n 0)) s ≡ none_zero s
 unfolding none_zero
-none_done s i l = rw (drop_of_length-le s l)
+none_all [] = refl
+none_all (n ∷ s) = ap (λ (b : Bool). not (eqb n 0) && b) (none_all s)
 
 module _ (t : Ty) (s : List ℕ) where
   -- more lengths than the type may have are wrong
@@ -147,20 +137,19 @@ module _ {s : List ℕ} {n i : ℕ} (w : Multiplying s n i) where
     next_rest = w.rest ∙ rw (add-one, drop-cons s i 0 l, ← e) (sym (mul_assoc n x _))
 
     -- the next length is multiplied in where 64 bits hold the product
-    pub mul_on : leb (n * x) (2 ^ 64 - 1) ≡ true → Multiplying s (n * x) (i + 1)
-    mul_on f =
-        record { inside = omega arith; small = leb-true (n * x) (2 ^ 64 - 1) f; none = next_none; rest = next_rest }
+    pub mul_on : n * x < 2 ^ 64 → Multiplying s (n * x) (i + 1)
+    mul_on f = record { inside = omega arith; small = omega arith; none = next_none; rest = next_rest }
 
     -- where 64 bits do not hold the product with the next length, they do not hold that of all
-    pub mul_over : leb (n * x) (2 ^ 64 - 1) ≡ false → Over ≡ product_of s
+    pub mul_over : (n * x < 2 ^ 64 → ⊥) → None ≡ product_of s
     unfolding product_of
     mul_over f =
-        let h = leb-false (n * x) (2 ^ 64 - 1) f in
+        let h : 2 ^ 64 ≤ n * x = omega arith in
         let k = le-mul_of_pos_right (n * x) (product_least (drop (i + 1) s) next_none) in
         simp (lt-leb (product s) (2 ^ 64 - 1) (omega (arith, next_rest)))
 
   -- where no length is left, the product is that of all
-  pub mul_done : length s ≤ i → Is n ≡ product_of s
+  pub mul_done : length s ≤ i → Some n ≡ product_of s
   unfolding product_of product
   mul_done l =
       let e : product s ≡ n = w.rest ∙ rw (drop_of_length-le s l) (omega arith) in
@@ -170,20 +159,25 @@ module _ {s : List ℕ} {n i : ℕ} (w : Multiplying s n i) where
 
 module _ (sizes : ℕ → ℕ) (t : Ty) (lengths : List ℕ) (used n : ℕ) {size : ℕ} (e : size ≡ size_in sizes t) where
   -- elements of at most 2^26 bytes in all: the shape is given
-  pub within_fits : leb (size * n) most_size ≡ true
-      → given (record { ty = t; lengths = lengths; used = used; elements = n; bytes = size * n })
+  pub within_fits : size * n ≤ most_size
+      → done (record { ty = t; lengths = lengths; used = used; elements = n; bytes = size * n })
       ≡ within sizes t lengths used n
   unfolding within
-  within_fits f = rw (← e) (simp f)
+  within_fits f = rw (← e) (simp (le-leb (size * n) most_size f))
 
   -- elements of more than 2^26 bytes in all get refusal 24
-  pub within_over : leb (size * n) most_size ≡ false → refused_shape 24 0 ≡ within sizes t lengths used n
+  pub within_over : most_size < size * n → refused 24 0 ≡ within sizes t lengths used n
   unfolding within
-  within_over f = rw (← e) (simp f)
+  within_over f = rw (← e) (simp (lt-leb (size * n) most_size f))
+
+-- the next multiple of 32 is the length rounded up
+pub rounded : (n : ℕ) → next_multiple_of n 32 ≡ align_up n 32
+unfolding align_up
+rounded n = omega arith
 
 module _ (sizes : ℕ → ℕ) (n : ℕ) {up : ℕ} (e : up ≡ align_up n 32) where
   -- a BOOL tag whose rounded length is above 2^32 - 1: refusal 24
-  pub bool_over : 2 ^ 32 - 1 < up → refused_shape 24 0 ≡ bool_shape sizes n
+  pub bool_over : 2 ^ 32 - 1 < up → refused 24 0 ≡ bool_shape sizes n
   unfolding bool_shape
   bool_over h = rw (← e) (simp (lt-leb up (2 ^ 32 - 1) h))
 
@@ -193,25 +187,25 @@ module _ (sizes : ℕ → ℕ) (n : ℕ) {up : ℕ} (e : up ≡ align_up n 32) w
   bool_within h = rw (← e) (simp (le-leb up (2 ^ 32 - 1) h))
 
 -- a product that was found decides
-over_go : (b : Bool) (n : ℕ) (s : ShapeSaid) → cond b (Is n) Over ≡ Over
-    → refused_shape 24 0 ≡ cond b s (refused_shape 24 0)
+over_go : (b : Bool) (n : ℕ) (s : Said Shape) → cond b (Some n) None ≡ None
+    → refused 24 0 ≡ cond b s (refused 24 0)
 over_go true n s q = cc
 over_go false n s q = refl
 
-is_go : (b : Bool) (n m : ℕ) (f : ℕ → ShapeSaid) → cond b (Is n) Over ≡ Is m → f m ≡ cond b (f n) (refused_shape 24 0)
+is_go : (b : Bool) (n m : ℕ) (f : ℕ → Said Shape) → cond b (Some n) None ≡ Some m → f m ≡ cond b (f n) (refused 24 0)
 is_go true n m f q =
     let z : m ≡ n = cc in
     ap f z
 is_go false n m f q = cc
 
-module _ (sizes : ℕ → ℕ) (t : Ty) (s : List ℕ) {p : Product} (e : p ≡ product_of s) where
+module _ (sizes : ℕ → ℕ) (t : Ty) (s : List ℕ) {p : Option ℕ} (e : p ≡ product_of s) where
   -- lengths whose product 64 bits do not hold: refusal 24
-  pub plain_over : p ≡ Over → refused_shape 24 0 ≡ plain_shape sizes t s
+  pub plain_over : p ≡ None → refused 24 0 ≡ plain_shape sizes t s
   unfolding plain_shape product_of
   plain_over q = over_go (leb (product s) (2 ^ 64 - 1)) _ _ (sym e ∙ q)
 
   -- lengths whose product 64 bits hold give so many elements, if they are at most 2^26 bytes
-  pub plain_is : {n : ℕ} → p ≡ Is n → within sizes t (three s) (length s) n ≡ plain_shape sizes t s
+  pub plain_is : {n : ℕ} → p ≡ Some n → within sizes t (three s) (length s) n ≡ plain_shape sizes t s
   unfolding plain_shape product_of
   plain_is {n} q =
       is_go (leb (product s) (2 ^ 64 - 1)) _ n (λ (x : ℕ). within sizes t (three s) (length s) x) (sym e ∙ q)
@@ -220,12 +214,12 @@ module _ (sizes : ℕ → ℕ) (t : Ty) (s : List ℕ) {p : Product} (e : p ≡ 
 
 module _ (types : List ℕ) (t : Ty) (s : List ℕ) where
   -- the way out with 15: there is no such type
-  pub not_there : is_there types t ≡ false → refused_shape 15 0 ≡ shape_of types t s
+  pub not_there : is_there types t ≡ false → refused 15 0 ≡ shape_of types t s
   unfolding shape_of
   not_there a = rw a
 
   -- the way out with 23: the lengths are wrong
-  pub lengths_wrong : is_there types t ≡ true → lengths_ok t s ≡ false → refused_shape 23 0 ≡ shape_of types t s
+  pub lengths_wrong : is_there types t ≡ true → lengths_ok t s ≡ false → refused 23 0 ≡ shape_of types t s
   unfolding shape_of
   lengths_wrong a b = rw (a, b)
 
@@ -271,12 +265,12 @@ type_below {types} k (Struct n) h = omega (arith, kept_ids k.kept n (there_fits 
 -- the ways out
 module _ (types : List ℕ) (t : Ty) (used : ℕ) where
   -- no symbol type is given but 15: there is no such type
-  pub symbol_absent : is_there types t ≡ false → say.refused 15 0 ≡ symbol_for types t used
+  pub symbol_absent : is_there types t ≡ false → refused 15 0 ≡ symbol_for types t used
   unfolding symbol_for
   symbol_absent a = rw a
 
   -- no symbol type is given but 23: there are more than three lengths
-  pub symbol_many : is_there types t ≡ true → 3 < used → say.refused 23 0 ≡ symbol_for types t used
+  pub symbol_many : is_there types t ≡ true → 3 < used → refused 23 0 ≡ symbol_for types t used
   unfolding symbol_for
   symbol_many a h = rw (a, lt-leb used 3 h)
 
@@ -288,20 +282,17 @@ module _ (types : List ℕ) (t : Ty) (used : ℕ) where
 -- ---- the shapes that are given
 
 -- a shape that is given has a symbol type
-record SymbolAsked (types : List ℕ) (r : ShapeSaid) : Type 0 where
-  ask : (x : Shape) → r ≡ given x → (is_there types x.ty ≡ true) × (x.used ≤ 3)
+record SymbolAsked (types : List ℕ) (r : Said Shape) : Type 0 where
+  ask : (x : Shape) → r ≡ done x → (is_there types x.ty ≡ true) × (x.used ≤ 3)
 
 module _ (types : List ℕ) where
-  asked_refused : (number : ℕ) → SymbolAsked types (refused_shape number 0)
+  asked_refused : (number : ℕ) → SymbolAsked types (refused number 0)
   asked_refused number =
       record {
-        ask = λ x e.
-            let f : say.refused number 0 ≡ done tt = ap (λ (r : ShapeSaid). r.said) e in
-            let z : ◌≡◌ {A = ℕ} 0 1 = cc in
-            absurd (omega arith);
+        ask = λ x e. absurd (let z : ⊥ = cc in z);
       }
 
-  asked_if : (b : Bool) {p q : ShapeSaid} → (b ≡ true → SymbolAsked types p) → SymbolAsked types q
+  asked_if : (b : Bool) {p q : Said Shape} → (b ≡ true → SymbolAsked types p) → SymbolAsked types q
       → SymbolAsked types (cond b p q)
   asked_if true f g = f refl
   asked_if false f g = g
@@ -314,8 +305,10 @@ module _ (types : List ℕ) where
       (λ b.
       record {
         ask = λ x e.
-            let p : t ≡ x.ty = ap (λ (r : ShapeSaid). r.shape.ty) e in
-            let q : used ≡ x.used = ap (λ (r : ShapeSaid). r.shape.used) e in
+            let s : record { ty = t; lengths = lengths; used = used; elements = n; bytes = size_in sizes t * n } ≡ x =
+            cc in
+            let p : t ≡ x.ty = ap (λ (y : Shape). y.ty) s in
+            let q : used ≡ x.used = ap (λ (y : Shape). y.used) s in
             (rw p at f, omega arith);
       })
       (asked_refused 24)
@@ -348,7 +341,7 @@ module _ (types : List ℕ) where
       (asked_refused 15)
 
   -- the symbol type of a shape as `tag_shape` gives it is never refused
-  pub shape_symbol : (t : Ty) (s : List ℕ) (x : Shape) → shape_of types t s ≡ given x
+  pub shape_symbol : (t : Ty) (s : List ℕ) (x : Shape) → shape_of types t s ≡ done x
       → symbol_for types x.ty x.used ≡ done (symbol_of (ids_in types) x.ty x.used)
   shape_symbol t s x e =
       let a = (asked_shape t s).ask x e in

@@ -1,6 +1,7 @@
 -- What every caller may count on in the tables of a registry that our own calls made (document 01, "What promises shut
 -- out"): each type can be read, counted and listed, is laid out well, is a string where its kind says so, and has good
 -- names. No two hold the same id or have the same name. The rows after them are zero.
+use Rattle.std.specs.Prelude.{None}
 use Prim.Native.Nat.{ℕ, zero, suc, ◌+◌, ◌*◌, ◌^◌, ◌<◌, ◌≤◌}
 use native.Mathlib.Nat.{add-zero}
 use native.Mathlib.Omega.{arith}
@@ -23,7 +24,6 @@ use Rattle.types.specs.tables.Lent.{kind_of_word, member_at, name_at, type_at}
 use Rattle.types.specs.tables.Limits.{most_names}
 use Rattle.types.specs.tables.Registry.{types_table, members_table, names_table, type_count}
 use Rattle.types.specs.tables.Sizes.{size_in, sizes_in, bits_of}
-use Rattle.types.specs.declared.tables.member.Bit.TheVariants.{None}
 use Rattle.types.specs.declared.tables.member.Member.{Member}
 use Rattle.types.specs.declared.tables.member.StructDef.{StructDef}
 use Rattle.types.specs.declared.tables.member.StructKind.TheVariants.{Str}

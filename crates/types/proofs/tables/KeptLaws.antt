@@ -1,6 +1,7 @@
 -- What follows from tables as our own calls left them (document 01, "What promises shut out"): each call's conditions,
 -- that a row is a type with all that is known of one or zero, and that no two types hold the same id or have the same
 -- name. A build keeps it, and says how many types there are.
+use Rattle.std.specs.Prelude.{Result, Ok}
 use Prim.Native.Nat.{ℕ, ◌+◌, ◌*◌, ◌<◌, ◌≤◌}
 use native.Mathlib.Decide.{dec_lt}
 use native.Mathlib.Omega.{arith}
@@ -29,9 +30,8 @@ use Rattle.types.specs.tables.Registry.{type_count, type_rows, member_rows, name
 use Rattle.types.specs.tables.Sizes.{sizes_in}
 use Rattle.types.specs.templates.Template.{user_id}
 use Rattle.types.specs.templates.Waste.{visible_bits}
+use Rattle.types.specs.declared.refusals.refusal.Refusal.{Refusal}
 use Rattle.types.specs.declared.layout.predefined.PredefinedIds.{PredefinedIds}
-use Rattle.types.specs.declared.rounds.build.Built.{Built}
-use Rattle.types.specs.declared.rounds.build.Built.TheVariants.{Types}
 use Rattle.types.specs.declared.tables.member.StructDef.{StructDef}
 use Rattle.types.specs.declared.tables.member.StructKind.TheVariants.{Predefined, Str}
 use Rattle.types.proofs.layout.StringLaws.{StringRow}
@@ -173,7 +173,7 @@ none_kept a b c = record { defs = []; made = none refl; rows = a; parts = b; byt
 
 module _ (ids : PredefinedIds) (book : List ℕ) (bytes : Bytes book) where
   kept_by : (a : Answer (List Def) Why) → build_of ids book ≡ a
-      → {t m n : List ℕ} {r : Built} → Ended a t m n r → Kept t m n
+      → {t m n : List ℕ} {r : Result ℕ Refusal} → Ended a t m n r → Kept t m n
   kept_by (refused x) e w = none_kept w.types w.members w.names
   kept_by (accepted ds) e w =
       record {
@@ -185,18 +185,18 @@ module _ (ids : PredefinedIds) (book : List ℕ) (bytes : Bytes book) where
       }
 
   -- a build keeps it, accepted or refused
-  pub build_kept : {t m n : List ℕ} {r : Built} → Ended (build_of ids book) t m n r
+  pub build_kept : {t m n : List ℕ} {r : Result ℕ Refusal} → Ended (build_of ids book) t m n r
       → Kept t m n
   build_kept w = kept_by (build_of ids book) refl w
 
   count_by : (a : Answer (List Def) Why) → build_of ids book ≡ a
-      → {t m n : List ℕ} (x : ℕ) → Ended a t m n (Types x) → x ≡ type_count t
+      → {t m n : List ℕ} (x : ℕ) → Ended a t m n (Ok x) → x ≡ type_count t
   count_by (refused y) e x w = let z : true ≡ false = cc w.is in absurd (true≢false z)
   count_by (accepted ds) e x w =
       let is : x ≡ length ds = cc w.is in
       is ∙ rw w.types (sym (good_count ds (made_good ds (built ids book bytes e))))
 
   -- an accepted build says how many types there are
-  pub build_count : {t m n : List ℕ} {r : Built} (x : ℕ) → Ended (build_of ids book) t m n r
-      → r ≡ Types x → x ≡ type_count t
+  pub build_count : {t m n : List ℕ} {r : Result ℕ Refusal} (x : ℕ) → Ended (build_of ids book) t m n r
+      → r ≡ Ok x → x ≡ type_count t
   build_count x w q = count_by (build_of ids book) refl x (rw q at w)

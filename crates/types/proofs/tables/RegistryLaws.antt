@@ -1,6 +1,7 @@
 -- Laws of the registry's tables (document 01, "Declaration book": the tables; "Order of building"): one type more is
 -- its row after the rows, its members' rows after the members' rows, and its names after the names; and how long the
 -- tables are.
+use Rattle.std.specs.Prelude.{Ok}
 use Prim.Native.Nat.{ℕ, ◌+◌, ◌*◌, ◌≤◌}
 use native.Mathlib.Nat.{add-zero, zero-add}
 use native.Mathlib.Omega.{arith}
@@ -11,15 +12,15 @@ use lib.ListN.{length, get_or, length-append, length-replicate}
 use lib.Seq.{sets, length-sets}
 use Rattle.words.proofs.Lists.{sets_append, get_d_beside, zero_at}
 use Rattle.types.specs.adding.Add.{yes}
-use Rattle.types.specs.inside.adding.Add.{added, Took}
+use Rattle.types.specs.inside.adding.Add.{Took}
 use Rattle.types.specs.inside.tables.Registry.{used_by, used_more, Stands}
 use Rattle.types.specs.layout.Structs.{rows_of}
+use Rattle.types.specs.refusals.Said.{done}
 use Rattle.types.specs.tables.Defs.{Def}
 use Rattle.types.specs.tables.Lent.{type_row}
 use Rattle.types.specs.tables.Limits.{most_names, type_words, member_words}
 use Rattle.types.specs.tables.Registry.{own_names, members_of, name_bytes_of, head_of, type_rows, member_rows, no_types}
 use Rattle.types.specs.tables.Registry.{no_members, no_names, types_table, members_table, names_table}
-use Rattle.types.specs.declared.adding.progress.Progress.TheVariants.{Added}
 use Rattle.types.specs.declared.adding.used.Used.{Used}
 use Rattle.types.proofs.layout.StoreLaws.{row_long}
 
@@ -163,12 +164,12 @@ word_after ds k l =
 
 -- ---- tables that stand for a registry, with one type more
 
-used_then : (u u' : Used) (d : Def) → added u' ≡ added (used_more u d) → u' ≡ used_more u d
+used_then : (u u' : Used) (d : Def) → done u' ≡ done (used_more u d) → u' ≡ used_more u d
 used_then u u' d e = cc
 
 -- where a type was added, the tables are those of the registry with that type at its end
 pub stands_more : {ds : List Def} {t m n t' m' n' : List ℕ} {u u' : Used} (d : Def) → Stands ds t m n u
-    → Took (yes d) u t m n t' m' n' (Added u') → Stands (ds ++ d ∷ []) t' m' n' u'
+    → Took (yes d) u t m n t' m' n' (Ok u') → Stands (ds ++ d ∷ []) t' m' n' u'
 stands_more {ds} {u = u} {u' = u'} d s k =
     record {
       types = k.types ∙ rw (s.types, s.used) (sym (types_more ds d));

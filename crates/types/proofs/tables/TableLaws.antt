@@ -1,4 +1,5 @@
 -- Laws of rows: what was stored in a row is read back, and the other rows stay as they were.
+use Rattle.std.specs.Prelude.{Option, Some, None}
 use Prim.Native.Nat.{ℕ, ◌+◌, ◌-◌, ◌*◌, ◌/◌, ◌%◌, ◌≤◌, ◌<◌}
 use native.Mathlib.Nat.{add-zero}
 use native.Mathlib.Omega.{arith}
@@ -14,8 +15,6 @@ use Rattle.types.specs.atomics.Atomic.{num_of}
 use Rattle.types.specs.inside.tables.Lent.{TyFits}
 use Rattle.types.specs.tables.Lent.{ty_word, ty_of_word, bit_word, bit_of_word, flags_of, kind_word, kind_of_word}
 use Rattle.types.specs.tables.Lent.{member_row, member_at, name_at, type_row, type_at}
-use Rattle.types.specs.declared.tables.member.Bit.{Bit}
-use Rattle.types.specs.declared.tables.member.Bit.TheVariants.{None, At}
 use Rattle.types.specs.declared.tables.member.Member.{Member}
 use Rattle.types.specs.declared.tables.member.Span.{Span}
 use Rattle.types.specs.declared.tables.member.StructDef.{StructDef}
@@ -41,14 +40,14 @@ word_below (atomic a) f = omega (arith, num_below a)
 word_below (Struct n) f = omega arith
 
 -- a bit is one of eight
-abbrev pub BitFits : Bit → Type 0
+abbrev pub BitFits : Option ℕ → Type 0
 BitFits None = Unit {0}
-BitFits (At k) = k < 8
+BitFits (Some k) = k < 8
 
-pub bit_back : (b : Bit) → BitFits b → bit_of_word (bit_word b) ≡ b
+pub bit_back : (b : Option ℕ) → BitFits b → bit_of_word (bit_word b) ≡ b
 unfolding bit_of_word
 bit_back None h = refl
-bit_back (At k) h =
+bit_back (Some k) h =
     let e : (k + 1 - 1) % 8 ≡ k = omega arith in
     simp (ne_eqb (k + 1) 0 (λ q. omega arith), e)
 

@@ -1,6 +1,7 @@
 -- No two types of a registry hold the same template id, and no two have the same name without ASCII case (document 01,
 -- "Ids": "that no type holds"; refusals 3, 5 and 22). It holds of the predefined types, and stays when a type with a
 -- new id and a new name is added.
+use Rattle.std.specs.Prelude.{Option, Some, None}
 use Prim.Native.Nat.{ℕ, ◌+◌, ◌<◌}
 use native.Mathlib.Decide.{dec_lt}
 use native.Mathlib.Omega.{arith}
@@ -22,10 +23,8 @@ use Rattle.types.specs.layout.Predefined.{predefined}
 use Rattle.types.specs.rounds.Resolve.{is_found}
 use Rattle.types.specs.tables.Defs.{Def}
 use Rattle.types.specs.tables.Registry.{view_of}
-use Rattle.types.specs.declared.atomics.atomic.FoundAtomic.{FoundAtomic}
-use Rattle.types.specs.declared.atomics.atomic.FoundAtomic.TheVariants.{Is as found, Nothing as none}
-use Rattle.types.specs.declared.atomics.lookup.FoundTy.{FoundTy}
-use Rattle.types.specs.declared.atomics.lookup.FoundTy.TheVariants.{Is}
+use Rattle.types.specs.declared.tables.member.Ty.{Ty}
+use Rattle.types.specs.declared.atomics.atomic.Atomic.{Atomic}
 use Rattle.types.specs.declared.layout.predefined.PredefinedIds.{PredefinedIds}
 use Rattle.types.specs.declared.tables.member.Ty.TheVariants.{Struct}
 use Rattle.types.proofs.adding.AddLaws.{every_nth}
@@ -67,7 +66,7 @@ module _ (d : Def) where
   abbrev held : List Def → Bool
   held ds = in_use d.id (map (λ (x : Def). x.id) ds)
 
-  abbrev named : List Def → ℕ → FoundTy
+  abbrev named : List Def → ℕ → Option Ty
   named ds i = named_among (map (λ (x : Def). x.name) ds) d.name i
 
   each_differs : (ds : List Def) (i : ℕ) → held ds ≡ false → is_found (named ds i) ≡ false → Every (Differs d) ds
@@ -77,16 +76,16 @@ module _ (d : Def) where
       go (eqb x.id d.id) (same_name x.name d.name) refl refl u n (each_differs ds (i + 1))
     where
       go : (p q : Bool) → eqb x.id d.id ≡ p → same_name x.name d.name ≡ q → (p || held ds) ≡ false
-          → is_found (cond q (Is (Struct i)) (named ds (i + 1))) ≡ false
+          → is_found (cond q (Some (Struct i)) (named ds (i + 1))) ≡ false
           → (held ds ≡ false → is_found (named ds (i + 1)) ≡ false → Every (Differs d) ds)
           → Differs d x × Every (Differs d) ds
       go true q a b u n rest = absurd (true≢false u)
       go false true a b u n rest = absurd (true≢false n)
       go false false a b u n rest = (record { id = eqb-false _ _ a; name = b }, rest u n)
 
-not_atomic : (a : FoundAtomic) (f : FoundTy) → is_found (atomic_or a f) ≡ false → is_found f ≡ false
-not_atomic (found a) f e = absurd (true≢false e)
-not_atomic none f e = e
+not_atomic : (a : Option Atomic) (f : Option Ty) → is_found (atomic_or a f) ≡ false → is_found f ≡ false
+not_atomic (Some a) f e = absurd (true≢false e)
+not_atomic None f e = e
 
 -- what is not in use and not known is new
 pub new_differs : (ds : List Def) (d : Def) → in_use d.id (view_of ds).ids ≡ false

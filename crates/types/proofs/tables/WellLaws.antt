@@ -1,5 +1,6 @@
 -- Every type of a registry is laid out well (document 01, "Layout"; what values may count on), and stays so when types
 -- are added: a layout depends on the sizes of earlier types only.
+use Rattle.std.specs.Prelude.{Option, Some, None}
 use Prim.Native.Nat.{ℕ, ◌+◌, ◌*◌, ◌<◌, ◌≤◌}
 use native.Mathlib.Omega.{arith}
 use mathlib.Core.Path.{◌≡◌, refl, sym, ap, ◌∙◌}
@@ -10,8 +11,6 @@ use Rattle.types.specs.layout.Laid.{Earlier, Apart, Clear, Rising, Laid, Every}
 use Rattle.types.specs.layout.Placing.{most_size, times}
 use Rattle.types.specs.tables.Defs.{Part, Def}
 use Rattle.types.specs.tables.Sizes.{bits_of}
-use Rattle.types.specs.declared.tables.member.Bit.{Bit}
-use Rattle.types.specs.declared.tables.member.Bit.TheVariants.{None, At}
 use Rattle.types.specs.declared.tables.member.Member.{Member}
 use Rattle.types.specs.declared.tables.member.StructKind.TheVariants.{Str}
 use Rattle.types.proofs.layout.StringLaws.{StringParts}
@@ -29,9 +28,9 @@ all_before sizes i size [] l = tt
 all_before sizes i size (p ∷ ps) (l, ls) = (l.earlier, all_before sizes i size ps ls)
 
 module _ (f g : ℕ → ℕ) (i : ℕ) (same : (k : ℕ) → k < i → f k ≡ g k) where
-  bits_same : (m : Member) (b : Bit) → Earlier i m.ty → bits_of f b m ≡ bits_of g b m
+  bits_same : (m : Member) (b : Option ℕ) → Earlier i m.ty → bits_of f b m ≡ bits_of g b m
   bits_same m None e = ap (λ (s : ℕ). 8 * (s * times m.count)) (size_same f g i same m.ty e)
-  bits_same m (At k) e = refl
+  bits_same m (Some k) e = refl
 
   apart_same : (m n : Member) → Earlier i m.ty → Earlier i n.ty → Apart f m n → Apart g m n
   apart_same m n a b =

@@ -1,26 +1,27 @@
--- Laws of the handle's fold: one byte of what is left, a fold over two pieces is the fold of the second from the
--- first, and a handle fits 16 bits.
-use Prim.Native.Nat.{ℕ, ◌+◌, ◌≤◌, ◌<◌}
+-- Laws of the handle's fold: its rotation, that a fold over two pieces is the fold of the second from the first, and
+-- that a handle fits 16 bits.
+use Prim.Native.Nat.{ℕ, ◌+◌, ◌*◌, ◌/◌, ◌%◌, ◌^◌, ◌<◌}
 use native.Mathlib.Decide.{dec_lt}
-use native.Mathlib.Numerals.{add-one}
 use native.Mathlib.Omega.{arith}
 use mathlib.Core.Path.{◌≡◌, refl}
 use mathlib.Core.List.{List, [], ◌∷◌, ◌++◌}
 use borrow.Author.Tests.{eq-eqb, ne_eqb}
-use lib.ListN.{length, get_or, drop, drop_of_length-le}
-use lib.Seq.{drop-cons}
+use lib.Bits.{bit_or}
+use Rattle.std.specs.List.{fold}
+use Rattle.std.proofs.lemmas.Nat.{or_shifted}
 use Rattle.types.specs.templates.Handle.{fold_byte, fold_from, not_zero, handle_of}
 
--- the next byte of what is left goes into the fold
-pub fold_on : (h i : ℕ) (s : List ℕ) → i < length s
-    → fold_from h (drop i s) ≡ fold_from (fold_byte h (get_or s i 0)) (drop (i + 1) s)
-unfolding fold_from
-fold_on h i s l = rw (add-one, drop-cons s i 0)
+-- a number of 16 bits rotated left by 5 is the sum of its two parts
+pub rotated : (h : ℕ) → h < 65536 → bit_or (h * 32 % 65536) (h / 2048) ≡ h * 32 % 65536 + h / 2048
+rotated h l =
+    let e : h * 32 % 65536 ≡ h % 2048 * 2 ^ 5 = omega arith in
+    rw e (or_shifted (h % 2048) 5 (h / 2048) (omega arith))
 
--- where no byte is left, the fold stays as it is
-pub fold_done : (h i : ℕ) (s : List ℕ) → length s ≤ i → fold_from h (drop i s) ≡ h
+-- the handle's fold is the fold of its step over the bytes
+pub fold_is : (h : ℕ) (s : List ℕ) → fold fold_byte h s ≡ fold_from h s
 unfolding fold_from
-fold_done h i s l = rw (drop_of_length-le s l)
+fold_is h [] = refl
+fold_is h (b ∷ bs) = fold_is (fold_byte h b) bs
 
 -- the fold of two pieces is that of the second from the fold of the first on
 pub fold_append : (h : ℕ) (a b : List ℕ) → fold_from h (a ++ b) ≡ fold_from (fold_from h a) b

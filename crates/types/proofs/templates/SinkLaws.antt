@@ -1,6 +1,6 @@
 -- Laws of a sink (document 01, "Template and handle"): what comes in two pieces came as one, and what is left of a
 -- whole while its pieces come one after the other.
-use Prim.Native.Nat.{ℕ, ◌+◌, ◌≤◌}
+use Prim.Native.Nat.{ℕ, ◌+◌}
 use native.Mathlib.Omega.{arith}
 use mathlib.Core.Path.{◌≡◌, refl, sym, ap, ◌∙◌}
 use mathlib.Core.Bool.{Bool, true, false, cond}
@@ -12,11 +12,6 @@ use Rattle.types.specs.inside.templates.Sink.{SinkRoom, Emitted}
 use Rattle.types.specs.templates.Handle.{fold_from}
 use Rattle.types.specs.declared.templates.sink.Sink.{Sink}
 use Rattle.types.proofs.templates.HandleLaws.{fold_append}
-
--- a sink that writes took the bytes that were stored at its place and folded
-pub wrote : (s : List ℕ) (k : Sink) (out : List ℕ) (fold : ℕ) → k.writes ≡ true → fold ≡ fold_from k.fold s
-    → Emitted s k out (record { at = k.at + length s; fold = fold; writes = true }) (sets out k.at s)
-wrote s k out fold w f = record { at = refl; fold = f; writes = sym w; bytes = rw w }
 
 pub none_came : (k : Sink) (out : List ℕ) → Emitted [] k out k out
 unfolding fold_from
@@ -82,16 +77,3 @@ left_on {whole} {rest} {s} {k} {m} {r} {out} {left} {last} t e l h =
 pub left_none : {whole rest : List ℕ} {k m : Sink} {out left : List ℕ} → rest ≡ [] → PiecesLeft whole k out rest m left
     → Emitted whole k out m left
 left_none {whole} {rest} {k} {m} {out} {left} e l = l.then m left (rw e (none_came m left))
-
--- ---- a loop over the pieces
-
--- before turn i of n, the i-th of the rests is left of a whole
-pub record PiecesAt (whole : List ℕ) (rests : ℕ → List ℕ) (n : ℕ) (k : Sink) (out : List ℕ)
-    (i : ℕ) (m : Sink) (left : List ℕ) : Type 0 where
-  pub inside : i ≤ n
-  pub rest : PiecesLeft whole k out (rests i) m left
-
--- before the first turn the whole is left
-pub turn_first : {whole : List ℕ} {k : Sink} {out : List ℕ} (rests : ℕ → List ℕ) (n : ℕ) → whole ≡ rests 0
-    → SinkRoom whole k out → PiecesAt whole rests n k out 0 k out
-turn_first {whole} {k} {out} rests n e h = record { inside = omega arith; rest = rw (← e) (left_all h) }

@@ -46,53 +46,54 @@ info_bytes_lem ids m p q =
 
 -- ---- a row of a structure
 
--- row i of the n rows of a structure that can be read
-module _ {members : List ℕ} {d : StructDef} {first n i : ℕ} (p : first ≡ d.first) (q : n ≡ d.count) (h : i < n)
+-- a row of a structure that can be read
+module _ {members : List ℕ} {d : StructDef} {row : ℕ} (l : d.first ≤ row) (h : row < d.first + d.count)
     (r : Readable members d) where
-  -- row i lies in the table of members
-  pub row_inside : first + i < most_members
+  -- the row lies in the table of members
+  pub row_inside : row < most_members
   row_inside = omega (arith, r.rows)
 
-  -- the name in row i lies inside the names
-  pub row_name : (names : List ℕ) → length names ≡ most_names
-      → (name_at members (first + i)).at + (name_at members (first + i)).long ≤ length names
-  row_name names e = rw (p, e) (r.names i (omega arith))
+  nth : d.first + (row - d.first) ≡ row
+  nth = omega arith
 
-  -- the type in row i is an atomic or a structure with a number below 200
-  pub row_type : TyFits (member_at members (first + i)).ty
-  row_type = rw p (r.types i (omega arith))
+  -- the name in the row lies inside the names
+  pub row_name : (names : List ℕ) → length names ≡ most_names
+      → (name_at members row).at + (name_at members row).long ≤ length names
+  row_name names e = rw e (rw nth at (r.names (row - d.first) (omega arith)))
+
+  -- the type in the row is an atomic or a structure with a number below 200
+  pub row_type : TyFits (member_at members row).ty
+  row_type = rw nth at (r.types (row - d.first) (omega arith))
 
 -- ---- the first of what is left
 
-module _ (members names : List ℕ) (first n i : ℕ) (h : i < n) where
+module _ (members names : List ℕ) (row end : ℕ) (h : row < end) where
   -- the parts of the rows that are left are that of the next row, then those of the rows after it
-  pub parts_on : parts_at members names (first + i) (n - i)
-      ≡ part_at members names (first + i) ∷ parts_at members names (first + (i + 1)) (n - (i + 1))
+  pub parts_on : parts_at members names row (end - row)
+      ≡ part_at members names row ∷ parts_at members names (row + 1) (end - (row + 1))
   unfolding parts_at
   parts_on =
-      let e : n - i ≡ suc (n - (i + 1)) = omega arith in
-      let f : first + i + 1 ≡ first + (i + 1) = omega arith in
-      rw (e, f)
+      let e : end - row ≡ suc (end - (row + 1)) = omega arith in
+      rw e
 
   -- the infos of the rows that are left are that of the next row, then those of the rows after it
-  pub infos_on : (ids : ℕ → ℕ) → infos ids (parts_at members names (first + i) (n - i))
-      ≡ info_bytes ids (member_at members (first + i))
-      ++ infos ids (parts_at members names (first + (i + 1)) (n - (i + 1)))
+  pub infos_on : (ids : ℕ → ℕ) → infos ids (parts_at members names row (end - row))
+      ≡ info_bytes ids (member_at members row) ++ infos ids (parts_at members names (row + 1) (end - (row + 1)))
   unfolding infos part_at
   infos_on ids = rw parts_on
 
   -- the names of the rows that are left are that of the next row with its 0, then those of the rows after it
-  pub names_on : member_names (parts_at members names (first + i) (n - i))
-      ≡ name_in names (name_at members (first + i))
-      ++ (0 ∷ member_names (parts_at members names (first + (i + 1)) (n - (i + 1))))
+  pub names_on : member_names (parts_at members names row (end - row))
+      ≡ name_in names (name_at members row)
+      ++ (0 ∷ member_names (parts_at members names (row + 1) (end - (row + 1))))
   unfolding member_names part_at
   names_on = rw parts_on
 
   -- after a name its 0 is left
-  pub name_came : {whole out left last : List ℕ} {k m r : Sink} {s : Span} → s ≡ name_at members (first + i)
-      → PiecesLeft whole k out (member_names (parts_at members names (first + i) (n - i))) m left
+  pub name_came : {whole out left last : List ℕ} {k m r : Sink} {s : Span} → s ≡ name_at members row
+      → PiecesLeft whole k out (member_names (parts_at members names row (end - row))) m left
       → Emitted (name_in names s) m left r last
-      → PiecesLeft whole k out (0 ∷ member_names (parts_at members names (first + (i + 1)) (n - (i + 1)))) r last
+      → PiecesLeft whole k out (0 ∷ member_names (parts_at members names (row + 1) (end - (row + 1)))) r last
   name_came e l c = left_on _ names_on l (rw e at c)
 
 -- the member ids that are left are that of the next member, then those of the members after it
@@ -105,22 +106,23 @@ ids_on n i h =
 -- ---- nothing is left
 
 -- where no row is left there are no parts
-pub parts_off : (members names : List ℕ) (row n i : ℕ) → n ≤ i → parts_at members names row (n - i) ≡ []
+pub parts_off : (members names : List ℕ) (row end : ℕ) → end ≤ row → parts_at members names row (end - row) ≡ []
 unfolding parts_at
-parts_off members names row n i h =
-    let e : n - i ≡ 0 = omega arith in
+parts_off members names row end h =
+    let e : end - row ≡ 0 = omega arith in
     rw e
 
 -- where no row is left there are no infos
-pub infos_off : (ids : ℕ → ℕ) (members names : List ℕ) (row n i : ℕ) → n ≤ i
-    → infos ids (parts_at members names row (n - i)) ≡ []
+pub infos_off : (ids : ℕ → ℕ) (members names : List ℕ) (row end : ℕ) → end ≤ row
+    → infos ids (parts_at members names row (end - row)) ≡ []
 unfolding infos
-infos_off ids members names row n i h = rw (parts_off members names row n i h)
+infos_off ids members names row end h = rw (parts_off members names row end h)
 
 -- where no row is left there are no member names
-pub names_off : (members names : List ℕ) (row n i : ℕ) → n ≤ i → member_names (parts_at members names row (n - i)) ≡ []
+pub names_off : (members names : List ℕ) (row end : ℕ) → end ≤ row
+    → member_names (parts_at members names row (end - row)) ≡ []
 unfolding member_names
-names_off members names row n i h = rw (parts_off members names row n i h)
+names_off members names row end h = rw (parts_off members names row end h)
 
 -- where no member is left there are no member ids
 pub ids_off : (n i : ℕ) → n ≤ i → member_ids i (n - i) ≡ []

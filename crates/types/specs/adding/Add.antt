@@ -1,8 +1,9 @@
 -- Adding one type of the book (document 01, "Refusal numbers"): 2, 3, 4, 5, 6, 7; per member 2, 8, 9; layout per member
 -- 11, 12; then 13; else the new type.
 use Rattle.std.specs.Prelude.{ℕ, ◌+◌, ◌-◌, Bool, cond, not, ◌&&◌, List, [], eqb, leb, ltb, length}
-use Rattle.types.specs.adding.Checks.{checked, entries_from}
-use Rattle.types.specs.adding.Ids.{id_for}
+use Rattle.std.specs.Prelude.{Result, Ok, Err}
+use Rattle.types.specs.adding.Checks.{checked, entries_from, member_number}
+use Rattle.types.specs.adding.Ids.{id_for, id_number}
 use Rattle.types.specs.atomics.Lookup.{type_among}
 use Rattle.types.specs.book.Contents.{is_aoi, is_string, has_id, type_entry}
 use Rattle.types.specs.book.Names.{good_name}
@@ -16,10 +17,8 @@ use Rattle.types.specs.tables.Limits.{most_types, most_members, most_names}
 use Rattle.types.specs.tables.Registry.{View, id_at, own_names}
 use Rattle.types.specs.templates.Handle.{handle_of}
 use Rattle.types.specs.templates.Template.{template_of}
-use Rattle.types.specs.declared.adding.checks.Checked.{Checked}
-use Rattle.types.specs.declared.adding.checks.Checked.TheVariants.{Good, NameWrong, Twice, LocalOutside}
-use Rattle.types.specs.declared.adding.ids.Picked.{Picked}
-use Rattle.types.specs.declared.adding.ids.Picked.TheVariants.{Free, OutsideRange, InUse, NoneFree}
+use Rattle.types.specs.declared.adding.checks.MemberFault.{MemberFault}
+use Rattle.types.specs.declared.adding.ids.IdFault.{IdFault}
 use Rattle.types.specs.declared.adding.used.Used.{Used}
 use Rattle.types.specs.declared.book.contents.TypeEntry.{TypeEntry}
 use Rattle.types.specs.declared.layout.placing.Decl.{Decl}
@@ -74,11 +73,9 @@ add_laid v book i aoi name id ds =
 
 -- ---- per member 2, 8, 9
 
-abbrev pub on_checked : Checked → ℕ → Verdict → Verdict
-on_checked Good i k = k
-on_checked NameWrong i k = no (2, i)
-on_checked Twice i k = no (8, i)
-on_checked LocalOutside i k = no (9, i)
+abbrev pub on_checked : Result (Unit {0}) MemberFault → ℕ → Verdict → Verdict
+on_checked (Ok tt) i k = k
+on_checked (Err f) i k = no (member_number f, i)
 
 -- the entries of n members begin at a place; all are checked, then they are laid out
 unfoldable pub add_members : View → List ℕ → ℕ → ℕ → ℕ → Bool → List ℕ → ℕ → List Decl → Verdict
@@ -102,11 +99,9 @@ add_named v book i at e name id ds =
 
 -- ---- 4, 5, 6
 
-abbrev pub on_id : Picked → ℕ → (ℕ → Verdict) → Verdict
-on_id (Free id) i k = k id
-on_id OutsideRange i k = no (4, i)
-on_id InUse i k = no (5, i)
-on_id NoneFree i k = no (6, i)
+abbrev pub on_id : Result ℕ IdFault → ℕ → (ℕ → Verdict) → Verdict
+on_id (Ok id) i k = k id
+on_id (Err f) i k = no (id_number f, i)
 
 unfoldable pub add_fresh : View → List ℕ → ℕ → ℕ → TypeEntry → List ℕ → List Decl → Verdict
 add_fresh v book i at e name ds =

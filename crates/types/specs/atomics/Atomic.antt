@@ -1,6 +1,7 @@
 -- The atomic types (document 01, "Atomic types"): codes, sizes and names in the document's order, and the atomic of a
 -- name or of a code.
 use Rattle.std.specs.Prelude.{ℕ, ◌-◌, ◌<◌, Bool, cond, not, ◌&&◌, List, [], ◌∷◌, ◌++◌, ◌≡◌, eqb, leb, length, get_or}
+use Rattle.std.specs.Prelude.{Option, Some, None}
 use Rattle.std.specs.Prelude.{replicate}
 use Rattle.types.specs.book.Names.{same_name}
 use Rattle.types.specs.refusals.Said.{Said, done, refused}
@@ -9,8 +10,6 @@ use Rattle.types.specs.declared.atomics.atomic.Atomic.TheVariants.{Bool as BOOL,
 use Rattle.types.specs.declared.atomics.atomic.Atomic.TheVariants.{UInt, UDInt, ULInt, Real, LReal, Byte, Word}
 use Rattle.types.specs.declared.atomics.atomic.Atomic.TheVariants.{DWord, LWord}
 use Rattle.types.specs.declared.atomics.atomic.AtomicRow.{AtomicRow}
-use Rattle.types.specs.declared.atomics.atomic.FoundAtomic.{FoundAtomic}
-use Rattle.types.specs.declared.atomics.atomic.FoundAtomic.TheVariants.{Is, Nothing}
 
 -- the fifteen, in order
 abbrev pub atomics : List Atomic
@@ -95,19 +94,19 @@ unfoldable pub has_bits : Atomic → Bool
 has_bits a = not (eqb (num_of a) 0) && not (eqb (num_of a) 9) && not (eqb (num_of a) 10)
 
 -- the first atomic of a list that passes a test
-unfoldable pub first_of : (Atomic → Bool) → List Atomic → FoundAtomic
-first_of p [] = Nothing
-first_of p (a ∷ rest) = cond (p a) (Is a) (first_of p rest)
+unfoldable pub first_of : (Atomic → Bool) → List Atomic → Option Atomic
+first_of p [] = None
+first_of p (a ∷ rest) = cond (p a) (Some a) (first_of p rest)
 
-unfoldable pub atomic_named : List ℕ → FoundAtomic
+unfoldable pub atomic_named : List ℕ → Option Atomic
 atomic_named s = first_of (λ a. same_name (name_of a) s) atomics
 
 -- ---- the answers, in codes
 
 -- what an answer says: the atomic's code, or that no type is such
-abbrev pub said_by : FoundAtomic → Said ℕ
-said_by (Is a) = done (code_of a)
-said_by Nothing = refused 15 0
+abbrev pub said_by : Option Atomic → Said ℕ
+said_by (Some a) = done (code_of a)
+said_by None = refused 15 0
 
 -- the code of the first atomic of a list that passes a test
 unfoldable pub first_code : (Atomic → Bool) → List Atomic → Said ℕ

@@ -2,11 +2,9 @@
 use Rattle.std.specs.Prelude.{ℕ, cond, List, [], ◌∷◌, ◌++◌, length, take}
 use Rattle.words.specs.Words.{bytes_of}
 use Rattle.types.specs.atomics.Atomic.{code_of}
-use Rattle.types.specs.refusals.Fit.{fit_says}
 use Rattle.types.specs.refusals.Said.{Said, done, refused}
 use Rattle.types.specs.tables.Lent.{type_at}
 use Rattle.types.specs.tables.There.{is_there}
-use Rattle.types.specs.declared.atomics.header.Headed.{Headed}
 use Rattle.types.specs.declared.atomics.header.Header.{Header}
 use Rattle.types.specs.declared.tables.member.Ty.{Ty}
 use Rattle.types.specs.declared.tables.member.Ty.TheVariants.{Atomic, Struct}
@@ -23,16 +21,6 @@ handles_in types n = (type_at types n).handle
 abbrev pub header_held : List ℕ → Header
 header_held s = record { bytes = take 4 (s ++ 0 ∷ 0 ∷ 0 ∷ 0 ∷ []); long = length s }
 
--- what is said, and the bytes beside it
-pub record HeaderSaid : Type 0 where
-  pub said : Said (Unit {0})
-  pub header : Header
-
--- what an answer says
-abbrev pub said_by : Headed → HeaderSaid
-said_by r = record { said = fit_says r.fit; header = r.header }
-
-unfoldable pub headed_of : List ℕ → Ty → HeaderSaid
+unfoldable pub headed_of : List ℕ → Ty → Said Header
 headed_of types ty =
-    cond (is_there types ty) (record { said = done tt; header = header_held (header_of (handles_in types) ty) })
-    (record { said = refused 15 0; header = header_held [] })
+    cond (is_there types ty) (done (header_held (header_of (handles_in types) ty))) (refused 15 0)

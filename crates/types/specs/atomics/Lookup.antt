@@ -1,15 +1,12 @@
 -- The type of a name: the atomics first, then the types in order (document 01, "Atomic types"; 000's lookup).
-use Rattle.std.specs.Prelude.{ℕ, ◌+◌, cond, List, [], ◌∷◌}
+use Rattle.std.specs.Prelude.{ℕ, ◌+◌, cond, List, [], ◌∷◌, Option, Some, None}
 use Rattle.types.specs.atomics.Atomic.{atomic_named, code_named, code_of}
 use Rattle.types.specs.book.Contents.{list_from}
 use Rattle.types.specs.book.Names.{same_name}
 use Rattle.types.specs.refusals.Said.{Said, done, refused}
 use Rattle.types.specs.tables.Defs.{name_in}
 use Rattle.types.specs.tables.Lent.{type_at}
-use Rattle.types.specs.declared.atomics.atomic.FoundAtomic.{FoundAtomic}
-use Rattle.types.specs.declared.atomics.atomic.FoundAtomic.TheVariants.{Is as found, Nothing as none}
-use Rattle.types.specs.declared.atomics.lookup.FoundTy.{FoundTy}
-use Rattle.types.specs.declared.atomics.lookup.FoundTy.TheVariants.{Is, Nothing}
+use Rattle.types.specs.declared.atomics.atomic.Atomic.{Atomic as AtomicType}
 use Rattle.types.specs.declared.tables.member.Ty.{Ty}
 use Rattle.types.specs.declared.tables.member.Ty.TheVariants.{Atomic, Struct}
 
@@ -18,17 +15,17 @@ abbrev pub row_name : List ℕ → List ℕ → ℕ → List ℕ
 row_name types names i = name_in names (type_at types i).name
 
 -- the first structure with a name; the structures are numbered from i on
-unfoldable pub named_among : List (List ℕ) → List ℕ → ℕ → FoundTy
-named_among [] s i = Nothing
-named_among (x ∷ xs) s i = cond (same_name x s) (Is (Struct i)) (named_among xs s (i + 1))
+unfoldable pub named_among : List (List ℕ) → List ℕ → ℕ → Option Ty
+named_among [] s i = None
+named_among (x ∷ xs) s i = cond (same_name x s) (Some (Struct i)) (named_among xs s (i + 1))
 
 -- an atomic, else the first structure
-abbrev pub atomic_or : FoundAtomic → FoundTy → FoundTy
-atomic_or (found a) other = Is (Atomic a)
-atomic_or none other = other
+abbrev pub atomic_or : Option AtomicType → Option Ty → Option Ty
+atomic_or (Some a) other = Some (Atomic a)
+atomic_or None other = other
 
 -- the type of a name among structures with those names
-unfoldable pub type_among : List (List ℕ) → List ℕ → FoundTy
+unfoldable pub type_among : List (List ℕ) → List ℕ → Option Ty
 type_among known s = atomic_or (atomic_named s) (named_among known s 0)
 
 -- the names of the first n structures of the tables
@@ -43,9 +40,9 @@ word_of (Atomic a) = code_of a
 word_of (Struct n) = 0x8000 + n
 
 -- what an answer says: the type's word, or that there is no such type
-abbrev pub said_by : FoundTy → Said ℕ
-said_by (Is ty) = done (word_of ty)
-said_by Nothing = refused 15 0
+abbrev pub said_by : Option Ty → Said ℕ
+said_by (Some ty) = done (word_of ty)
+said_by None = refused 15 0
 
 -- the word of the first structure with a name; the structures are numbered from i on
 unfoldable pub number_among : List (List ℕ) → List ℕ → ℕ → Said ℕ

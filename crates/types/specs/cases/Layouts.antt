@@ -1,8 +1,8 @@
 -- The reference cases that document 01 marks P, each by computation: layouts from their declared members, the size of a
 -- string, and the fold of one byte.
-use Rattle.std.specs.Prelude.{ℕ, Bool, true, false, cond, ◌≡◌, refl, length, replicate}
+use Rattle.std.specs.Prelude.{ℕ, Bool, true, false, cond, ◌≡◌, refl, length, replicate, Option, Some, None, Result}
 use mathlib.Core.List.{List, [], ◌∷◌, ◌++◌, get_last?}
-use Rattle.std.proofs.Math.Option.{Option, none, some}
+use Rattle.std.proofs.Math.Option.{Option as Maybe, none, some}
 use Rattle.words.specs.Words.{bytes_of}
 use Rattle.types.specs.atomics.Atomic.{code_of, size_of}
 use Rattle.types.specs.book.Decls.{bool_array, stored_ty, stored_count, resolved}
@@ -19,9 +19,8 @@ use Rattle.types.specs.declared.atomics.atomic.Atomic.{Atomic as AtomicType}
 use Rattle.types.specs.declared.atomics.atomic.Atomic.TheVariants.{Bool as BOOL, SInt, Int, DWord}
 use Rattle.types.specs.declared.layout.placing.Cursor.{Cursor}
 use Rattle.types.specs.declared.layout.placing.Decl.{Decl}
+use Rattle.types.specs.declared.layout.placing.LayoutFault.{LayoutFault}
 use Rattle.types.specs.declared.layout.placing.Placed.{Placed}
-use Rattle.types.specs.declared.tables.member.Bit.{Bit}
-use Rattle.types.specs.declared.tables.member.Bit.TheVariants.{None, At}
 use Rattle.types.specs.declared.tables.member.Member.{Member}
 use Rattle.types.specs.declared.tables.member.StructKind.TheVariants.{Udt}
 use Rattle.types.specs.declared.tables.member.Ty.TheVariants.{Atomic}
@@ -43,7 +42,7 @@ abbrev pub bool_dim : ℕ → Decl
 bool_dim dim = declared_as BOOL dim
 
 -- what a case opens to compute one step
-unfoldable pub step : Cursor → Decl → Placed
+unfoldable pub step : Cursor → Decl → Result Placed LayoutFault
 unfolding placed access_ok is_bool place_bool place_other opened next_bit closed start_of member_end align_up times
     declared_as
 step c d = placed c d
@@ -57,7 +56,7 @@ unfolding aoi_layout aoi_hosts bools host_parts layout_from step
 aoi ds = aoi_layout (λ d. []) [] ds
 
 -- the size and the parts, if the layout is not refused
-abbrev pub size_if : LaidOut → Option ℕ
+abbrev pub size_if : LaidOut → Maybe ℕ
 size_if (laid parts c) = some (rounded_size c)
 size_if (stopped number) = none
 
@@ -163,7 +162,7 @@ zero_byte = refl
 
 -- ---- the structure Chan (Good BOOL, Live BOOL, Level INT) of the program's example
 
-abbrev chan_member : AtomicType → ℕ → Bit → Bool → Member
+abbrev chan_member : AtomicType → ℕ → Option ℕ → Bool → Member
 chan_member a offset bit hidden =
     record { ty = Atomic a; count = 0; offset = offset; bit = bit; hidden = hidden; local = false; access = 0 }
 
@@ -177,8 +176,8 @@ chan =
       kind = Udt;
       parts =
           record { name = replicate 10 90 ++ (67 ∷ 104 ∷ 97 ∷ 110 ∷ 48 ∷ []); member = chan_member SInt 0 None true }
-          ∷ record { name = 71 ∷ 111 ∷ 111 ∷ 100 ∷ []; member = chan_member BOOL 0 (At 0) false }
-          ∷ record { name = 76 ∷ 105 ∷ 118 ∷ 101 ∷ []; member = chan_member BOOL 0 (At 1) false }
+          ∷ record { name = 71 ∷ 111 ∷ 111 ∷ 100 ∷ []; member = chan_member BOOL 0 (Some 0) false }
+          ∷ record { name = 76 ∷ 105 ∷ 118 ∷ 101 ∷ []; member = chan_member BOOL 0 (Some 1) false }
           ∷ record { name = 76 ∷ 101 ∷ 118 ∷ 101 ∷ 108 ∷ []; member = chan_member Int 2 None false }
           ∷ [];
     }

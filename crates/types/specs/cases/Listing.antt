@@ -1,13 +1,11 @@
 -- The listing of UDT Chan (Good BOOL, Live BOOL, Level INT) that document 01 prints whole (end of "Reference cases"), a
 -- line after the other, and the line of a refusal: each from its values, by computation.
-use Rattle.std.specs.Prelude.{ℕ, Bool, true, false, List, [], ◌∷◌, ◌≡◌, refl}
+use Rattle.std.specs.Prelude.{ℕ, Bool, true, false, List, [], ◌∷◌, ◌≡◌, refl, Option, Some, None}
 use Rattle.types.specs.atomics.Atomic.{name_of}
 use Rattle.types.specs.layout.HostNames.{digits_in, digits, host_name}
 use Rattle.types.specs.listing.Lines.{line, type_line, printed_type, member_line, refused_line}
 use Rattle.types.specs.declared.atomics.atomic.Atomic.{Atomic as AtomicType}
 use Rattle.types.specs.declared.atomics.atomic.Atomic.TheVariants.{Bool as BOOL, SInt, Int}
-use Rattle.types.specs.declared.tables.member.Bit.{Bit}
-use Rattle.types.specs.declared.tables.member.Bit.TheVariants.{None, At}
 use Rattle.types.specs.declared.tables.member.Member.{Member}
 use Rattle.types.specs.declared.tables.member.Ty.TheVariants.{Atomic}
 
@@ -24,7 +22,7 @@ live = 76 ∷ 105 ∷ 118 ∷ 101 ∷ []
 abbrev level : List ℕ
 level = 76 ∷ 101 ∷ 118 ∷ 101 ∷ 108 ∷ []
 
-abbrev member : AtomicType → ℕ → Bit → Bool → Member
+abbrev member : AtomicType → ℕ → Option ℕ → Bool → Member
 member a offset bit hidden =
     record { ty = Atomic a; count = 0; offset = offset; bit = bit; hidden = hidden; local = false; access = 0 }
 
@@ -50,7 +48,7 @@ unfolding shown host_name digits digits_in
 chan_host structs = refl
 
 -- `1 v BOOL 0 0 0 Good`
-pub chan_good : (structs : ℕ → List ℕ) → shown structs 1 (member BOOL 0 (At 0) false) good
+pub chan_good : (structs : ℕ → List ℕ) → shown structs 1 (member BOOL 0 (Some 0) false) good
     ≡
     49 ∷ 32 ∷ 118 ∷ 32 ∷ 66 ∷ 79 ∷ 79 ∷ 76 ∷ 32 ∷ 48 ∷ 32 ∷ 48 ∷ 32 ∷ 48 ∷ 32
     ∷ 71 ∷ 111 ∷ 111 ∷ 100 ∷ 10 ∷ []
@@ -58,7 +56,7 @@ unfolding shown
 chan_good structs = refl
 
 -- `2 v BOOL 0 0 1 Live`
-pub chan_live : (structs : ℕ → List ℕ) → shown structs 2 (member BOOL 0 (At 1) false) live
+pub chan_live : (structs : ℕ → List ℕ) → shown structs 2 (member BOOL 0 (Some 1) false) live
     ≡
     50 ∷ 32 ∷ 118 ∷ 32 ∷ 66 ∷ 79 ∷ 79 ∷ 76 ∷ 32 ∷ 48 ∷ 32 ∷ 48 ∷ 32 ∷ 49 ∷ 32
     ∷ 76 ∷ 105 ∷ 118 ∷ 101 ∷ 10 ∷ []

@@ -1,20 +1,18 @@
 -- What a layout promises those who read and write values (document 01, "Layout"): every member names an earlier type,
 -- lies inside the size, no two visible members share a bit, and those that are no BOOLs stand in their order. It is
 -- said in bits: a BOOL is a member like any other.
-use Rattle.std.specs.Prelude.{ℕ, ◌+◌, ◌*◌, ◌<◌, ◌≤◌, Bool, true, false, List, [], ◌∷◌, ◌⊎◌, ◌≡◌}
+use Rattle.std.specs.Prelude.{ℕ, ◌+◌, ◌*◌, ◌<◌, ◌≤◌, Bool, true, false, List, [], ◌∷◌, ◌⊎◌, ◌≡◌, Option, Some, None}
 use Rattle.types.specs.tables.Defs.{Part}
 use Rattle.types.specs.tables.Sizes.{size_in, bits_of}
 use Rattle.types.specs.declared.layout.placing.Decl.{Decl}
-use Rattle.types.specs.declared.tables.member.Bit.{Bit}
-use Rattle.types.specs.declared.tables.member.Bit.TheVariants.{None, At}
 use Rattle.types.specs.declared.tables.member.Member.{Member}
 use Rattle.types.specs.declared.tables.member.Ty.{Ty}
 use Rattle.types.specs.declared.tables.member.Ty.TheVariants.{Atomic, Struct}
 
 -- a member's first bit: its own bit of the byte at its offset, or the first of its bytes
-abbrev pub first_in : Bit → ℕ → ℕ
+abbrev pub first_in : Option ℕ → ℕ → ℕ
 first_in None offset = 8 * offset
-first_in (At k) offset = 8 * offset + k
+first_in (Some k) offset = 8 * offset + k
 
 abbrev pub first_bit : Member → ℕ
 first_bit m = first_in m.bit m.offset
@@ -39,9 +37,9 @@ Clear sizes m (p ∷ ps) =
     (m.hidden ≡ false → p.member.hidden ≡ false → Apart sizes m p.member) × Clear sizes m ps
 
 -- a BOOL of a host has a bit of its own
-abbrev pub has_bit : Bit → Bool
+abbrev pub has_bit : Option ℕ → Bool
 has_bit None = false
-has_bit (At k) = true
+has_bit (Some k) = true
 
 -- a visible member that is no BOOL of a host
 pub record Plain (m : Member) : Type 0 where

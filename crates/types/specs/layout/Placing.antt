@@ -1,18 +1,18 @@
 -- Layout (document 01, "Layout"): where a declared member goes, as a step from a cursor to what lies where and the next
 -- cursor. The UDT paragraph is `placed`; an AOI differs only in that its BOOLs share the hosts at its start.
 use Rattle.std.specs.Prelude.{ℕ, ◌+◌, ◌-◌, ◌*◌, ◌/◌, ◌%◌, Bool, true, false, cond, ◌||◌, eqb, leb, ltb}
+use Rattle.std.specs.Prelude.{Option, Some, None, Result, Ok, Err}
 use Rattle.types.specs.atomics.Atomic.{num_of}
 use Rattle.types.specs.refusals.Said.{Said, done, refused}
 use Rattle.types.specs.declared.atomics.atomic.Atomic.TheVariants.{Bool as BOOL, SInt}
 use Rattle.types.specs.declared.layout.placing.Cursor.{Cursor}
 use Rattle.types.specs.declared.layout.placing.Decl.{Decl}
-use Rattle.types.specs.declared.layout.placing.End.{End}
-use Rattle.types.specs.declared.layout.placing.End.TheVariants.{At as end_at, Over}
 use Rattle.types.specs.declared.layout.placing.Host.{Host}
 use Rattle.types.specs.declared.layout.placing.Host.TheVariants.{Closed, Open, Shared}
+use Rattle.types.specs.declared.layout.placing.LayoutFault.{LayoutFault}
+use Rattle.types.specs.declared.layout.placing.LayoutFault.TheVariants.{AccessWrong, TooFar}
 use Rattle.types.specs.declared.layout.placing.Placed.{Placed}
-use Rattle.types.specs.declared.layout.placing.Placed.TheVariants.{Hosted, One, AccessWrong, TooFar}
-use Rattle.types.specs.declared.tables.member.Bit.TheVariants.{None, At}
+use Rattle.types.specs.declared.layout.placing.Placed.TheVariants.{Hosted, One}
 use Rattle.types.specs.declared.tables.member.Member.{Member}
 use Rattle.types.specs.declared.tables.member.Ty.{Ty}
 use Rattle.types.specs.declared.tables.member.Ty.TheVariants.{Atomic, Struct}
@@ -30,9 +30,9 @@ member_end offset size count =
     cond (leb (offset + size * times count) most_size) (done (offset + size * times count)) (refused 12 0)
 
 -- what an answer says
-abbrev pub said_by : End → Said ℕ
-said_by (end_at e) = done e
-said_by Over = refused 12 0
+abbrev pub said_by : Option ℕ → Said ℕ
+said_by (Some e) = done e
+said_by None = refused 12 0
 
 -- access 0, 2 or 3
 unfoldable pub access_ok : ℕ → Bool
@@ -57,7 +57,7 @@ bool_at d byte bit =
       ty = Atomic BOOL;
       count = 0;
       offset = byte;
-      bit = At bit;
+      bit = Some bit;
       hidden = false;
       local = d.local;
       access = d.access;
@@ -104,19 +104,24 @@ closed (Shared i) = Shared i
 unfoldable pub start_of : Cursor → Decl → ℕ
 start_of c d = align_up c.offset d.align
 
-abbrev pub on_end : Said ℕ → (ℕ → Placed) → Placed
-on_end (done e) k = k e
-on_end (refused number place) k = TooFar
+-- the refusal's number of a fault
+abbrev pub fault_number : LayoutFault → ℕ
+fault_number AccessWrong = 11
+fault_number TooFar = 12
+
+abbrev pub on_end : Said ℕ → (ℕ → Placed) → Result Placed LayoutFault
+on_end (done e) k = Ok (k e)
+on_end (refused number place) k = Err TooFar
 
 -- any other member closes the host, is aligned, and must end at or below 2^26
-unfoldable pub place_other : Cursor → Decl → Placed
+unfoldable pub place_other : Cursor → Decl → Result Placed LayoutFault
 place_other c d =
     on_end (member_end (start_of c d) d.size d.count)
     (λ e. One (other_at d (start_of c d)) (record { offset = e; host = closed c.host; members = c.members + 1 }))
 
 -- one declared member: first its access, then a BOOL (dim 0) or any other
-unfoldable pub placed : Cursor → Decl → Placed
+unfoldable pub placed : Cursor → Decl → Result Placed LayoutFault
 placed c d =
     cond (access_ok d.access)
-    (cond (is_bool d.ty) (place_bool c.host c d) (place_other c d))
-    AccessWrong
+    (cond (is_bool d.ty) (Ok (place_bool c.host c d)) (place_other c d))
+    (Err AccessWrong)

@@ -1,7 +1,7 @@
 -- Whole layouts (document 01, "Layout"): a UDT's and an AOI's parts from their declared members, a string's and the
 -- predefined types' parts, and their sizes.
 use Rattle.std.specs.Prelude.{ℕ, zero, suc, ◌+◌, ◌-◌, ◌*◌, ◌/◌, ◌%◌, Bool, true, false, cond, List, [], ◌∷◌, ◌++◌}
-use Rattle.std.specs.Prelude.{length}
+use Rattle.std.specs.Prelude.{length, Some, None, Result, Ok, Err}
 use Rattle.types.specs.layout.HostNames.{host_name, bit_host_name}
 use Rattle.types.specs.layout.Placing.{placed, is_bool, align_up}
 use Rattle.types.specs.tables.Defs.{Part, name_in}
@@ -10,9 +10,10 @@ use Rattle.types.specs.declared.atomics.atomic.Atomic.TheVariants.{Bool as BOOL,
 use Rattle.types.specs.declared.layout.placing.Cursor.{Cursor}
 use Rattle.types.specs.declared.layout.placing.Decl.{Decl}
 use Rattle.types.specs.declared.layout.placing.Host.TheVariants.{Closed, Shared}
+use Rattle.types.specs.declared.layout.placing.LayoutFault.{LayoutFault}
+use Rattle.types.specs.declared.layout.placing.LayoutFault.TheVariants.{AccessWrong, TooFar}
 use Rattle.types.specs.declared.layout.placing.Placed.{Placed}
-use Rattle.types.specs.declared.layout.placing.Placed.TheVariants.{Hosted, One, AccessWrong, TooFar}
-use Rattle.types.specs.declared.tables.member.Bit.TheVariants.{None, At}
+use Rattle.types.specs.declared.layout.placing.Placed.TheVariants.{Hosted, One}
 use Rattle.types.specs.declared.tables.member.Member.{Member}
 use Rattle.types.specs.declared.tables.member.StructKind.{StructKind}
 use Rattle.types.specs.declared.tables.member.StructKind.TheVariants.{Udt, Aoi}
@@ -51,11 +52,11 @@ after ps (laid qs c) = laid (ps ++ qs) c
 after ps (stopped number) = stopped number
 
 -- what a step adds: a host and the member, or the member alone; or why it cannot
-abbrev pub then_laid : Placed → List ℕ → List ℕ → (Cursor → LaidOut) → LaidOut
-then_laid (Hosted h m c) host name rest = after (named host h ∷ named name m ∷ []) (rest c)
-then_laid (One m c) host name rest = after (named name m ∷ []) (rest c)
-then_laid AccessWrong host name rest = stopped 11
-then_laid TooFar host name rest = stopped 12
+abbrev pub then_laid : Result Placed LayoutFault → List ℕ → List ℕ → (Cursor → LaidOut) → LaidOut
+then_laid (Ok (Hosted h m c)) host name rest = after (named host h ∷ named name m ∷ []) (rest c)
+then_laid (Ok (One m c)) host name rest = after (named name m ∷ []) (rest c)
+then_laid (Err AccessWrong) host name rest = stopped 11
+then_laid (Err TooFar) host name rest = stopped 12
 
 -- the declared members from a cursor on: `name` gives a declared member's name, `host` a host's
 unfoldable pub layout_from : (Decl → List ℕ) → (ℕ → List ℕ) → Cursor → List Decl → LaidOut
@@ -96,7 +97,7 @@ host_parts i (suc n) = named (bit_host_name i) (bit_host_at i) ∷ host_parts (i
 -- EnableIn and EnableOut are the first two BOOLs, with access 2
 abbrev pub enable_at : ℕ → Member
 enable_at bit =
-    record { ty = Atomic BOOL; count = 0; offset = 0; bit = At bit; hidden = false; local = false; access = 2 }
+    record { ty = Atomic BOOL; count = 0; offset = 0; bit = Some bit; hidden = false; local = false; access = 2 }
 
 abbrev pub enable_in : List ℕ
 enable_in = 69 ∷ 110 ∷ 97 ∷ 98 ∷ 108 ∷ 101 ∷ 73 ∷ 110 ∷ []
@@ -151,7 +152,7 @@ status_at i =
       ty = Atomic BOOL;
       count = 0;
       offset = (31 - i) / 8;
-      bit = At ((31 - i) % 8);
+      bit = Some ((31 - i) % 8);
       hidden = false;
       local = false;
       access = 0;

@@ -1,14 +1,12 @@
 -- The lines that the program `layout` prints (document 01, end of "Reference cases"): for a type, a member and a
 -- refusal. Numbers are decimal without leading zeros; no number of 64 bits has more digits than `digits` gives.
-use Rattle.std.specs.Prelude.{ℕ, Bool, true, false, ◌&&◌, List, [], ◌∷◌, ◌++◌, ltb, length}
+use Rattle.std.specs.Prelude.{ℕ, Bool, true, false, ◌&&◌, List, [], ◌∷◌, ◌++◌, ltb, length, Option, Some, None}
 use Rattle.types.specs.atomics.Atomic.{name_of}
 use Rattle.types.specs.layout.HostNames.{digits}
 use Rattle.types.specs.tables.Defs.{name_in}
 use Rattle.types.specs.tables.Lent.{member_at, name_at, type_at}
 use Rattle.types.specs.templates.Template.{has_template, template_in}
 use Rattle.types.specs.templates.Waste.{waste_in}
-use Rattle.types.specs.declared.tables.member.Bit.{Bit}
-use Rattle.types.specs.declared.tables.member.Bit.TheVariants.{None, At}
 use Rattle.types.specs.declared.tables.member.Member.{Member}
 use Rattle.types.specs.declared.tables.member.StructDef.{StructDef}
 use Rattle.types.specs.declared.tables.member.Ty.{Ty}
@@ -49,9 +47,9 @@ seen_letter true = 104 ∷ []
 seen_letter false = 118 ∷ []
 
 -- bit, `-` where none
-abbrev pub bit_text : Bit → List ℕ
+abbrev pub bit_text : Option ℕ → List ℕ
 bit_text None = 45 ∷ []
-bit_text (At k) = digits k
+bit_text (Some k) = digits k
 
 -- count, offset, bit, name
 abbrev pub member_place : Member → List ℕ → List (List ℕ)

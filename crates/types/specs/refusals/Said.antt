@@ -1,5 +1,5 @@
 -- What a call says (document 01, "Refusal numbers"): a value, or a refusal's number and place.
-use Rattle.std.specs.Prelude.{ℕ}
+use Rattle.std.specs.Prelude.{ℕ, Result, Ok, Err}
 use Rattle.types.specs.refusals.Refusal.{number_of, place_of}
 use Rattle.types.specs.declared.refusals.refusal.Refusal.{Refusal}
 
@@ -20,3 +20,8 @@ Why = ℕ × ℕ
 
 abbrev pub why_of : Refusal → Why
 why_of r = (number_of r, place_of r)
+
+-- what an answer says: its value, or the number and place of its refusal
+abbrev pub said_by : {A : Type 0} → Result A Refusal → Said A
+said_by (Ok x) = done x
+said_by (Err r) = why r

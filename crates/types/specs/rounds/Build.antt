@@ -1,28 +1,22 @@
 -- Building (document 01, "Order of building"): the predefined ids (22), the book (1), the four predefined types, then
 -- rounds over the waiting types in book order; and the tables afterwards.
-use Rattle.std.specs.Prelude.{ℕ, cond, List, ◌≡◌, length}
+use Rattle.std.specs.Prelude.{ℕ, cond, List, ◌≡◌, length, Result}
+use Rattle.types.specs.declared.refusals.refusal.Refusal.{Refusal}
 use Rattle.types.specs.book.Contents.{book_ok}
 use Rattle.types.specs.layout.Predefined.{predefined_ids, predefined}
-use Rattle.types.specs.refusals.Said.{Said, Why, done, why}
+use Rattle.types.specs.refusals.Said.{Said, Why, done, why, said_by}
 use Rattle.types.specs.refusals.Said as say
 use Rattle.types.specs.rounds.Rounds.{Answer, refused, accepted}
 use Rattle.types.specs.rounds.Turns.{rounds_from}
 use Rattle.types.specs.tables.Defs.{Def}
 use Rattle.types.specs.tables.Registry.{no_types, no_members, no_names, types_table, members_table, names_table}
 use Rattle.types.specs.declared.layout.predefined.PredefinedIds.{PredefinedIds}
-use Rattle.types.specs.declared.rounds.build.Built.{Built}
-use Rattle.types.specs.declared.rounds.build.Built.TheVariants.{Types, Refused}
 
 unfoldable pub build_of : PredefinedIds → List ℕ → Answer (List Def) Why
 build_of ids book =
     cond (predefined_ids ids)
     (cond (book_ok book) (rounds_from book (predefined ids)) (refused (1, 0)))
     (refused (22, 0))
-
--- what an answer says: how many types there are, or a refusal
-abbrev pub said_by : Built → Said ℕ
-said_by (Types n) = done n
-said_by (Refused r) = why r
 
 abbrev pub built_of : Answer (List Def) Why → Said ℕ
 built_of (refused r) = say.refused r.0 r.1
@@ -42,7 +36,7 @@ names_built (refused r) = no_names
 names_built (accepted ds) = names_table ds
 
 -- a build ended: the answer, and the three tables
-pub record Ended (a : Answer (List Def) Why) (t m n : List ℕ) (r : Built) : Type 0 where
+pub record Ended (a : Answer (List Def) Why) (t m n : List ℕ) (r : Result ℕ Refusal) : Type 0 where
   pub is : said_by r ≡ built_of a
   pub types : t ≡ types_built a
   pub members : m ≡ members_built a

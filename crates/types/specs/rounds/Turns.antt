@@ -1,6 +1,6 @@
 -- One type's turn in a round (document 01, "Order of building"): it waits until all its member types are known, then it
 -- is added or refused; and the rounds over a book's types.
-use Rattle.std.specs.Prelude.{ℕ, zero, suc, ◌+◌, ◌*◌, Bool, List, [], ◌∷◌, ◌++◌}
+use Rattle.std.specs.Prelude.{ℕ, zero, suc, ◌+◌, ◌*◌, Bool, List, [], ◌∷◌, ◌++◌, Option, Some, None}
 use Rattle.types.specs.adding.Add.{Verdict, no as against, yes as for, add_to}
 use Rattle.types.specs.adding.Checks.{entries_from}
 use Rattle.types.specs.atomics.Lookup.{type_among}
@@ -12,8 +12,6 @@ use Rattle.types.specs.rounds.Resolve.{type_names, has_name}
 use Rattle.types.specs.rounds.Rounds.{Step, no, ok, Answer, rounds}
 use Rattle.types.specs.tables.Defs.{Def, name_in}
 use Rattle.types.specs.tables.Registry.{View, size_at, view_of}
-use Rattle.types.specs.declared.atomics.lookup.FoundTy.{FoundTy}
-use Rattle.types.specs.declared.atomics.lookup.FoundTy.TheVariants.{Is, Nothing}
 use Rattle.types.specs.declared.book.contents.MemberEntry.{MemberEntry}
 use Rattle.types.specs.declared.layout.placing.Decl.{Decl}
 use Rattle.types.specs.declared.tables.member.Ty.{Ty}
@@ -35,9 +33,9 @@ unfoldable pub uses_of : List ℕ → ℕ → List (List ℕ)
 uses_of book i = type_names book (entries_at book i) 0 (count_of book i)
 
 -- its declared members, each of the type that was found for it
-abbrev pub then_decl : FoundTy → (Ty → Decl) → List Decl → List Decl
-then_decl (Is ty) f rest = f ty ∷ rest
-then_decl Nothing f rest = []
+abbrev pub then_decl : Option Ty → (Ty → Decl) → List Decl → List Decl
+then_decl (Some ty) f rest = f ty ∷ rest
+then_decl None f rest = []
 
 unfoldable pub decls_of : View → List ℕ → List MemberEntry → List Decl
 decls_of v book [] = []

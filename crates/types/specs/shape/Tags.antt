@@ -3,38 +3,14 @@
 use Rattle.std.specs.Prelude.{ℕ, ◌+◌, ◌-◌, ◌*◌, ◌/◌, ◌^◌, Bool, true, cond, not, ◌&&◌, List, [], ◌∷◌, eqb, leb, ltb}
 use Rattle.std.specs.Prelude.{length, get_or}
 use Rattle.types.specs.layout.Placing.{most_size, is_bool, align_up}
-use Rattle.types.specs.refusals.Fit.{fit_says}
-use Rattle.types.specs.refusals.Said.{Said, done, why}
-use Rattle.types.specs.refusals.Said as say
+use Rattle.types.specs.refusals.Said.{Said, done, refused}
 use Rattle.types.specs.tables.Sizes.{size_in, sizes_in}
 use Rattle.types.specs.tables.There.{is_there}
 use Rattle.types.specs.tables.TypeWord.{type_in, ids_in}
-use Rattle.types.specs.declared.atomics.atomic.Atomic.TheVariants.{Bool as BOOL, DWord}
+use Rattle.types.specs.declared.atomics.atomic.Atomic.TheVariants.{DWord}
 use Rattle.types.specs.declared.shape.tags.Shape.{Shape}
-use Rattle.types.specs.declared.shape.tags.Shaped.{Shaped}
-use Rattle.types.specs.declared.shape.tags.Symbol.{Symbol}
-use Rattle.types.specs.declared.shape.tags.Symbol.TheVariants as symbol
 use Rattle.types.specs.declared.tables.member.Ty.{Ty}
 use Rattle.types.specs.declared.tables.member.Ty.TheVariants.{Atomic}
-
--- what is said, and the shape beside it
-pub record ShapeSaid : Type 0 where
-  pub said : Said (Unit {0})
-  pub shape : Shape
-
--- what an answer says
-abbrev pub said_by : Shaped → ShapeSaid
-said_by r = record { said = fit_says r.fit; shape = r.shape }
-
--- a shape that is given; and a refusal, with zeros for a shape
-abbrev pub given : Shape → ShapeSaid
-given s = record { said = done tt; shape = s }
-
-abbrev pub no_shape : Shape
-no_shape = record { ty = Atomic BOOL; lengths = 0 ∷ 0 ∷ 0 ∷ []; used = 0; elements = 0; bytes = 0 }
-
-abbrev pub refused_shape : ℕ → ℕ → ShapeSaid
-refused_shape number place = record { said = say.refused number place; shape = no_shape }
 
 -- up to three lengths, BOOL one only
 unfoldable pub most_lengths : Ty → ℕ
@@ -57,47 +33,42 @@ abbrev pub three : List ℕ → List ℕ
 three ns = get_or ns 0 0 ∷ get_or ns 1 0 ∷ get_or ns 2 0 ∷ []
 
 -- n elements of a stored type, not above 2^26 bytes
-unfoldable pub within : (ℕ → ℕ) → Ty → List ℕ → ℕ → ℕ → ShapeSaid
+unfoldable pub within : (ℕ → ℕ) → Ty → List ℕ → ℕ → ℕ → Said Shape
 within sizes ty lengths used n =
     cond (leb (size_in sizes ty * n) most_size)
-    (given (record { ty = ty; lengths = lengths; used = used; elements = n; bytes = size_in sizes ty * n }))
-    (refused_shape 24 0)
+    (done (record { ty = ty; lengths = lengths; used = used; elements = n; bytes = size_in sizes ty * n }))
+    (refused 24 0)
 
 -- BOOL with a length
 unfoldable pub bool_tag : Ty → List ℕ → Bool
 bool_tag ty ns = is_bool ty && ltb 0 (length ns)
 
 -- its length is rounded up to 32s, not above 2^32 - 1, and stored as DWORDs
-unfoldable pub bool_shape : (ℕ → ℕ) → ℕ → ShapeSaid
+unfoldable pub bool_shape : (ℕ → ℕ) → ℕ → Said Shape
 bool_shape sizes n =
     cond (leb (align_up n 32) (2 ^ 32 - 1))
     (within sizes (Atomic DWord) (three (align_up n 32 ∷ [])) 1 (align_up n 32 / 32))
-    (refused_shape 24 0)
+    (refused 24 0)
 
 -- any other tag has as many elements as the product of its lengths says, not above 2^64 - 1
-unfoldable pub plain_shape : (ℕ → ℕ) → Ty → List ℕ → ShapeSaid
+unfoldable pub plain_shape : (ℕ → ℕ) → Ty → List ℕ → Said Shape
 plain_shape sizes ty ns =
-    cond (leb (product ns) (2 ^ 64 - 1)) (within sizes ty (three ns) (length ns) (product ns)) (refused_shape 24 0)
+    cond (leb (product ns) (2 ^ 64 - 1)) (within sizes ty (three ns) (length ns) (product ns)) (refused 24 0)
 
-unfoldable pub shape_of : List ℕ → Ty → List ℕ → ShapeSaid
+unfoldable pub shape_of : List ℕ → Ty → List ℕ → Said Shape
 shape_of types ty ns =
     cond (is_there types ty)
     (cond (lengths_ok ty ns)
     (cond (bool_tag ty ns) (bool_shape (sizes_in types) (get_or ns 0 0)) (plain_shape (sizes_in types) ty ns))
-    (refused_shape 23 0))
-    (refused_shape 15 0)
+    (refused 23 0))
+    (refused 15 0)
 
 -- code or 0x8000 plus id, plus 8,192 per length
 abbrev pub symbol_of : (ℕ → ℕ) → Ty → ℕ → ℕ
 symbol_of ids ty used = type_in ids ty + 8192 * used
 
--- what an answer says: the symbol type, or a refusal
-abbrev pub symbol_says : Symbol → Said ℕ
-symbol_says (symbol.Type w) = done w
-symbol_says (symbol.Refused r) = why r
-
 -- the symbol type of a shape that a caller hands in
 unfoldable pub symbol_for : List ℕ → Ty → ℕ → Said ℕ
 symbol_for types ty used =
-    cond (is_there types ty) (cond (leb used 3) (done (symbol_of (ids_in types) ty used)) (say.refused 23 0))
-    (say.refused 15 0)
+    cond (is_there types ty) (cond (leb used 3) (done (symbol_of (ids_in types) ty used)) (refused 23 0))
+    (refused 15 0)

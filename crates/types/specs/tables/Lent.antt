@@ -1,8 +1,7 @@
 -- Rows of the lent tables: a member or a structure as eight words, and the words of a row read back.
-use Rattle.std.specs.Prelude.{ℕ, ◌+◌, ◌-◌, ◌*◌, ◌/◌, ◌%◌, Bool, cond, List, [], ◌∷◌, eqb, ltb, get_or}
+use Rattle.std.specs.Prelude.{ℕ, ◌+◌, ◌-◌, ◌*◌, ◌/◌, ◌%◌, Bool, cond, List, [], ◌∷◌, eqb, ltb, get_or, Option, Some}
+use Rattle.std.specs.Prelude.{None}
 use Rattle.types.specs.atomics.Atomic.{num_of, atomic_at}
-use Rattle.types.specs.declared.tables.member.Bit.{Bit}
-use Rattle.types.specs.declared.tables.member.Bit.TheVariants.{None, At}
 use Rattle.types.specs.declared.tables.member.Member.{Member}
 use Rattle.types.specs.declared.tables.member.Span.{Span}
 use Rattle.types.specs.declared.tables.member.StructDef.{StructDef}
@@ -20,12 +19,12 @@ unfoldable pub ty_of_word : ℕ → Ty
 ty_of_word w = cond (ltb w 0x8000) (Atomic (atomic_at w)) (Struct (w - 0x8000))
 
 -- 0, or one more than the bit
-abbrev pub bit_word : Bit → ℕ
+abbrev pub bit_word : Option ℕ → ℕ
 bit_word None = 0
-bit_word (At k) = k + 1
+bit_word (Some k) = k + 1
 
-unfoldable pub bit_of_word : ℕ → Bit
-bit_of_word w = cond (eqb w 0) None (At ((w - 1) % 8))
+unfoldable pub bit_of_word : ℕ → Option ℕ
+bit_of_word w = cond (eqb w 0) None (Some ((w - 1) % 8))
 
 -- 1 for hidden, and 2 for local
 abbrev pub flags_of : Bool → Bool → ℕ

@@ -1,6 +1,7 @@
 -- Templates (document 01, "Template and handle"): a template's bytes, its length, also in a controller's words, and
 -- which types have one.
-use Rattle.std.specs.Prelude.{ℕ, zero, suc, ◌+◌, ◌-◌, ◌*◌, ◌/◌, ◌%◌, Bool, false, cond, not, ◌&&◌, List, [], ◌∷◌, ◌++◌}
+use Rattle.std.specs.Prelude.{ℕ, zero, suc, ◌+◌, ◌-◌, ◌*◌, ◌/◌, ◌%◌, Bool, false, cond, not, ◌&&◌, List, [], ◌∷◌}
+use Rattle.std.specs.Prelude.{◌++◌, Option, Some, None}
 use Rattle.std.specs.Prelude.{eqb, leb, ltb, length, replicate}
 use Rattle.words.specs.Words.{bytes_of}
 use Rattle.types.specs.refusals.Said.{Said, done, refused}
@@ -8,8 +9,6 @@ use Rattle.types.specs.tables.Defs.{Part, Def, def_of}
 use Rattle.types.specs.tables.Lent.{type_at}
 use Rattle.types.specs.tables.Limits.{most_types}
 use Rattle.types.specs.tables.TypeWord.{type_in, ids_in}
-use Rattle.types.specs.declared.tables.member.Bit.{Bit}
-use Rattle.types.specs.declared.tables.member.Bit.TheVariants.{None, At}
 use Rattle.types.specs.declared.tables.member.Member.{Member}
 use Rattle.types.specs.declared.tables.member.StructDef.{StructDef}
 use Rattle.types.specs.declared.tables.member.StructKind.{StructKind}
@@ -18,9 +17,9 @@ use Rattle.types.specs.declared.tables.member.Ty.{Ty}
 use Rattle.types.specs.declared.tables.member.Ty.TheVariants.{Atomic, Struct}
 
 -- bit number, else the low 16 bits of the count
-abbrev pub info_of : Bit → ℕ → ℕ
+abbrev pub info_of : Option ℕ → ℕ → ℕ
 info_of None count = count % 65536
-info_of (At k) count = k
+info_of (Some k) count = k
 
 -- info u16, type u16, offset u32
 unfoldable pub info_bytes : (ℕ → ℕ) → Member → List ℕ

@@ -1,15 +1,13 @@
 -- Waste (document 01, "Template and handle", added): size in bits less the visible members' bits; an embedded structure
 -- counts whole, a BOOL one.
 use Rattle.std.specs.Prelude.{ℕ, ◌+◌, ◌-◌, ◌*◌, cond, List, [], ◌∷◌}
-use Rattle.types.specs.refusals.Said.{Said, done, refused, why}
+use Rattle.types.specs.refusals.Said.{Said, done, refused}
 use Rattle.types.specs.tables.Defs.{Part, Def, def_of}
 use Rattle.types.specs.tables.Lent.{type_at}
 use Rattle.types.specs.tables.Sizes.{bits_of, sizes_in}
 use Rattle.types.specs.templates.Template.{has_template}
 use Rattle.types.specs.declared.tables.member.StructDef.{StructDef}
 use Rattle.types.specs.declared.tables.member.Ty.TheVariants.{Struct}
-use Rattle.types.specs.declared.templates.waste.Wasted.{Wasted}
-use Rattle.types.specs.declared.templates.waste.Wasted.TheVariants.{Bits, Refused}
 
 -- the visible members' bits
 unfoldable pub visible_bits : (ℕ → ℕ) → List Part → ℕ
@@ -23,11 +21,6 @@ waste_of sizes d = 8 * d.size - visible_bits sizes d.parts
 -- the waste of the structure in some rows
 abbrev pub waste_in : List ℕ → List ℕ → List ℕ → StructDef → ℕ
 waste_in types members names d = waste_of (sizes_in types) (def_of members names d)
-
--- what an answer says: how many bits, or a refusal
-abbrev pub said_by : Wasted → Said ℕ
-said_by (Bits n) = done n
-said_by (Refused r) = why r
 
 -- the waste of the structure with a number; 15 where there is none
 unfoldable pub waste_at : List ℕ → List ℕ → List ℕ → ℕ → Said ℕ

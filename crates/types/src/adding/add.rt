@@ -6,12 +6,11 @@ ghost use Rattle.types.specs.inside.adding.Add.{Took, Addable, AddableEntry};
 ghost use Rattle.types.specs.inside.book.Decls.{decls_from};
 ghost use Rattle.types.specs.inside.tables.Registry.{view_in};
 
-use crate::adding::checks::{Checked, check_members};
-use crate::adding::ids::{Picked, pick_id};
+use crate::adding::checks::check_members;
+use crate::adding::ids::pick_id;
 use crate::adding::new_types::{NewType, add_laid, add_string};
-use crate::adding::progress::Progress;
 use crate::adding::used::Used;
-use crate::atomics::lookup::{FoundTy, lookup};
+use crate::atomics::lookup::lookup;
 use crate::book::contents::{TypeEntry, count_of, has_id, is_aoi, is_string};
 use crate::book::names::good_name;
 use crate::layout::placing::MOST_SIZE;
@@ -22,24 +21,16 @@ use crate::tables::lent::{MemberTable, NameTable, TypeTable};
 const MOST_STRING: u32 = MOST_SIZE as u32 - 4;
 
 // A string has a length from 1 to 2^26 - 4, no members, and is no AOI.
+#[tactic(auto, unfolding(crate::specs::adding::Add::string_ok))]
 fn string_ok(e: TypeEntry) -> bool
     ensures { result ≡ string_ok e }
 {
-    if e.string < 1 {
-        return false;
-    }
-    if MOST_STRING < e.string {
-        return false;
-    }
-    if e.count != 0 {
-        return false;
-    }
-    !is_aoi(e)
+    1 <= e.string && e.string <= MOST_STRING && e.count == 0 && !is_aoi(e)
 }
 
 // A type of the book whose turn it is: its number there, its entry, and where its members' entries begin; so much of
 // the tables is used.
-#[derive(Clone, Copy)]
+#[derive(Clone, Copy, Debug, PartialEq, Eq)]
 pub struct Waiting {
     pub number: u32,
     pub entry: TypeEntry,
@@ -56,7 +47,7 @@ fn add_members(
     types: &mut TypeTable,
     members: &mut MemberTable,
     names: &mut NameTable,
-) -> Progress
+) -> Result<Used, Refusal>
     requires { Addable types.old members.old names.old book.now tys.now name.now
         new.used new.at new.count }
     ensures { Took (add_members (view_in types.old names.old new.used) book.now
@@ -65,13 +56,8 @@ fn add_members(
         types.old members.old names.old
         types.new members.new names.new result }
 {
-    let c = check_members(book, new.at, new.count, new.aoi);
-    match c {
-        Checked::Good => add_laid(book, tys, new, name, types, members, names),
-        Checked::NameWrong => Progress::Refused(Refusal::NameOutsideRule(new.number)),
-        Checked::Twice => Progress::Refused(Refusal::MemberTwice(new.number)),
-        Checked::LocalOutside => Progress::Refused(Refusal::LocalOutsideAoi(new.number)),
-    }
+    check_members(book, new.at, new.count, new.aoi).map_err(|fault| fault.refusal(new.number))?;
+    add_laid(book, tys, new, name, types, members, names)
 }
 
 // A type with a name and an id: a string, or a type of members.
@@ -84,7 +70,7 @@ fn add_named(
     types: &mut TypeTable,
     members: &mut MemberTable,
     names: &mut NameTable,
-) -> Progress
+) -> Result<Used, Refusal>
     requires { Addable types.old members.old names.old book.now tys.now name.now
         w.used w.at w.entry.count }
     ensures { Took (add_named (view_in types.old names.old w.used) book.now
@@ -93,25 +79,21 @@ fn add_named(
         types.old members.old names.old
         types.new members.new names.new result }
 {
-    let used = w.used;
-    let string = is_string(w.entry);
-    let count = count_of(w.entry.count);
-    let aoi = is_aoi(w.entry);
     let new = NewType {
         number: w.number,
         at: w.at,
-        count,
-        aoi,
+        count: count_of(w.entry.count),
+        aoi: is_aoi(w.entry),
         id,
-        used,
+        used: w.used,
     };
-    if string {
-        if string_ok(w.entry) {
-            return add_string(new, w.entry.string, name, types, members, names);
-        }
-        return Progress::Refused(Refusal::StringWrong(w.number));
+    if !is_string(w.entry) {
+        return add_members(book, tys, new, name, types, members, names);
     }
-    add_members(book, tys, new, name, types, members, names)
+    if !string_ok(w.entry) {
+        return Err(Refusal::StringWrong(w.number));
+    }
+    add_string(new, w.entry.string, name, types, members, names)
 }
 
 // A type of the book, with its name: the name is good and new, then it gets an id.
@@ -123,7 +105,7 @@ pub fn add_entry(
     types: &mut TypeTable,
     members: &mut MemberTable,
     names: &mut NameTable,
-) -> Progress
+) -> Result<Used, Refusal>
     requires { AddableEntry types.old members.old names.old book.now tys.now
         w.used w.at w.entry.count }
     ensures { Took (add_entry (view_in types.old names.old w.used) book.now
@@ -132,31 +114,14 @@ pub fn add_entry(
         types.old members.old names.old
         types.new members.new names.new result }
 {
-    if good_name(name) {
-        let found = lookup(types, names, w.used.types, name);
-        match found {
-            FoundTy::Is(_) => {
-                return Progress::Refused(Refusal::NameKnown(w.number));
-            }
-            FoundTy::Nothing => {
-                let given = has_id(w.entry);
-                let p = pick_id(types, w.used.types, given, w.entry.id);
-                match p {
-                    Picked::Free(id) => {
-                        return add_named(book, tys, w, id, name, types, members, names);
-                    }
-                    Picked::OutsideRange => {
-                        return Progress::Refused(Refusal::IdOutsideRange(w.number));
-                    }
-                    Picked::InUse => {
-                        return Progress::Refused(Refusal::IdInUse(w.number));
-                    }
-                    Picked::NoneFree => {
-                        return Progress::Refused(Refusal::NoIdFree(w.number));
-                    }
-                }
-            }
-        }
+    if !good_name(name) {
+        return Err(Refusal::NameOutsideRule(w.number));
     }
-    Progress::Refused(Refusal::NameOutsideRule(w.number))
+    if lookup(types, names, w.used.types, name).is_some() {
+        return Err(Refusal::NameKnown(w.number));
+    }
+    let id = pick_id(types, w.used.types, has_id(w.entry), w.entry.id).map_err(
+        |fault| fault.refusal(w.number),
+    )?;
+    add_named(book, tys, w, id, name, types, members, names)
 }

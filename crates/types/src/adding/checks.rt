@@ -1,21 +1,34 @@
 // What a declared type's members must meet before they are laid out (document 01, "Refusal numbers": per
 // member 2, 8, 9). A name is compared with those before only where its mark was seen.
 ghost use Rattle.std.specs.Prelude.{◌≡◌, ◌+◌, []};
-ghost use Rattle.types.specs.adding.Checks.{entries_from, among, checked};
+ghost use Rattle.types.specs.adding.Checks.{entries_from, among, checked, member_number};
 ghost use Rattle.types.specs.inside.adding.Checks.{member_name, names_before, EntriesInside, Marked, Marks, Looked};
 ghost use Rattle.types.specs.inside.adding.Checks.{CheckedOne};
+ghost use Rattle.types.specs.refusals.Said.{why_of};
 
 use crate::book::contents::entry_at;
 use crate::book::names::{good_name, lower, same_name};
-use words::{wide, wide8};
+use crate::refusals::refusal::Refusal;
 
-// A type's members are good, or the first that is not: name outside the rule, name twice, local outside an AOI.
-#[derive(Clone, Copy)]
-pub enum Checked {
-    Good,
+// What is wrong with a member: name outside the rule, name twice, local outside an AOI.
+#[derive(Clone, Copy, Debug, PartialEq, Eq)]
+pub enum MemberFault {
     NameWrong,
     Twice,
     LocalOutside,
+}
+
+impl MemberFault {
+    // The refusal of the type with this number in the book.
+    pub fn refusal(self, number: u32) -> Refusal
+        ensures { why_of result ≡ (member_number self, number) }
+    {
+        match self {
+            MemberFault::NameWrong => Refusal::NameOutsideRule(number),
+            MemberFault::Twice => Refusal::MemberTwice(number),
+            MemberFault::LocalOutside => Refusal::LocalOutsideAoi(number),
+        }
+    }
 }
 
 // Which marks were seen.
@@ -26,13 +39,10 @@ fn mark(name: &[u8]) -> usize
     ensures { Marked name.now result }
 {
     let mut h: u32 = 0;
-    let mut i: usize = 0;
-    while i < name.len() {
-        let x = lower(name[i]);
-        h = (h * 327 + wide8(x)) % 16384;
-        i += 1;
+    for &b in name {
+        h = (h * 327 + u32::from(lower(b))) % 16384;
     }
-    wide(h)
+    h as usize
 }
 
 // A name is among those of the first j members.
@@ -40,13 +50,10 @@ fn among_first(book: &[u8], at: usize, j: usize, name: &[u8]) -> bool
     requires { EntriesInside book.now at j }
     ensures { result ≡ among name.now (names_before (member_name book.now at) j) }
 {
-    let mut k = j;
-    while 0 < k {
-        k -= 1;
-        let e = entry_at(book, at + 16 * k);
-        let span = e.name;
-        let start = wide(span.at);
-        let end = start + wide(span.long);
+    for k in (0..j).rev() {
+        let span = entry_at(book, at + 16 * k).name;
+        let start = span.at as usize;
+        let end = start + span.long as usize;
         if same_name(&book[start..end], name) {
             return true;
         }
@@ -70,53 +77,39 @@ fn look(book: &[u8], at: usize, j: usize, name: &[u8], seen: &mut Seen) -> bool
 }
 
 // The j-th member.
-fn check_one(book: &[u8], at: usize, j: usize, aoi: bool, seen: &mut Seen) -> Checked
+fn check_one(
+    book: &[u8],
+    at: usize,
+    j: usize,
+    aoi: bool,
+    seen: &mut Seen,
+) -> Result<(), MemberFault>
     requires { EntriesInside book.now at (j + 1) × Marks seen.old (member_name book.now at) j }
     ensures { CheckedOne book.now aoi at j seen.new result }
 {
     let e = entry_at(book, at + 16 * j);
-    let span = e.name;
-    let local = e.local;
-    let start = wide(span.at);
-    let end = start + wide(span.long);
-    if !good_name(&book[start..end]) {
-        return Checked::NameWrong;
+    let start = e.name.at as usize;
+    let name = &book[start..start + e.name.long as usize];
+    if !good_name(name) {
+        return Err(MemberFault::NameWrong);
     }
-    if look(book, at, j, &book[start..end], seen) {
-        return Checked::Twice;
+    if look(book, at, j, name, seen) {
+        return Err(MemberFault::Twice);
     }
-    if local != 1 {
-        return Checked::Good;
+    if e.local == 1 && !aoi {
+        return Err(MemberFault::LocalOutside);
     }
-    if aoi {
-        return Checked::Good;
-    }
-    Checked::LocalOutside
+    Ok(())
 }
 
 // The n members from a place on.
-pub fn check_members(book: &[u8], at: usize, n: usize, aoi: bool) -> Checked
+pub fn check_members(book: &[u8], at: usize, n: usize, aoi: bool) -> Result<(), MemberFault>
     requires { EntriesInside book.now at n }
     ensures { result ≡ checked book.now aoi [] (entries_from book.now at 0 n) }
 {
     let mut seen = [0u8; 16384];
-    let mut j: usize = 0;
-    while j < n {
-        let one = check_one(book, at, j, aoi, &mut seen);
-        match one {
-            Checked::Good => {
-                j += 1;
-            }
-            Checked::NameWrong => {
-                return Checked::NameWrong;
-            }
-            Checked::Twice => {
-                return Checked::Twice;
-            }
-            Checked::LocalOutside => {
-                return Checked::LocalOutside;
-            }
-        }
+    for j in 0..n {
+        check_one(book, at, j, aoi, &mut seen)?;
     }
-    Checked::Good
+    Ok(())
 }

@@ -27,21 +27,7 @@ pub fn enter(
         (handle_of (template_in types.old members.now names.now head)))) }
 {
     let handle = template_handle(types, members, names, head);
-    let name = head.name;
-    let kind = head.kind;
-    put_type(
-        types,
-        i,
-        StructDef {
-            name,
-            id: head.id,
-            handle,
-            size: head.size,
-            kind,
-            first: head.first,
-            count: head.count,
-        },
-    );
+    put_type(types, i, StructDef { handle, ..head });
 }
 
 // The row of a type whose name and parts stand from the used rows and bytes on, still without its handle.

@@ -1,9 +1,8 @@
 // New types of the book, laid out (document 01, "Refusal numbers": layout per member 11, 12; then 13): a UDT, an
 // AOI, a string. Nothing is stored before all is known.
-ghost use Rattle.std.specs.Prelude.{◌≡◌, ◌+◌, ◌*◌, ◌-◌, ◌≤◌, length};
+ghost use Rattle.std.specs.Prelude.{◌≡◌, ◌+◌, ◌*◌, ◌-◌, ◌≤◌, length, Ok};
 ghost use Rattle.std.proofs.lemmas.List.Edits.{sets};
 ghost use Rattle.types.specs.adding.Add.{add_laid, new_def, fitted, yes};
-ghost use Rattle.types.specs.declared.adding.progress.Progress.TheVariants.{Added};
 ghost use Rattle.types.specs.declared.tables.member.StructKind.TheVariants.{Str};
 ghost use Rattle.types.specs.inside.adding.Add.{Took, Ready, Addable, AddableString};
 ghost use Rattle.types.specs.inside.book.Decls.{decls_from, Found};
@@ -13,7 +12,6 @@ ghost use Rattle.types.specs.layout.Placing.{most_size};
 ghost use Rattle.types.specs.layout.Structs.{names_of, rows_of, named_in, laid_kind, string_parts, string_size};
 
 use crate::adding::new_row::{bare_head, enter};
-use crate::adding::progress::Progress;
 use crate::adding::used::{Used, has_room, used_more};
 use crate::layout::aoi::{count_bools, hosts_for, measure_aoi, store_aoi};
 use crate::layout::fixed::{put_string, string_size};
@@ -22,11 +20,10 @@ use crate::layout::udt::{measure_udt, rounded_size, store_udt};
 use crate::refusals::refusal::Refusal;
 use crate::tables::lent::{MemberTable, NameTable, TypeTable, put_bytes};
 use crate::tables::member::StructKind;
-use words::wide;
 
 // A type of the book that is added: its number there, where its members' entries begin, how many there are, whether it
 // is an AOI, and its id; so much of the tables is used before it.
-#[derive(Clone, Copy)]
+#[derive(Clone, Copy, Debug, PartialEq, Eq)]
 pub struct NewType {
     pub number: u32,
     pub at: usize,
@@ -41,9 +38,10 @@ fn laid_kind(aoi: bool) -> StructKind
     ensures { result ≡ laid_kind aoi }
 {
     if aoi {
-        return StructKind::Aoi;
+        StructKind::Aoi
+    } else {
+        StructKind::Udt
     }
-    StructKind::Udt
 }
 
 // How far the declared members come, as an AOI's or as a UDT's.
@@ -53,9 +51,10 @@ fn measure_type(types: &TypeTable, book: &[u8], tys: &[u16], new: NewType, name:
         (decls_from types.now book.now tys.now new.at 0 new.count) }
 {
     if new.aoi {
-        return measure_aoi(types, book, tys, new.at, new.count, name);
+        measure_aoi(types, book, tys, new.at, new.count, name)
+    } else {
+        measure_udt(types, book, tys, new.at, new.count, name)
     }
-    measure_udt(types, book, tys, new.at, new.count, name)
 }
 
 // The rows and the names of its parts, after what is used and its own name.
@@ -77,17 +76,19 @@ fn store_type(
         (names_of (parts_of new.aoi (named_in book.now) name.now
         (decls_from types.now book.now tys.now new.at 0 new.count))) }
 {
-    let at = new.at;
-    let n = new.count;
+    let NewType { at, count, .. } = new;
     let row = new.used.members;
     let place = new.used.bytes + name.len();
     if new.aoi {
-        let bools = count_bools(types, book, tys, at, n);
-        let h = hosts_for(bools);
-        store_aoi(types, book, tys, at, n, name, h, members, row, names, place);
-        return;
+        let h = hosts_for(count_bools(types, book, tys, at, count));
+        store_aoi(
+            types, book, tys, at, count, name, h, members, row, names, place,
+        );
+    } else {
+        store_udt(
+            types, book, tys, at, count, name, members, row, names, place,
+        );
     }
-    store_udt(types, book, tys, at, n, name, members, row, names, place);
 }
 
 // A UDT or an AOI: measured, and stored where it can be laid out and there is room.
@@ -99,7 +100,7 @@ pub fn add_laid(
     types: &mut TypeTable,
     members: &mut MemberTable,
     names: &mut NameTable,
-) -> Progress
+) -> Result<Used, Refusal>
     requires { Addable types.old members.old names.old book.now tys.now name.now
         new.used new.at new.count }
     ensures { Took (add_laid (view_in types.old names.old new.used) book.now
@@ -108,29 +109,27 @@ pub fn add_laid(
         types.old members.old names.old
         types.new members.new names.new result }
 {
-    let m = measure_type(types, book, tys, new, name);
-    match m {
-        Measured::AccessWrong => {
-            return Progress::Refused(Refusal::AccessWrong(new.number));
-        }
-        Measured::TooFar => {
-            return Progress::Refused(Refusal::MemberTooFar(new.number));
-        }
-        Measured::Came(c, long) => {
-            let bytes = name.len() + wide(long);
-            if has_room(new.used, wide(c.members), bytes) {
-                let size = rounded_size(c);
-                let kind = laid_kind(new.aoi);
-                put_bytes(names, new.used.bytes, name);
-                store_type(types, book, tys, new, name, members, names);
-                let head = bare_head(new.used, name.len(), new.id, size, kind, c.members);
-                enter(types, members, names, new.used.types, head);
-                let more = used_more(new.used, wide(c.members), bytes);
-                return Progress::Added(more);
-            }
-            return Progress::Refused(Refusal::TablesFull(new.number));
-        }
+    let (c, long) = measure_type(types, book, tys, new, name).map_err(|fault| fault.refusal(
+        new.number,
+    ))?;
+    let parts = c.members as usize;
+    let bytes = name.len() + long as usize;
+    if !has_room(new.used, parts, bytes) {
+        return Err(Refusal::TablesFull(new.number));
     }
+    put_bytes(names, new.used.bytes, name);
+    store_type(types, book, tys, new, name, members, names);
+    let kind = laid_kind(new.aoi);
+    let head = bare_head(
+        new.used,
+        name.len(),
+        new.id,
+        rounded_size(c),
+        kind,
+        c.members,
+    );
+    enter(types, members, names, new.used.types, head);
+    Ok(used_more(new.used, parts, bytes))
 }
 
 // The name, the parts and the row of a string type, the book's or STRING, after what is used; answers how much is used
@@ -148,7 +147,7 @@ pub fn store_string(
     ensures { Took (yes (new_def (view_in types.old names.old u)
         name.now id (string_size capacity) Str (string_parts capacity))) u
         types.old members.old names.old
-        types.new members.new names.new (Added result) }
+        types.new members.new names.new (Ok result) }
 {
     let long = name.len();
     let size = string_size(capacity);
@@ -167,7 +166,7 @@ pub fn add_string(
     types: &mut TypeTable,
     members: &mut MemberTable,
     names: &mut NameTable,
-) -> Progress
+) -> Result<Used, Refusal>
     requires addable_string { AddableString types.old members.old names.old name.now new.used }
     requires capacity_bound { capacity ≤ most_size - 4 }
     ensures { Took (fitted (view_in types.old names.old new.used) new.number
@@ -176,9 +175,8 @@ pub fn add_string(
         types.old members.old names.old
         types.new members.new names.new result }
 {
-    if has_room(new.used, 2, name.len() + 7) {
-        let more = store_string(types, members, names, new.used, new.id, name, capacity);
-        return Progress::Added(more);
+    if !has_room(new.used, 2, name.len() + 7) {
+        return Err(Refusal::TablesFull(new.number));
     }
-    Progress::Refused(Refusal::TablesFull(new.number))
+    Ok(store_string(types, members, names, new.used, new.id, name, capacity))
 }

@@ -7,7 +7,7 @@ ghost use Rattle.types.specs.tables.Limits.{most_types, most_members, most_names
 use crate::tables::lent::{MEMBERS, NAME_BYTES, TYPES};
 
 // So many types, members and bytes of names stand in the tables.
-#[derive(Clone, Copy)]
+#[derive(Clone, Copy, Debug, PartialEq, Eq)]
 pub struct Used {
     pub types: usize,
     pub members: usize,
@@ -15,17 +15,12 @@ pub struct Used {
 }
 
 // The tables have room for one more type, with so many members and bytes of names.
+#[tactic(auto, unfolding(crate::specs::adding::Add::room_in_tables))]
 pub fn has_room(u: Used, members: usize, bytes: usize) -> bool
     requires { (u.members + members ≤ 2 ^ 40) × (u.bytes + bytes ≤ 2 ^ 40) }
     ensures { result ≡ room_in_tables u members bytes }
 {
-    if TYPES <= u.types {
-        return false;
-    }
-    if MEMBERS < u.members + members {
-        return false;
-    }
-    u.bytes + bytes <= NAME_BYTES
+    u.types < TYPES && u.members + members <= MEMBERS && u.bytes + bytes <= NAME_BYTES
 }
 
 // How much is used with one type more.

@@ -7,7 +7,7 @@ ghost use Rattle.types.specs.inside.atomics.Atomic.{table_rows};
 
 use crate::book::names::same_name;
 
-#[derive(Clone, Copy)]
+#[derive(Clone, Copy, Debug, PartialEq, Eq)]
 pub enum Atomic {
     Bool,
     SInt,
@@ -27,15 +27,8 @@ pub enum Atomic {
 }
 
 // A row of the table: code, size, the name's length, and the name with zeros after it.
-#[derive(Clone, Copy)]
+#[derive(Clone, Copy, Debug, PartialEq, Eq)]
 pub struct AtomicRow(pub u8, pub u8, pub u8, pub [u8; 5]);
-
-// An atomic, where one was found.
-#[derive(Clone, Copy)]
-pub enum FoundAtomic {
-    Is(Atomic),
-    Nothing,
-}
 
 const ATOMICS: [AtomicRow; 15] = [
     AtomicRow(0xC1, 1, 4, [b'B', b'O', b'O', b'L', 0]),
@@ -66,23 +59,7 @@ impl Atomic {
     pub fn num(self) -> usize
         ensures { Numbered self result }
     {
-        match self {
-            Atomic::Bool => 0,
-            Atomic::SInt => 1,
-            Atomic::Int => 2,
-            Atomic::DInt => 3,
-            Atomic::LInt => 4,
-            Atomic::USInt => 5,
-            Atomic::UInt => 6,
-            Atomic::UDInt => 7,
-            Atomic::ULInt => 8,
-            Atomic::Real => 9,
-            Atomic::LReal => 10,
-            Atomic::Byte => 11,
-            Atomic::Word => 12,
-            Atomic::DWord => 13,
-            Atomic::LWord => 14,
-        }
+        self as usize
     }
 
     // The atomic at a place; BOOL past the last.
@@ -113,126 +90,68 @@ impl Atomic {
     pub fn row(self) -> AtomicRow
         ensures { result ≡ row_of self }
     {
-        let rows = table();
-        let i = self.num();
-        rows[i]
+        table()[self.num()]
     }
 
     pub fn code(self) -> u8
         ensures { result ≡ code_of self }
     {
-        let row = self.row();
-        row.0
+        self.row().0
     }
 
+    // Its bytes, by a match: the row's size costs a look-up in the table, and readers of values ask at every leaf.
+    #[tactic(auto, unfolding(crate::specs::atomics::Atomic::size_of))]
     pub fn size(self) -> u8
         ensures { result ≡ size_of self }
     {
-        let row = self.row();
-        row.1
+        match self {
+            Atomic::Bool | Atomic::SInt | Atomic::USInt | Atomic::Byte => 1,
+            Atomic::Int | Atomic::UInt | Atomic::Word => 2,
+            Atomic::DInt | Atomic::UDInt | Atomic::Real | Atomic::DWord => 4,
+            Atomic::LInt | Atomic::ULInt | Atomic::LReal | Atomic::LWord => 8,
+        }
     }
 
     // The bit strings, whose value is one bool per bit.
+    #[tactic(auto, unfolding(crate::specs::atomics::Atomic::bit_string))]
     pub fn is_bit_string(self) -> bool
         ensures { result ≡ bit_string self }
     {
-        let n = self.num();
-        11 <= n
+        matches!(
+            self,
+            Atomic::Byte | Atomic::Word | Atomic::DWord | Atomic::LWord
+        )
     }
 
     // Integers and bit strings.
+    #[tactic(auto, unfolding(crate::specs::atomics::Atomic::has_bits))]
     pub fn has_bits(self) -> bool
         ensures { result ≡ has_bits self }
     {
-        let n = self.num();
-        if n == 0 {
-            return false;
-        }
-        if n == 9 {
-            return false;
-        }
-        n != 10
+        !matches!(self, Atomic::Bool | Atomic::Real | Atomic::LReal)
     }
 
     // The atomic of a name, without ASCII case.
-    pub fn from_name(name: &[u8]) -> FoundAtomic
+    pub fn from_name(name: &[u8]) -> Option<Atomic>
         ensures { said_by result ≡ code_named name.now }
     {
-        let rows = table();
-        let mut i: usize = 0;
-        while i < 15 {
-            let row = rows[i];
-            let bytes = row.3;
-            let long = row.2 as usize;
-            if same_name(&bytes[..long], name) {
-                return FoundAtomic::Is(Atomic::at(i));
+        for (i, row) in table().iter().enumerate() {
+            if same_name(&row.3[..row.2 as usize], name) {
+                return Some(Atomic::at(i));
             }
-            i += 1;
         }
-        FoundAtomic::Nothing
+        None
     }
 
     // The atomic of a code.
-    pub fn from_code(code: u16) -> FoundAtomic
+    pub fn from_code(code: u16) -> Option<Atomic>
         ensures { said_by result ≡ code_given code }
     {
-        let rows = table();
-        let mut i: usize = 0;
-        while i < 15 {
-            let row = rows[i];
-            let own = row.0 as u16;
-            if own == code {
-                return FoundAtomic::Is(Atomic::at(i));
+        for (i, row) in table().iter().enumerate() {
+            if u16::from(row.0) == code {
+                return Some(Atomic::at(i));
             }
-            i += 1;
         }
-        FoundAtomic::Nothing
-    }
-}
-
-// An atomic's bytes, and whether it is a bit string, by a match: values ask at every leaf, where the table is dearer.
-#[tactic(auto, unfolding(crate::specs::atomics::Atomic::size_of))]
-pub fn size_of(a: Atomic) -> usize
-    ensures { result ≡ size_of a }
-{
-    match a {
-        Atomic::Bool => 1,
-        Atomic::SInt => 1,
-        Atomic::Int => 2,
-        Atomic::DInt => 4,
-        Atomic::LInt => 8,
-        Atomic::USInt => 1,
-        Atomic::UInt => 2,
-        Atomic::UDInt => 4,
-        Atomic::ULInt => 8,
-        Atomic::Real => 4,
-        Atomic::LReal => 8,
-        Atomic::Byte => 1,
-        Atomic::Word => 2,
-        Atomic::DWord => 4,
-        Atomic::LWord => 8,
-    }
-}
-
-#[tactic(auto, unfolding(crate::specs::atomics::Atomic::bit_string))]
-pub fn is_bits(a: Atomic) -> bool
-    ensures { result ≡ bit_string a }
-{
-    match a {
-        Atomic::Bool => false,
-        Atomic::SInt => false,
-        Atomic::Int => false,
-        Atomic::DInt => false,
-        Atomic::LInt => false,
-        Atomic::USInt => false,
-        Atomic::UInt => false,
-        Atomic::UDInt => false,
-        Atomic::ULInt => false,
-        Atomic::Real => false,
-        Atomic::LReal => false,
-        Atomic::Byte => true,
-        Atomic::Word => true,
-        Atomic::DWord => true,
-        Atomic::LWord => true,
+        None
     }
 }

@@ -6,10 +6,10 @@ ghost use Rattle.types.specs.book.Contents.{in_bodies, type_ok, member_ok, every
 ghost use Rattle.types.specs.inside.book.Contents.{CountsSum};
 
 use crate::tables::member::Span;
-use words::{load8, load16, load32, wide, wide8};
+use words::Word;
 
 // A type's entry. Its fields stand as the book has them.
-#[derive(Clone, Copy)]
+#[derive(Clone, Copy, Debug, PartialEq, Eq)]
 pub struct TypeEntry {
     pub name: Span,
     pub flags: u8,
@@ -20,7 +20,7 @@ pub struct TypeEntry {
 }
 
 // A member's entry, with where its name and its type's name stand.
-#[derive(Clone, Copy)]
+#[derive(Clone, Copy, Debug, PartialEq, Eq)]
 pub struct MemberEntry {
     pub name: Span,
     pub ty: Span,
@@ -42,20 +42,16 @@ pub fn type_entry(book: &[u8], i: usize) -> TypeEntry
     ensures { result ≡ type_entry book.now i }
 {
     let at = 4 + 16 * i;
-    let place = load32(book, at);
-    let long = wide8(load8(book, at + 4));
-    let flags = load8(book, at + 5);
-    let id = load16(book, at + 6);
-    let string = load32(book, at + 8);
-    let count = load16(book, at + 12);
-    let zero = load16(book, at + 14);
     TypeEntry {
-        name: Span { at: place, long },
-        flags,
-        id,
-        string,
-        count,
-        zero,
+        name: Span {
+            at: u32::load(book, at),
+            long: u32::from(u8::load(book, at + 4)),
+        },
+        flags: u8::load(book, at + 5),
+        id: u16::load(book, at + 6),
+        string: u32::load(book, at + 8),
+        count: u16::load(book, at + 12),
+        zero: u16::load(book, at + 14),
     }
 }
 
@@ -64,22 +60,18 @@ pub fn entry_at(book: &[u8], at: usize) -> MemberEntry
     requires { at + 16 ≤ length book.now }
     ensures { result ≡ member_entry_at book.now at }
 {
-    let place = load32(book, at);
-    let long = wide8(load8(book, at + 4));
-    let type_long = wide8(load8(book, at + 5));
-    let local = load8(book, at + 6);
-    let access = load8(book, at + 7);
-    let dim = load32(book, at + 8);
-    let type_place = load32(book, at + 12);
     MemberEntry {
-        name: Span { at: place, long },
-        ty: Span {
-            at: type_place,
-            long: type_long,
+        name: Span {
+            at: u32::load(book, at),
+            long: u32::from(u8::load(book, at + 4)),
         },
-        local,
-        access,
-        dim,
+        ty: Span {
+            at: u32::load(book, at + 12),
+            long: u32::from(u8::load(book, at + 5)),
+        },
+        local: u8::load(book, at + 6),
+        access: u8::load(book, at + 7),
+        dim: u32::load(book, at + 8),
     }
 }
 
@@ -92,15 +84,13 @@ pub fn member_entry(book: &[u8], t: usize, i: usize) -> MemberEntry
 }
 
 // A name lies wholly in the bodies; one of length 0 may lie at their end.
+#[tactic(auto, unfolding(crate::specs::book::Contents::in_bodies))]
 fn in_bodies(start: usize, end: usize, s: Span) -> bool
     ensures { result ≡ in_bodies start end s }
 {
-    let at = wide(s.at);
-    let long = wide(s.long);
-    if at < start {
-        return false;
-    }
-    at + long <= end
+    let at = s.at as usize;
+    let long = s.long as usize;
+    start <= at && at + long <= end
 }
 
 // Flags: 1 AOI, 2 string, 4 id given.
@@ -122,48 +112,23 @@ pub fn has_id(e: TypeEntry) -> bool
     4 <= e.flags
 }
 
-// An unset flag needs 0 in its field.
-fn set_or_zero(set: bool, zero: bool) -> bool
-    ensures { result ≡ (set || zero) }
-{
-    if set {
-        return true;
-    }
-    zero
-}
-
+// Other flag bits are 0, and an unset flag needs 0 in its field.
+#[tactic(auto, unfolding(crate::specs::book::Contents::type_ok))]
 fn type_ok(start: usize, end: usize, e: TypeEntry) -> bool
     ensures { result ≡ type_ok start end e }
 {
-    let flags = e.flags;
-    if 7 < flags {
-        return false;
-    }
-    if e.zero != 0 {
-        return false;
-    }
-    if set_or_zero(4 <= flags, e.id == 0) {
-        if set_or_zero(flags / 2 % 2 == 1, e.string == 0) {
-            let name = e.name;
-            return in_bodies(start, end, name);
-        }
-        return false;
-    }
-    false
+    e.flags <= 7
+        && e.zero == 0
+        && (has_id(e) || e.id == 0)
+        && (is_string(e) || e.string == 0)
+        && in_bodies(start, end, e.name)
 }
 
+#[tactic(auto, unfolding(crate::specs::book::Contents::member_ok))]
 fn member_ok(start: usize, end: usize, e: MemberEntry) -> bool
     ensures { result ≡ member_ok start end e }
 {
-    if 1 < e.local {
-        return false;
-    }
-    let name = e.name;
-    if in_bodies(start, end, name) {
-        let ty = e.ty;
-        return in_bodies(start, end, ty);
-    }
-    false
+    e.local <= 1 && in_bodies(start, end, e.name) && in_bodies(start, end, e.ty)
 }
 
 // Each of the first n type entries is well formed, where the bodies begin at `start`.
@@ -172,14 +137,10 @@ fn types_ok(book: &[u8], n: usize, start: usize) -> bool
     ensures { result ≡ every (type_ok start (length book.now))
         (list_from (type_entry book.now) 0 n) }
 {
-    let end = book.len();
-    let mut i: usize = 0;
-    while i < n {
-        let e = type_entry(book, i);
-        if !type_ok(start, end, e) {
+    for i in 0..n {
+        if !type_ok(start, book.len(), type_entry(book, i)) {
             return false;
         }
-        i += 1;
     }
     true
 }
@@ -190,11 +151,8 @@ fn sum_counts(book: &[u8], n: usize) -> usize
     ensures { CountsSum n (list_from (type_entry book.now) 0 n) result }
 {
     let mut sum: usize = 0;
-    let mut i: usize = 0;
-    while i < n {
-        let e = type_entry(book, i);
-        sum += count_of(e.count);
-        i += 1;
+    for i in 0..n {
+        sum += count_of(type_entry(book, i).count);
     }
     sum
 }
@@ -205,37 +163,27 @@ fn members_ok(book: &[u8], t: usize, n: usize, start: usize) -> bool
     ensures { result ≡ every (member_ok start (length book.now))
         (list_from (member_entry book.now t) 0 n) }
 {
-    let end = book.len();
-    let mut i: usize = 0;
-    while i < n {
-        let e = member_entry(book, t, i);
-        if !member_ok(start, end, e) {
+    for i in 0..n {
+        if !member_ok(start, book.len(), member_entry(book, t, i)) {
             return false;
         }
-        i += 1;
     }
     true
 }
 
 // The book is well formed; where it is not, building refuses with 1.
+#[tactic(auto, unfolding(crate::specs::book::Contents::book_ok))]
 pub fn book_ok(book: &[u8]) -> bool
     ensures { result ≡ book_ok book.now }
 {
     if book.len() < 4 {
         return false;
     }
-    let t = count_of(load16(book, 0));
-    let m = count_of(load16(book, 2));
+    let t = count_of(u16::load(book, 0));
+    let m = count_of(u16::load(book, 2));
     let start = 4 + 16 * t + 16 * m;
-    if book.len() < start {
-        return false;
-    }
-    if types_ok(book, t, start) {
-        let sum = sum_counts(book, t);
-        if sum == m {
-            return members_ok(book, t, m, start);
-        }
-        return false;
-    }
-    false
+    start <= book.len()
+        && types_ok(book, t, start)
+        && sum_counts(book, t) == m
+        && members_ok(book, t, m, start)
 }

@@ -1,6 +1,6 @@
 // Declared members whose types were found (document 01, "Declaration book" and "Layout"): a book's entry
 // as a declaration that a layout can place.
-ghost use Rattle.std.specs.Prelude.{◌≡◌, ◌+◌, min};
+ghost use Rattle.std.specs.Prelude.{◌≡◌, ◌+◌};
 ghost use Rattle.types.specs.book.Decls.{plain as plain_of, resolved as resolved_of};
 ghost use Rattle.types.specs.inside.book.Decls.{decl_at, Found};
 ghost use Rattle.types.specs.inside.tables.Lent.{TyFits};
@@ -11,48 +11,27 @@ use crate::book::contents::entry_at;
 use crate::layout::placing::{Decl, is_bool};
 use crate::tables::lent::{TypeTable, ty_of, type_row};
 use crate::tables::member::{Span, Ty};
-use words::{wide8, wide16};
-
-fn at_most_four(x: u32) -> u32
-    ensures { result ≡ min x 4 }
-{
-    if x < 4 {
-        return x;
-    }
-    4
-}
 
 // A declared member that is stored as it is declared.
 fn plain(types: &TypeTable, ty: Ty, dim: u32, name: Span, local: bool, access: u8) -> Decl
     requires { TyFits ty }
     ensures { result ≡ plain_of (sizes_in types.now) ty dim name local access }
 {
-    match ty {
+    let (size, align) = match ty {
         Ty::Atomic(a) => {
-            let size = wide8(a.size());
-            let align = at_most_four(size);
-            Decl {
-                name,
-                ty,
-                size,
-                align,
-                count: dim,
-                local,
-                access,
-            }
+            let size = u32::from(a.size());
+            (size, size.min(4))
         }
-        Ty::Struct(n) => {
-            let d = type_row(types, n);
-            Decl {
-                name,
-                ty,
-                size: d.size,
-                align: 4,
-                count: dim,
-                local,
-                access,
-            }
-        }
+        Ty::Struct(n) => (type_row(types, n).size, 4),
+    };
+    Decl {
+        name,
+        ty,
+        size,
+        align,
+        count: dim,
+        local,
+        access,
     }
 }
 
@@ -61,21 +40,12 @@ fn resolved(types: &TypeTable, ty: Ty, dim: u32, name: Span, local: bool, access
     requires { TyFits ty }
     ensures { result ≡ resolved_of (sizes_in types.now) ty dim name local access }
 {
-    if is_bool(ty) {
-        if dim == 0 {
-            return plain(types, ty, dim, name, local, access);
-        }
-        return Decl {
-            name,
-            ty: Ty::Atomic(Atomic::DWord),
-            size: 4,
-            align: 4,
-            count: (dim - 1) / 32 + 1,
-            local,
-            access,
-        };
-    }
-    plain(types, ty, dim, name, local, access)
+    let (ty, count) = if is_bool(ty) && dim != 0 {
+        (Ty::Atomic(Atomic::DWord), dim.div_ceil(32))
+    } else {
+        (ty, dim)
+    };
+    plain(types, ty, count, name, local, access)
 }
 
 // The j-th of a type's declared members: its entry in the book, and the type that was found for it.
@@ -84,7 +54,6 @@ pub fn decl_at(types: &TypeTable, book: &[u8], tys: &[u16], at: usize, j: usize)
     ensures { result ≡ decl_at types.now book.now tys.now at j }
 {
     let e = entry_at(book, at + 16 * j);
-    let ty = ty_of(wide16(tys[j]));
-    let name = e.name;
-    resolved(types, ty, e.dim, name, e.local == 1, e.access)
+    let ty = ty_of(u32::from(tys[j]));
+    resolved(types, ty, e.dim, e.name, e.local == 1, e.access)
 }

@@ -7,13 +7,7 @@ ghost use Rattle.types.specs.book.Names.{lower_of, same_name, name_byte, good_na
 pub fn lower(x: u8) -> u8
     ensures { result ≡ lower_of x }
 {
-    if x < b'A' {
-        return x;
-    }
-    if x <= b'Z' {
-        return x + 32;
-    }
-    x
+    x.to_ascii_lowercase()
 }
 
 // Two names are the same where they differ in ASCII case at most. Names that end in numbers differ there, so the last
@@ -24,12 +18,8 @@ pub fn same_name(a: &[u8], b: &[u8]) -> bool
     if a.len() != b.len() {
         return false;
     }
-    let mut i = a.len();
-    while 0 < i {
-        i -= 1;
-        let x = lower(a[i]);
-        let y = lower(b[i]);
-        if x != y {
+    for i in (0..a.len()).rev() {
+        if lower(a[i]) != lower(b[i]) {
             return false;
         }
     }
@@ -37,34 +27,17 @@ pub fn same_name(a: &[u8], b: &[u8]) -> bool
 }
 
 // A byte that may stand in a name.
+#[tactic(auto, unfolding(crate::specs::book::Names::name_byte))]
 fn name_byte(x: u8) -> bool
     ensures { result ≡ name_byte x }
 {
-    if x < 0x21 {
-        return false;
-    }
-    if 0x7E < x {
-        return false;
-    }
-    x != b';'
+    matches!(x, 0x21..=0x7E) && x != b';'
 }
 
 // The rule of a type's or a member's name: 1 to 40 such bytes.
+#[tactic(auto, unfolding(crate::specs::book::Names::good_name, crate::specs::book::Names::name_bytes))]
 pub fn good_name(s: &[u8]) -> bool
     ensures { result ≡ good_name s.now }
 {
-    if s.len() < 1 {
-        return false;
-    }
-    if 40 < s.len() {
-        return false;
-    }
-    let mut i: usize = 0;
-    while i < s.len() {
-        if !name_byte(s[i]) {
-            return false;
-        }
-        i += 1;
-    }
-    true
+    (1..=40).contains(&s.len()) && s.iter().all(|&x| name_byte(x))
 }

@@ -3,7 +3,7 @@
 ghost use Rattle.std.specs.Prelude.{◌≡◌, ◌+◌, ◌*◌, ◌/◌, ◌<◌, ◌≤◌, length};
 ghost use Rattle.std.proofs.lemmas.List.Edits.{sets};
 ghost use Rattle.types.specs.inside.book.Decls.{decls_from, Found};
-ghost use Rattle.types.specs.inside.layout.Passes.{BoolsCounted, OneIf, HostPut, aoi_parts, PartsPut, StorableAoi};
+ghost use Rattle.types.specs.inside.layout.Passes.{BoolsCounted, HostPut, aoi_parts, PartsPut, StorableAoi};
 ghost use Rattle.types.specs.inside.layout.Passes.{measured_aoi, BitHostLong, HostsLong};
 ghost use Rattle.types.specs.layout.HostNames.{bit_host_name};
 ghost use Rattle.types.specs.layout.Structs.{names_of, rows_of, bools, host_parts, enable_at, enable_parts, aoi_start};
@@ -17,31 +17,18 @@ use crate::layout::measure::{Measured, measure};
 use crate::layout::placing::{Cursor, Host, is_bool};
 use crate::layout::store::{put_part, store};
 use crate::tables::lent::{MemberTable, NameTable, TypeTable, put_bytes, put_member};
-use crate::tables::member::{Bit, Member, Span, Ty};
-use words::{wide, wide64};
-
-fn one_if(b: bool) -> u32
-    ensures { OneIf b result }
-{
-    if b {
-        return 1;
-    }
-    0
-}
+use crate::tables::member::{Member, Span, Ty};
 
 // How many of n declared members are BOOLs (dim 0).
 pub fn count_bools(types: &TypeTable, book: &[u8], tys: &[u16], at: usize, n: usize) -> u32
     requires { Found book.now tys.now at n × (n ≤ 131072) }
     ensures { BoolsCounted n (decls_from types.now book.now tys.now at 0 n) result }
 {
-    let mut count: u32 = 0;
-    let mut j: usize = 0;
-    while j < n {
-        let d = decl_at(types, book, tys, at, j);
-        let ty = d.ty;
-        let bool = is_bool(ty);
-        count += one_if(bool);
-        j += 1;
+    let mut count = 0;
+    for j in 0..n {
+        if is_bool(decl_at(types, book, tys, at, j).ty) {
+            count += 1;
+        }
     }
     count
 }
@@ -51,7 +38,7 @@ pub fn hosts_for(bools: u32) -> u32
     requires { bools ≤ 131072 }
     ensures { result ≡ (2 + bools + 31) / 32 }
 {
-    (2 + bools + 31) / 32
+    (2 + bools).div_ceil(32)
 }
 
 // A host's row, and its name among the names; answers the name's length.
@@ -66,12 +53,10 @@ fn put_bit_host(
     ensures { HostPut i row at members.old names.old
         members.new names.new result }
 {
-    let d = two_digits(wide64(i));
-    let bytes = d.bytes;
-    let from = d.from;
-    let long = 9 + (DIGITS - from);
+    let d = two_digits(u64::from(i));
+    let long = 9 + (DIGITS - d.from);
     put_bytes(names, at, b"__BitHost");
-    put_bytes(names, at + 9, &bytes[from..]);
+    put_bytes(names, at + 9, &d.bytes[d.from..]);
     put_member(
         members,
         row,
@@ -83,7 +68,7 @@ fn put_bit_host(
             ty: Ty::Atomic(Atomic::DInt),
             count: 0,
             offset: 4 * i,
-            bit: Bit::None,
+            bit: None,
             hidden: true,
             local: false,
             access: 0,
@@ -105,12 +90,8 @@ fn put_hosts(
         members.new names.new result }
 {
     let mut at = place;
-    let mut i: u32 = 0;
-    while i < h {
-        let next = row + wide(i);
-        let long = put_bit_host(members, next, names, at, i);
-        at += long;
-        i += 1;
+    for i in 0..h {
+        at += put_bit_host(members, row + i as usize, names, at, i);
     }
     at
 }
@@ -123,7 +104,7 @@ fn enable(bit: u8) -> Member
         ty: Ty::Atomic(Atomic::Bool),
         count: 0,
         offset: 0,
-        bit: Bit::At(bit),
+        bit: Some(bit),
         hidden: false,
         local: false,
         access: 2,
@@ -136,10 +117,8 @@ fn put_enables(members: &mut MemberTable, row: usize, names: &mut NameTable, pla
     ensures { PartsPut enable_parts row place members.old names.old
         members.new names.new result }
 {
-    let first = enable(0);
-    let second = enable(1);
-    put_part(members, row, names, place, b"EnableIn", first);
-    put_part(members, row + 1, names, place + 8, b"EnableOut", second);
+    put_part(members, row, names, place, b"EnableIn", enable(0));
+    put_part(members, row + 1, names, place + 8, b"EnableOut", enable(1));
     place + 17
 }
 
@@ -177,10 +156,9 @@ pub fn store_aoi(
         (names_of (aoi_parts (named_in book.now) name.now
         (decls_from types.now book.now tys.now at 0 n))) }
 {
-    let after = wide(h);
+    let after = row + h as usize;
     let second = put_hosts(members, row, names, place, h);
-    let third = put_enables(members, row + after, names, second);
-    let from = aoi_start(h);
+    let third = put_enables(members, after, names, second);
     store(
         types,
         book,
@@ -188,9 +166,9 @@ pub fn store_aoi(
         at,
         n,
         name,
-        from,
+        aoi_start(h),
         members,
-        row + after + 2,
+        after + 2,
         names,
         third,
     );
@@ -201,7 +179,7 @@ fn bit_host_long(i: u32) -> u32
     requires { i < 1000000 }
     ensures { BitHostLong i result }
 {
-    let d = two_digits(wide64(i));
+    let d = two_digits(u64::from(i));
     (9 + (DIGITS - d.from)) as u32
 }
 
@@ -210,11 +188,9 @@ fn hosts_long(h: u32) -> u32
     requires { h ≤ 131072 }
     ensures { HostsLong h result }
 {
-    let mut long: u32 = 0;
-    let mut i: u32 = 0;
-    while i < h {
+    let mut long = 0;
+    for i in 0..h {
         long += bit_host_long(i);
-        i += 1;
     }
     long
 }
@@ -232,9 +208,15 @@ pub fn measure_aoi(
     ensures { result ≡ measured_aoi name.now
         (decls_from types.now book.now tys.now at 0 n) }
 {
-    let bools = count_bools(types, book, tys, at, n);
-    let h = hosts_for(bools);
-    let long = hosts_long(h);
-    let from = aoi_start(h);
-    measure(types, book, tys, at, n, name, from, long + 17)
+    let h = hosts_for(count_bools(types, book, tys, at, n));
+    measure(
+        types,
+        book,
+        tys,
+        at,
+        n,
+        name,
+        aoi_start(h),
+        hosts_long(h) + 17,
+    )
 }

@@ -7,9 +7,9 @@ ghost use Rattle.types.specs.inside.layout.Decimals.{Spelt, TwoDigits};
 pub const DIGITS: usize = 20;
 
 // A number's digits: these bytes from `from` on.
-#[derive(Clone, Copy)]
+#[derive(Clone, Copy, Debug, PartialEq, Eq)]
 pub struct Decimal {
-    pub bytes: [u8; 20],
+    pub bytes: [u8; DIGITS],
     pub from: usize,
 }
 
@@ -17,20 +17,20 @@ pub struct Decimal {
 fn last_digit(x: u64) -> u8
     ensures { result ≡ 48 + x % 10 }
 {
-    48 + ((x % 10) as u8)
+    b'0' + (x % 10) as u8
 }
 
 // A number's digits, stored from the last one on.
 pub fn decimal_of(x: u64) -> Decimal
     ensures { Spelt x result }
 {
-    let mut bytes = [0u8; 20];
-    let mut from: usize = 19;
+    let mut bytes = [0; DIGITS];
+    let mut from = DIGITS - 1;
     let mut y = x;
-    while 10 <= y {
+    while y >= 10 {
         bytes[from] = last_digit(y);
         from -= 1;
-        y = y / 10;
+        y /= 10;
     }
     bytes[from] = last_digit(y);
     Decimal { bytes, from }
@@ -41,9 +41,13 @@ pub fn two_digits(x: u64) -> Decimal
     ensures { TwoDigits x result }
 {
     if x < 10 {
-        let mut bytes = [b'0'; 20];
-        bytes[19] = last_digit(x);
-        return Decimal { bytes, from: 18 };
+        let mut bytes = [b'0'; DIGITS];
+        bytes[DIGITS - 1] = last_digit(x);
+        Decimal {
+            bytes,
+            from: DIGITS - 2,
+        }
+    } else {
+        decimal_of(x)
     }
-    decimal_of(x)
 }

@@ -10,7 +10,7 @@ ghost use Rattle.types.specs.tables.Limits.{most_members, most_names};
 use crate::atomics::atomic::Atomic;
 use crate::layout::store::put_part;
 use crate::tables::lent::{MemberTable, NameTable};
-use crate::tables::member::{Bit, Member, Ty};
+use crate::tables::member::{Member, Ty};
 
 // A visible DINT at an offset.
 fn dint_at(offset: u32) -> Member
@@ -20,7 +20,7 @@ fn dint_at(offset: u32) -> Member
         ty: Ty::Atomic(Atomic::DInt),
         count: 0,
         offset,
-        bit: Bit::None,
+        bit: None,
         hidden: false,
         local: false,
         access: 0,
@@ -35,7 +35,7 @@ fn data_of(capacity: u32) -> Member
         ty: Ty::Atomic(Atomic::SInt),
         count: capacity,
         offset: 4,
-        bit: Bit::None,
+        bit: None,
         hidden: false,
         local: false,
         access: 0,
@@ -55,10 +55,15 @@ pub fn put_string(
         (rows_of place (string_parts capacity)) }
     ensures names { names.new ≡ sets names.old place (names_of (string_parts capacity)) }
 {
-    let len = dint_at(0);
-    let data = data_of(capacity);
-    put_part(members, row, names, place, b"LEN", len);
-    put_part(members, row + 1, names, place + 3, b"DATA", data);
+    put_part(members, row, names, place, b"LEN", dint_at(0));
+    put_part(
+        members,
+        row + 1,
+        names,
+        place + 3,
+        b"DATA",
+        data_of(capacity),
+    );
 }
 
 // A string's size.
@@ -66,7 +71,7 @@ pub fn string_size(capacity: u32) -> u32
     requires { capacity ≤ 67108860 }
     ensures { result ≡ string_size capacity }
 {
-    (4 + capacity + 3) / 4 * 4
+    (4 + capacity).next_multiple_of(4)
 }
 
 // The hidden word that holds a control type's status bits.
@@ -74,13 +79,8 @@ fn ctl_at() -> Member
     ensures { result ≡ ctl_at }
 {
     Member {
-        ty: Ty::Atomic(Atomic::DInt),
-        count: 0,
-        offset: 0,
-        bit: Bit::None,
         hidden: true,
-        local: false,
-        access: 0,
+        ..dint_at(0)
     }
 }
 
@@ -94,7 +94,7 @@ fn status_at(i: usize) -> Member
         ty: Ty::Atomic(Atomic::Bool),
         count: 0,
         offset: (down / 8) as u32,
-        bit: Bit::At((down % 8) as u8),
+        bit: Some((down % 8) as u8),
         hidden: false,
         local: false,
         access: 0,
@@ -109,14 +109,8 @@ fn put_bits(members: &mut MemberTable, row: usize, names: &mut NameTable, place:
     ensures names { names.new ≡ sets names.old place
         (names_of (status_parts 0 (pairs bits.now 0 (length bits.now / 2)))) }
 {
-    let n = bits.len() / 2;
-    let mut i: usize = 0;
-    while i < n {
-        let from = 2 * i;
-        let to = from + 2;
-        let m = status_at(i);
-        put_part(members, row + i, names, place + from, &bits[from..to], m);
-        i += 1;
+    for (i, name) in bits.chunks_exact(2).enumerate() {
+        put_part(members, row + i, names, place + 2 * i, name, status_at(i));
     }
 }
 
@@ -135,11 +129,8 @@ pub fn put_control(
     ensures names { names.new ≡ sets names.old place
         (names_of (control_of words.now bits.now)) }
 {
-    let ctl = ctl_at();
-    let one = dint_at(4);
-    let two = dint_at(8);
-    put_part(members, row, names, place, b"CTL", ctl);
-    put_part(members, row + 1, names, place + 3, &words[0..3], one);
-    put_part(members, row + 2, names, place + 6, &words[3..6], two);
+    put_part(members, row, names, place, b"CTL", ctl_at());
+    put_part(members, row + 1, names, place + 3, &words[..3], dint_at(4));
+    put_part(members, row + 2, names, place + 6, &words[3..6], dint_at(8));
     put_bits(members, row + 3, names, place + 9, bits);
 }

@@ -7,7 +7,6 @@ ghost use Rattle.types.specs.tables.Limits.{most_names};
 
 use crate::layout::decimals::{DIGITS, decimal_of};
 use crate::tables::lent::{NameTable, put_bytes};
-use words::{least, wide64};
 
 // So many bytes of the type's name stand in its hosts' names.
 const TAKEN: usize = 10;
@@ -17,8 +16,8 @@ pub fn host_long(name: &[u8], k: u32) -> u32
     requires { k < 1000000 }
     ensures { HostLong name.now k result }
 {
-    let n = least(TAKEN, name.len());
-    let d = decimal_of(wide64(k));
+    let n = TAKEN.min(name.len());
+    let d = decimal_of(u64::from(k));
     (10 + n + (DIGITS - d.from)) as u32
 }
 
@@ -27,11 +26,9 @@ pub fn put_host_name(names: &mut NameTable, at: usize, name: &[u8], k: u32)
     requires { (k < 1000000) × (at + length (host_name name.now k) ≤ most_names) }
     ensures { names.new ≡ sets names.old at (host_name name.now k) }
 {
-    let n = least(TAKEN, name.len());
-    let d = decimal_of(wide64(k));
-    let bytes = d.bytes;
-    let from = d.from;
+    let n = TAKEN.min(name.len());
+    let d = decimal_of(u64::from(k));
     put_bytes(names, at, b"ZZZZZZZZZZ");
     put_bytes(names, at + 10, &name[..n]);
-    put_bytes(names, at + 10 + n, &bytes[from..]);
+    put_bytes(names, at + 10 + n, &d.bytes[d.from..]);
 }

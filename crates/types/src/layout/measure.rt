@@ -7,32 +7,20 @@ ghost use Rattle.types.specs.layout.HostNames.{host_name};
 
 use crate::book::decls::decl_at;
 use crate::layout::host_names::host_long;
-use crate::layout::placing::{Cursor, Decl, Placed, place};
+use crate::layout::placing::{Cursor, Decl, LayoutFault, Placed, place};
 use crate::tables::lent::TypeTable;
 
-// How far a layout came, and how many bytes its names have; or which of the two refusals it meets first.
-#[derive(Clone, Copy)]
-pub enum Measured {
-    Came(Cursor, u32),
-    AccessWrong,
-    TooFar,
-}
+// How far a layout came, and how many bytes its names have; or the fault that it meets first.
+pub type Measured = Result<(Cursor, u32), LayoutFault>;
 
 // One declared member, of a type with that name, after `names` bytes of names.
 fn measure_one(name: &[u8], c: Cursor, names: u32, d: Decl) -> Measured
     requires { Near c names d }
     ensures { result ≡ measure_one (host_name name.now) c names d }
 {
-    let long = d.name.long;
-    let p = place(c, d);
-    match p {
-        Placed::Hosted(_, _, next) => {
-            let host = host_long(name, c.members);
-            Measured::Came(next, names + host + long)
-        }
-        Placed::One(_, next) => Measured::Came(next, names + long),
-        Placed::AccessWrong => Measured::AccessWrong,
-        Placed::TooFar => Measured::TooFar,
+    match place(c, d)? {
+        Placed::Hosted(_, _, next) => Ok((next, names + host_long(name, c.members) + d.name.long)),
+        Placed::One(_, next) => Ok((next, names + d.name.long)),
     }
 }
 
@@ -54,23 +42,10 @@ pub fn measure(
 {
     let mut c = from;
     let mut long = names;
-    let mut j: usize = 0;
-    while j < n {
-        let d = decl_at(types, book, tys, at, j);
-        let one = measure_one(name, c, long, d);
-        match one {
-            Measured::Came(next, more) => {
-                c = next;
-                long = more;
-            }
-            Measured::AccessWrong => {
-                return Measured::AccessWrong;
-            }
-            Measured::TooFar => {
-                return Measured::TooFar;
-            }
-        }
-        j += 1;
+    for j in 0..n {
+        let (next, more) = measure_one(name, c, long, decl_at(types, book, tys, at, j))?;
+        c = next;
+        long = more;
     }
-    Measured::Came(c, long)
+    Ok((c, long))
 }

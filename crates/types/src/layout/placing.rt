@@ -3,24 +3,19 @@
 ghost use Rattle.std.specs.Prelude.{◌≡◌};
 ghost use Rattle.types.specs.inside.layout.Placing.{Times, Aligned, Able};
 ghost use Rattle.types.specs.layout.Placing.{member_end, said_by, access_ok, is_bool, align_up, opened as opened_of};
-ghost use Rattle.types.specs.layout.Placing.{next_bit, place_bool, closed, place_other, placed};
+ghost use Rattle.types.specs.layout.Placing.{next_bit, place_bool, closed, place_other, placed, fault_number};
+ghost use Rattle.types.specs.refusals.Said.{why_of};
 
 use crate::atomics::atomic::Atomic;
-use crate::tables::member::{Bit, Member, Span, Ty};
-use words::wide64;
+use crate::refusals::refusal::Refusal;
+use crate::tables::member::{Member, Span, Ty};
 
 // The most bytes of a member's end.
 pub const MOST_SIZE: u64 = 67108864;
 
-#[derive(Clone, Copy)]
-pub enum End {
-    At(u32),
-    Over,
-}
-
 // Where the next BOOL goes: no host is open; bit `1` of the host at byte `0` is the next; or, in an AOI,
 // all BOOLs share the hosts at its start, and so many have come before.
-#[derive(Clone, Copy)]
+#[derive(Clone, Copy, Debug, PartialEq, Eq)]
 pub enum Host {
     Closed,
     Open(u32, u8),
@@ -29,7 +24,7 @@ pub enum Host {
 
 // A declared member whose type was found: the type's size and alignment, its count (a BOOL with a dim is
 // DWORDs by now), and where its name stands in the book.
-#[derive(Clone, Copy)]
+#[derive(Clone, Copy, Debug, PartialEq, Eq)]
 pub struct Decl {
     pub name: Span,
     pub ty: Ty,
@@ -41,7 +36,7 @@ pub struct Decl {
 }
 
 // How far a layout has come: the current offset, the host, and the count of members so far.
-#[derive(Clone, Copy)]
+#[derive(Clone, Copy, Debug, PartialEq, Eq)]
 pub struct Cursor {
     pub offset: u32,
     pub host: Host,
@@ -49,57 +44,64 @@ pub struct Cursor {
 }
 
 // What placing a member gives: a new hidden host and the member, or the member alone, and how far the
-// layout has then come; or that it cannot be placed.
-#[derive(Clone, Copy)]
+// layout has then come.
+#[derive(Clone, Copy, Debug, PartialEq, Eq)]
 pub enum Placed {
     Hosted(Member, Member, Cursor),
     One(Member, Cursor),
+}
+
+// Why a member cannot be placed.
+#[derive(Clone, Copy, Debug, PartialEq, Eq)]
+pub enum LayoutFault {
     AccessWrong,
     TooFar,
+}
+
+impl LayoutFault {
+    // The refusal of the type with this number in the book.
+    pub fn refusal(self, number: u32) -> Refusal
+        ensures { why_of result ≡ (fault_number self, number) }
+    {
+        match self {
+            LayoutFault::AccessWrong => Refusal::AccessWrong(number),
+            LayoutFault::TooFar => Refusal::MemberTooFar(number),
+        }
+    }
 }
 
 // How many elements a count stands for: 0 is one.
 pub fn elements(count: u32) -> u64
     ensures { Times count result }
 {
-    if count == 0 {
-        return 1;
-    }
-    wide64(count)
+    u64::from(count).max(1)
 }
 
 // The end of a member of `count` elements of `size` bytes each at `offset`, where it is not past 2^26.
-pub fn member_end(offset: u32, size: u32, count: u32) -> End
+pub fn member_end(offset: u32, size: u32, count: u32) -> Option<u32>
     ensures { said_by result ≡ member_end offset size count }
 {
-    let end = wide64(offset) + wide64(size) * elements(count);
+    let end = u64::from(offset) + u64::from(size) * elements(count);
     if end <= MOST_SIZE {
-        return End::At(end as u32);
+        Some(end as u32)
+    } else {
+        None
     }
-    End::Over
 }
 
 // 0 read and write, 2 read only, 3 none.
+#[tactic(auto, unfolding(crate::specs::layout::Placing::access_ok))]
 fn access_ok(access: u8) -> bool
     ensures { result ≡ access_ok access }
 {
-    if access == 0 {
-        return true;
-    }
-    if access == 2 {
-        return true;
-    }
-    access == 3
+    matches!(access, 0 | 2 | 3)
 }
 
 #[tactic(auto, unfolding(crate::specs::layout::Placing::is_bool))]
 pub fn is_bool(ty: Ty) -> bool
     ensures { result ≡ is_bool ty }
 {
-    match ty {
-        Ty::Atomic(a) => a.num() == 0,
-        Ty::Struct(_) => false,
-    }
+    matches!(ty, Ty::Atomic(Atomic::Bool))
 }
 
 // The lowest multiple of `align` from x on.
@@ -107,7 +109,7 @@ pub fn align_up(x: u32, align: u32) -> u32
     requires { Aligned x align }
     ensures { result ≡ align_up x align }
 {
-    (x + (align - 1)) / align * align
+    x.next_multiple_of(align)
 }
 
 // A hidden SINT host at the current offset, which grows by 1, and the BOOL at its bit 0.
@@ -115,13 +117,12 @@ fn opened(c: Cursor, d: Decl) -> Placed
     requires { Able c d }
     ensures { result ≡ opened_of c d }
 {
-    let at = c.offset;
     Placed::Hosted(
         Member {
             ty: Ty::Atomic(Atomic::SInt),
             count: 0,
-            offset: at,
-            bit: Bit::None,
+            offset: c.offset,
+            bit: None,
             hidden: true,
             local: false,
             access: 0,
@@ -129,15 +130,15 @@ fn opened(c: Cursor, d: Decl) -> Placed
         Member {
             ty: Ty::Atomic(Atomic::Bool),
             count: 0,
-            offset: at,
-            bit: Bit::At(0),
+            offset: c.offset,
+            bit: Some(0),
             hidden: false,
             local: d.local,
             access: d.access,
         },
         Cursor {
-            offset: at + 1,
-            host: Host::Open(at, 1),
+            offset: c.offset + 1,
+            host: Host::Open(c.offset, 1),
             members: c.members + 2,
         },
     )
@@ -153,7 +154,7 @@ fn next_bit(c: Cursor, d: Decl, byte: u32, bit: u8, host: Host) -> Placed
             ty: Ty::Atomic(Atomic::Bool),
             count: 0,
             offset: byte,
-            bit: Bit::At(bit),
+            bit: Some(bit),
             hidden: false,
             local: d.local,
             access: d.access,
@@ -172,16 +173,9 @@ fn place_bool(c: Cursor, d: Decl) -> Placed
     requires { Able c d }
     ensures { result ≡ place_bool c.host c d }
 {
-    let host = c.host;
-    match host {
-        Host::Closed => opened(c, d),
-        Host::Open(byte, bit) => {
-            if bit < 8 {
-                next_bit(c, d, byte, bit, Host::Open(byte, bit + 1))
-            } else {
-                opened(c, d)
-            }
-        }
+    match c.host {
+        Host::Open(byte, bit) if bit < 8 => next_bit(c, d, byte, bit, Host::Open(byte, bit + 1)),
+        Host::Closed | Host::Open(_, _) => opened(c, d),
         Host::Shared(i) => {
             let byte = 4 * (i / 32) + i % 32 / 8;
             next_bit(c, d, byte, (i % 8) as u8, Host::Shared(i + 1))
@@ -195,54 +189,47 @@ fn close(host: Host) -> Host
     ensures { result ≡ closed host }
 {
     match host {
-        Host::Closed => Host::Closed,
-        Host::Open(_, _) => Host::Closed,
-        Host::Shared(i) => Host::Shared(i),
+        Host::Closed | Host::Open(_, _) => Host::Closed,
+        Host::Shared(_) => host,
     }
 }
 
 // Any other member closes the host, is aligned, and must end at or below 2^26.
-fn place_other(c: Cursor, d: Decl) -> Placed
+fn place_other(c: Cursor, d: Decl) -> Result<Placed, LayoutFault>
     requires { Able c d }
     ensures { result ≡ place_other c d }
 {
-    let at = align_up(c.offset, d.align);
-    let end = member_end(at, d.size, d.count);
-    let ty = d.ty;
-    let before = c.host;
-    let host = close(before);
-    match end {
-        End::Over => Placed::TooFar,
-        End::At(offset) => Placed::One(
-            Member {
-                ty,
-                count: d.count,
-                offset: at,
-                bit: Bit::None,
-                hidden: false,
-                local: d.local,
-                access: d.access,
-            },
-            Cursor {
-                offset,
-                host,
-                members: c.members + 1,
-            },
-        ),
-    }
+    let start = align_up(c.offset, d.align);
+    let offset = member_end(start, d.size, d.count).ok_or(LayoutFault::TooFar)?;
+    Ok(Placed::One(
+        Member {
+            ty: d.ty,
+            count: d.count,
+            offset: start,
+            bit: None,
+            hidden: false,
+            local: d.local,
+            access: d.access,
+        },
+        Cursor {
+            offset,
+            host: close(c.host),
+            members: c.members + 1,
+        },
+    ))
 }
 
 // Places one declared member: first its access, then a BOOL or any other.
-pub fn place(c: Cursor, d: Decl) -> Placed
+pub fn place(c: Cursor, d: Decl) -> Result<Placed, LayoutFault>
     requires { Able c d }
     ensures { result ≡ placed c d }
 {
-    if access_ok(d.access) {
-        let ty = d.ty;
-        if is_bool(ty) {
-            return place_bool(c, d);
-        }
-        return place_other(c, d);
+    if !access_ok(d.access) {
+        return Err(LayoutFault::AccessWrong);
     }
-    Placed::AccessWrong
+    if is_bool(d.ty) {
+        Ok(place_bool(c, d))
+    } else {
+        place_other(c, d)
+    }
 }

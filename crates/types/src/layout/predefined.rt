@@ -1,8 +1,7 @@
 // The predefined types (document 01, "Layout", Predefined; "Order of building"): TIMER, COUNTER, CONTROL and
 // STRING, the first four types of every registry, under the ids that the caller gives (else refusal 22).
-ghost use Rattle.std.specs.Prelude.{◌≡◌, true};
+ghost use Rattle.std.specs.Prelude.{◌≡◌, true, Ok};
 ghost use Rattle.types.specs.adding.Add.{yes, new_def};
-ghost use Rattle.types.specs.declared.adding.progress.Progress.TheVariants.{Added};
 ghost use Rattle.types.specs.declared.tables.member.StructKind.TheVariants.{Predefined};
 ghost use Rattle.types.specs.inside.adding.Add.{Took};
 ghost use Rattle.types.specs.inside.layout.Predefined.{ControlReady};
@@ -19,7 +18,7 @@ use crate::tables::lent::{MemberTable, NameTable, TypeTable, put_bytes};
 use crate::tables::member::StructKind;
 
 // The ids that the caller gives for the four predefined types.
-#[derive(Clone, Copy)]
+#[derive(Clone, Copy, Debug, PartialEq, Eq)]
 pub struct PredefinedIds {
     pub timer: u16,
     pub counter: u16,
@@ -28,63 +27,36 @@ pub struct PredefinedIds {
 }
 
 // An id of a predefined type: no type of a book can take it.
+#[tactic(auto, unfolding(crate::specs::layout::Predefined::predefined_id, crate::specs::templates::Template::user_id))]
 fn id_ok(id: u16) -> bool
     ensures { result ≡ predefined_id id }
 {
-    if id < 1 {
-        return false;
-    }
-    if 0xFFF < id {
-        return false;
-    }
-    if id < 0x100 {
-        return true;
-    }
-    if id <= 0xEFF {
-        return false;
-    }
-    true
+    matches!(id, 1..=0xFF | 0xF00..=0xFFF)
 }
 
 // No two of the four are the same.
+#[tactic(auto, unfolding(crate::specs::layout::Predefined::distinct))]
 fn all_differ(ids: PredefinedIds) -> bool
     ensures { result ≡ distinct ids }
 {
-    if ids.timer == ids.counter {
-        return false;
-    }
-    if ids.timer == ids.control {
-        return false;
-    }
-    if ids.timer == ids.string {
-        return false;
-    }
-    if ids.counter == ids.control {
-        return false;
-    }
-    if ids.counter == ids.string {
-        return false;
-    }
-    ids.control != ids.string
+    ids.timer != ids.counter
+        && ids.timer != ids.control
+        && ids.timer != ids.string
+        && ids.counter != ids.control
+        && ids.counter != ids.string
+        && ids.control != ids.string
 }
 
 // The ids that a caller gives will do.
+#[tactic(auto, unfolding(crate::specs::layout::Predefined::predefined_ids))]
 pub fn ids_ok(ids: PredefinedIds) -> bool
     ensures { result ≡ predefined_ids ids }
 {
-    if !id_ok(ids.timer) {
-        return false;
-    }
-    if !id_ok(ids.counter) {
-        return false;
-    }
-    if !id_ok(ids.control) {
-        return false;
-    }
-    if !id_ok(ids.string) {
-        return false;
-    }
-    all_differ(ids)
+    id_ok(ids.timer)
+        && id_ok(ids.counter)
+        && id_ok(ids.control)
+        && id_ok(ids.string)
+        && all_differ(ids)
 }
 
 // TIMER, COUNTER or CONTROL, after what is used: its name, those of its two words, and those of its status bits.
@@ -102,7 +74,7 @@ fn put_control_def(
     ensures { Took (yes (new_def (view_in types.old names.old u)
         name.now id 12 Predefined (control_of words.now bits.now))) u
         types.old members.old names.old
-        types.new members.new names.new (Added result) }
+        types.new members.new names.new (Ok result) }
 {
     let long = name.len();
     let count = 3 + bits.len() / 2;

@@ -13,7 +13,6 @@ use crate::layout::host_names::{host_long, put_host_name};
 use crate::layout::placing::{Cursor, Decl, Placed, place};
 use crate::tables::lent::{MemberTable, NameTable, TypeTable, put_bytes, put_member};
 use crate::tables::member::{Member, Span};
-use words::wide;
 
 // A member's row, and its name among the names.
 pub fn put_part(
@@ -30,14 +29,13 @@ pub fn put_part(
     ensures names { names.new ≡ sets names.old at
         (names_of (named name.now m ∷ [])) }
 {
-    let long = name.len();
     put_bytes(names, at, name);
     put_member(
         members,
         row,
         Span {
             at: at as u32,
-            long: long as u32,
+            long: name.len() as u32,
         },
         m,
     );
@@ -75,48 +73,53 @@ fn put_host(
     long as usize
 }
 
-// Where the next member goes: the cursor, the row, and the place of its name. Nothing is left to store
-// where the layout was refused.
-#[derive(Clone, Copy)]
-pub enum StoreNext {
-    Next(Cursor, usize, usize),
-    Stop,
+// Where the next member goes: the cursor, the row, and the place of its name.
+#[derive(Clone, Copy, Debug, PartialEq, Eq)]
+pub struct StoreNext {
+    pub cursor: Cursor,
+    pub row: usize,
+    pub place: usize,
 }
 
-// The rows and the names of one declared member of a type with that name.
+// The rows and the names of one declared member of a type with that name. Nothing is left to store where the
+// layout was refused.
 fn store_one(
     book: &[u8],
     name: &[u8],
-    c: Cursor,
+    to: StoreNext,
     d: Decl,
     members: &mut MemberTable,
-    row: usize,
     names: &mut NameTable,
-    at: usize,
-) -> StoreNext
-    requires { StepFits book.now name.now c d row at }
-    ensures next { result ≡ stored_one name.now c d row at }
-    ensures rows { members.new ≡ sets members.old (8 * row)
-        (rows_of at (one_parts book.now name.now c d)) }
-    ensures names { names.new ≡ sets names.old at
-        (names_of (one_parts book.now name.now c d)) }
+) -> Option<StoreNext>
+    requires { StepFits book.now name.now to.cursor d to.row to.place }
+    ensures next { result ≡ stored_one name.now to.cursor d to.row to.place }
+    ensures rows { members.new ≡ sets members.old (8 * to.row)
+        (rows_of to.place (one_parts book.now name.now to.cursor d)) }
+    ensures names { names.new ≡ sets names.old to.place
+        (names_of (one_parts book.now name.now to.cursor d)) }
 {
-    let start = wide(d.name.at);
-    let long = wide(d.name.long);
-    let end = start + long;
-    let p = place(c, d);
-    match p {
-        Placed::Hosted(h, m, next) => {
-            let host = put_host(members, row, names, at, name, c.members, h);
-            put_part(members, row + 1, names, at + host, &book[start..end], m);
-            StoreNext::Next(next, row + 2, at + host + long)
+    let start = d.name.at as usize;
+    let long = d.name.long as usize;
+    let part = &book[start..start + long];
+    match place(to.cursor, d) {
+        Ok(Placed::Hosted(h, m, cursor)) => {
+            let host = put_host(members, to.row, names, to.place, name, to.cursor.members, h);
+            put_part(members, to.row + 1, names, to.place + host, part, m);
+            Some(StoreNext {
+                cursor,
+                row: to.row + 2,
+                place: to.place + host + long,
+            })
         }
-        Placed::One(m, next) => {
-            put_part(members, row, names, at, &book[start..end], m);
-            StoreNext::Next(next, row + 1, at + long)
+        Ok(Placed::One(m, cursor)) => {
+            put_part(members, to.row, names, to.place, part, m);
+            Some(StoreNext {
+                cursor,
+                row: to.row + 1,
+                place: to.place + long,
+            })
         }
-        Placed::AccessWrong => StoreNext::Stop,
-        Placed::TooFar => StoreNext::Stop,
+        Err(_) => None,
     }
 }
 
@@ -143,23 +146,16 @@ pub fn store(
         (names_of (parts_from (named_in book.now) (host_name name.now) from
         (decls_from types.now book.now tys.now at 0 n))) }
 {
-    let mut c = from;
-    let mut next_row = row;
-    let mut next_place = place;
-    let mut j: usize = 0;
-    while j < n {
+    let mut next = StoreNext {
+        cursor: from,
+        row,
+        place,
+    };
+    for j in 0..n {
         let d = decl_at(types, book, tys, at, j);
-        let one = store_one(book, name, c, d, members, next_row, names, next_place);
-        match one {
-            StoreNext::Next(next, r, p) => {
-                c = next;
-                next_row = r;
-                next_place = p;
-            }
-            StoreNext::Stop => {
-                return;
-            }
-        }
-        j += 1;
+        let Some(after) = store_one(book, name, next, d, members, names) else {
+            return;
+        };
+        next = after;
     }
 }

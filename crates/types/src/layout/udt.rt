@@ -42,8 +42,7 @@ pub fn measure_udt(
     ensures { result ≡ measured (host_name name.now) udt_start 0
         (decls_from types.now book.now tys.now at 0 n) }
 {
-    let from = udt_start();
-    measure(types, book, tys, at, n, name, from, 0)
+    measure(types, book, tys, at, n, name, udt_start(), 0)
 }
 
 // The rows and the names of a UDT's n declared members.
@@ -67,8 +66,17 @@ pub fn store_udt(
         (names_of (udt_parts (named_in book.now) name.now
         (decls_from types.now book.now tys.now at 0 n))) }
 {
-    let from = udt_start();
     store(
-        types, book, tys, at, n, name, from, members, row, names, place,
+        types,
+        book,
+        tys,
+        at,
+        n,
+        name,
+        udt_start(),
+        members,
+        row,
+        names,
+        place,
     );
 }

@@ -14,16 +14,16 @@ ghost use Rattle.types.specs.tables.Lent.{type_at};
 ghost use Rattle.types.specs.tables.Limits.{most_types, most_names};
 ghost use Rattle.types.specs.templates.Template.{has_template};
 
-use crate::atomics::atomic::Atomic;
+use crate::atomics::atomic::{Atomic, AtomicRow};
 use crate::layout::decimals::decimal_of;
-use crate::refusals::given::{Wrote, give};
+use crate::refusals::given::give;
 use crate::refusals::refusal::Refusal;
 use crate::tables::lent::{MemberTable, NameTable, TypeTable, member_row, name_row, type_row};
-use crate::tables::member::{Bit, Member, Span, StructDef, Ty};
+use crate::tables::member::{Member, Span, StructDef, Ty};
 use crate::tables::there::is_there;
 use crate::templates::template::template_bytes;
 use crate::templates::waste::lost_bits;
-use words::{copy, wide, wide16, wide64};
+use words::copy;
 
 // No line is longer.
 const LINE: usize = 512;
@@ -43,9 +43,7 @@ fn put_decimal(out: &mut [u8], at: usize, x: u64) -> usize
     ensures { FieldPut (digits x) at out.old result out.new }
 {
     let d = decimal_of(x);
-    let bytes = d.bytes;
-    let from = d.from;
-    put_text(out, at, &bytes[from..])
+    put_text(out, at, &d.bytes[d.from..])
 }
 
 // The byte that ends a field: a space, or a newline after the last.
@@ -82,9 +80,8 @@ fn put_name(out: &mut [u8], at: usize, names: &[u8], name: Span, stop: u8) -> us
     ensures { FieldPut (with_stop (name_in names.now name) stop) at
         out.old result out.new }
 {
-    let from = wide(name.at);
-    let to = from + wide(name.long);
-    put_field(out, at, &names[from..to], stop)
+    let from = name.at as usize;
+    put_field(out, at, &names[from..from + name.long as usize], stop)
 }
 
 // A field that is an atomic's name.
@@ -92,10 +89,8 @@ fn put_atomic(out: &mut [u8], at: usize, a: Atomic) -> usize
     requires { FieldFits (with_stop (name_of a) 32) at out.old }
     ensures { FieldPut (with_stop (name_of a) 32) at out.old result out.new }
 {
-    let row = a.row();
-    let bytes = row.3;
-    let long = row.2 as usize;
-    put_field(out, at, &bytes[..long], b' ')
+    let AtomicRow(_, _, long, name) = a.row();
+    put_field(out, at, &name[..long as usize], b' ')
 }
 
 // A member's stored type.
@@ -106,13 +101,8 @@ fn put_type_name(types: &TypeTable, names: &[u8], ty: Ty, out: &mut [u8], at: us
         out.old result out.new }
 {
     match ty {
-        Ty::Atomic(a) => {
-            return put_atomic(out, at, a);
-        }
-        Ty::Struct(n) => {
-            let d = type_row(types, n);
-            return put_name(out, at, names, d.name, b' ');
-        }
+        Ty::Atomic(a) => put_atomic(out, at, a),
+        Ty::Struct(n) => put_name(out, at, names, type_row(types, n).name, b' '),
     }
 }
 
@@ -121,24 +111,17 @@ fn put_seen(out: &mut [u8], at: usize, hidden: bool) -> usize
     requires { FieldFits (with_stop (seen_letter hidden) 32) at out.old }
     ensures { FieldPut (with_stop (seen_letter hidden) 32) at out.old result out.new }
 {
-    if hidden {
-        return put_field(out, at, b"h", b' ');
-    }
-    put_field(out, at, b"v", b' ')
+    put_field(out, at, if hidden { b"h" } else { b"v" }, b' ')
 }
 
 // A member's bit.
-fn put_bit(out: &mut [u8], at: usize, bit: Bit) -> usize
+fn put_bit(out: &mut [u8], at: usize, bit: Option<u8>) -> usize
     requires { FieldFits (with_stop (bit_text bit) 32) at out.old }
     ensures { FieldPut (with_stop (bit_text bit) 32) at out.old result out.new }
 {
     match bit {
-        Bit::None => {
-            return put_field(out, at, b"-", b' ');
-        }
-        Bit::At(k) => {
-            return put_number(out, at, k as u64, b' ');
-        }
+        None => put_field(out, at, b"-", b' '),
+        Some(k) => put_number(out, at, u64::from(k), b' '),
     }
 }
 
@@ -148,14 +131,10 @@ fn put_numbers(d: StructDef, bytes: u32, bits: u64, out: &mut [u8], at: usize) -
     ensures { FieldPut (line (type_numbers d.id d.size d.count bytes bits)) at
         out.old result out.new }
 {
-    let id = wide64(wide16(d.id));
-    let size = wide64(d.size);
-    let count = wide64(d.count);
-    let long = wide64(bytes);
-    let k1 = put_number(out, at, id, b' ');
-    let k2 = put_number(out, k1, size, b' ');
-    let k3 = put_number(out, k2, count, b' ');
-    let k4 = put_number(out, k3, long, b' ');
+    let k1 = put_number(out, at, u64::from(d.id), b' ');
+    let k2 = put_number(out, k1, u64::from(d.size), b' ');
+    let k3 = put_number(out, k2, u64::from(d.count), b' ');
+    let k4 = put_number(out, k3, u64::from(bytes), b' ');
     put_number(out, k4, bits, b'\n')
 }
 
@@ -187,12 +166,9 @@ fn put_place(m: Member, names: &[u8], name: Span, out: &mut [u8], at: usize) -> 
     ensures { FieldPut (line (member_place m (name_in names.now name))) at
         out.old result out.new }
 {
-    let bit = m.bit;
-    let count = wide64(m.count);
-    let offset = wide64(m.offset);
-    let k1 = put_number(out, at, count, b' ');
-    let k2 = put_number(out, k1, offset, b' ');
-    let k3 = put_bit(out, k2, bit);
+    let k1 = put_number(out, at, u64::from(m.count), b' ');
+    let k2 = put_number(out, k1, u64::from(m.offset), b' ');
+    let k3 = put_bit(out, k2, m.bit);
     put_name(out, k3, names, name, b'\n')
 }
 
@@ -211,14 +187,12 @@ fn member_line(
         ((type_at types.now i).first + k) k) out.old result out.new }
 {
     let d = type_row(types, i);
-    let row = wide(d.first) + k;
+    let row = d.first as usize + k;
     let m = member_row(members, row);
     let name = name_row(members, row);
-    let ty = m.ty;
-    let number = k as u64;
-    let k1 = put_number(out, 0, number, b' ');
+    let k1 = put_number(out, 0, k as u64, b' ');
     let k2 = put_seen(out, k1, m.hidden);
-    let k3 = put_type_name(types, names, ty, out, k2);
+    let k3 = put_type_name(types, names, m.ty, out, k2);
     put_place(m, names, name, out, k3)
 }
 
@@ -227,11 +201,9 @@ fn refused_line(out: &mut [u8], number: u8, place: u32) -> usize
     requires { 512 ≤ length out.old }
     ensures { Lined (refused_line number place) out.old result out.new }
 {
-    let first = number as u64;
-    let second = wide64(place);
     let k1 = put_field(out, 0, b"refused", b' ');
-    let k2 = put_number(out, k1, first, b' ');
-    put_number(out, k2, second, b'\n')
+    let k2 = put_number(out, k1, u64::from(number), b' ');
+    put_number(out, k2, u64::from(place), b'\n')
 }
 
 // The line of the type with a number, from the buffer's start on: its length; or 15 or 16, and nothing is written.
@@ -241,29 +213,25 @@ pub fn put_type_line(
     names: &NameTable,
     i: usize,
     out: &mut [u8],
-) -> Wrote
+) -> Result<u32, Refusal>
     requires { Kept types.now members.now names.now }
     ensures { Given (has_template types.now (Ty.Struct i))
         (type_line_in types.now members.now names.now (type_at types.now i))
         out.old result out.new }
 {
-    if is_there(types, Ty::Struct(i)) {
-        let mut text = [0u8; LINE];
-        let n = type_line(types, members, names, i, &mut text);
-        return give(&text[..n], out);
+    if !is_there(types, Ty::Struct(i)) {
+        return Err(Refusal::NoSuchType);
     }
-    Wrote::Refused(Refusal::NoSuchType)
+    let mut text = [0u8; LINE];
+    let n = type_line(types, members, names, i, &mut text);
+    give(&text[..n], out)
 }
 
 // The k-th member of the type with a number is there.
 fn has_member(types: &TypeTable, i: usize, k: usize) -> bool
     ensures { result ≡ has_member types.now i k }
 {
-    if is_there(types, Ty::Struct(i)) {
-        let d = type_row(types, i);
-        return k < wide(d.count);
-    }
-    false
+    is_there(types, Ty::Struct(i)) && k < type_row(types, i).count as usize
 }
 
 // The line of the k-th member of the type with a number; or 15 or 16, and nothing is written.
@@ -274,22 +242,22 @@ pub fn put_member_line(
     i: usize,
     k: usize,
     out: &mut [u8],
-) -> Wrote
+) -> Result<u32, Refusal>
     requires { Kept types.now members.now names.now }
     ensures { Given (has_member types.now i k)
         (member_line_in types.now members.now names.now
         ((type_at types.now i).first + k) k) out.old result out.new }
 {
-    if has_member(types, i, k) {
-        let mut text = [0u8; LINE];
-        let n = member_line(types, members, names, i, k, &mut text);
-        return give(&text[..n], out);
+    if !has_member(types, i, k) {
+        return Err(Refusal::NoSuchType);
     }
-    Wrote::Refused(Refusal::NoSuchType)
+    let mut text = [0u8; LINE];
+    let n = member_line(types, members, names, i, k, &mut text);
+    give(&text[..n], out)
 }
 
 // The line of a refusal's number and place; or 16, and nothing is written.
-pub fn put_refused_line(number: u8, place: u32, out: &mut [u8]) -> Wrote
+pub fn put_refused_line(number: u8, place: u32, out: &mut [u8]) -> Result<u32, Refusal>
     ensures { Given true (refused_line number place) out.old result out.new }
 {
     let mut text = [0u8; LINE];

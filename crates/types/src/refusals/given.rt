@@ -5,21 +5,14 @@ ghost use Rattle.types.specs.refusals.Given.{Given};
 use crate::refusals::refusal::Refusal;
 use words::copy;
 
-// So many bytes, or why there are none.
-#[derive(Clone, Copy)]
-pub enum Wrote {
-    Length(u32),
-    Refused(Refusal),
-}
-
 // Some bytes, where the buffer has room for them; those past them are kept.
-pub fn give(s: &[u8], out: &mut [u8]) -> Wrote
+pub fn give(s: &[u8], out: &mut [u8]) -> Result<u32, Refusal>
     requires { length s.now < 2 ^ 32 }
     ensures { Given true s.now out.old result out.new }
 {
     if out.len() < s.len() {
-        return Wrote::Refused(Refusal::NoRoom);
+        return Err(Refusal::NoRoom);
     }
     copy(out, 0, s);
-    Wrote::Length(s.len() as u32)
+    Ok(s.len() as u32)
 }

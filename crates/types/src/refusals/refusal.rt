@@ -1,8 +1,12 @@
-// Refusals (document 01, "Refusal numbers"): a case for each number, with its place where it has one.
+// Refusals (document 01, "Refusal numbers"): a case for each number, with its place where it has one, and a few
+// words that say what it means (docs/REFUSALS.md has the whole).
 ghost use Rattle.std.specs.Prelude.{◌≡◌};
 ghost use Rattle.types.specs.refusals.Refusal.{number_of, place_of};
 
-#[derive(Clone, Copy)]
+use std::error::Error;
+use std::fmt;
+
+#[derive(Clone, Copy, Debug, PartialEq, Eq)]
 pub enum Refusal {
     BookMalformed,
     NameOutsideRule(u32),
@@ -68,30 +72,64 @@ impl Refusal {
         ensures { result ≡ place_of self }
     {
         match self {
-            Refusal::BookMalformed => 0,
-            Refusal::NameOutsideRule(p) => p,
-            Refusal::NameKnown(p) => p,
-            Refusal::IdOutsideRange(p) => p,
-            Refusal::IdInUse(p) => p,
-            Refusal::NoIdFree(p) => p,
-            Refusal::StringWrong(p) => p,
-            Refusal::MemberTwice(p) => p,
-            Refusal::LocalOutsideAoi(p) => p,
-            Refusal::TypesUnknown(p) => p,
-            Refusal::AccessWrong(p) => p,
-            Refusal::MemberTooFar(p) => p,
-            Refusal::TablesFull(p) => p,
-            Refusal::ImageLength => 0,
-            Refusal::NoSuchType => 0,
-            Refusal::NoRoom => 0,
-            Refusal::StreamMalformed => 0,
-            Refusal::EntryMisfit(p) => p,
-            Refusal::NumberOutOfRange(p) => p,
-            Refusal::PastLastPlace(p) => p,
-            Refusal::TextTooLong(p) => p,
-            Refusal::PredefinedIds => 0,
-            Refusal::LengthsWrong => 0,
-            Refusal::TagTooLarge => 0,
+            Refusal::NameOutsideRule(p)
+            | Refusal::NameKnown(p)
+            | Refusal::IdOutsideRange(p)
+            | Refusal::IdInUse(p)
+            | Refusal::NoIdFree(p)
+            | Refusal::StringWrong(p)
+            | Refusal::MemberTwice(p)
+            | Refusal::LocalOutsideAoi(p)
+            | Refusal::TypesUnknown(p)
+            | Refusal::AccessWrong(p)
+            | Refusal::MemberTooFar(p)
+            | Refusal::TablesFull(p)
+            | Refusal::EntryMisfit(p)
+            | Refusal::NumberOutOfRange(p)
+            | Refusal::PastLastPlace(p)
+            | Refusal::TextTooLong(p) => p,
+            Refusal::BookMalformed
+            | Refusal::ImageLength
+            | Refusal::NoSuchType
+            | Refusal::NoRoom
+            | Refusal::StreamMalformed
+            | Refusal::PredefinedIds
+            | Refusal::LengthsWrong
+            | Refusal::TagTooLarge => 0,
         }
     }
 }
+
+impl fmt::Display for Refusal {
+    // What went wrong, and the number of the type in the book or of the entry in the stream.
+    fn fmt<W: fmt::Write>(&self, f: &mut fmt::Formatter<W>) -> fmt::Result {
+        match self {
+            Refusal::BookMalformed => write!(f, "the book is malformed"),
+            Refusal::NameOutsideRule(p) => write!(f, "type {p}: a name breaks the rule of names"),
+            Refusal::NameKnown(p) => write!(f, "type {p}: its name is known already"),
+            Refusal::IdOutsideRange(p) => write!(f, "type {p}: its id is outside 0x100..0xEFF"),
+            Refusal::IdInUse(p) => write!(f, "type {p}: its id is in use"),
+            Refusal::NoIdFree(p) => write!(f, "type {p}: no id is free"),
+            Refusal::StringWrong(p) => write!(f, "type {p}: a string type that cannot be one"),
+            Refusal::MemberTwice(p) => write!(f, "type {p}: a member name comes twice"),
+            Refusal::LocalOutsideAoi(p) => write!(f, "type {p}: a local member outside an AOI"),
+            Refusal::TypesUnknown(p) => write!(f, "type {p}: unknown or circular member types"),
+            Refusal::AccessWrong(p) => write!(f, "type {p}: an access that is not 0, 2 or 3"),
+            Refusal::MemberTooFar(p) => write!(f, "type {p}: a member ends above 2^26 bytes"),
+            Refusal::TablesFull(p) => write!(f, "type {p}: the tables are full"),
+            Refusal::ImageLength => write!(f, "the image has another length than the value"),
+            Refusal::NoSuchType => write!(f, "no such type, or it lacks what was asked for"),
+            Refusal::NoRoom => write!(f, "the buffer is too short"),
+            Refusal::StreamMalformed => write!(f, "the value stream is malformed"),
+            Refusal::EntryMisfit(p) => write!(f, "entry {p}: misfit, missing or left over"),
+            Refusal::NumberOutOfRange(p) => write!(f, "entry {p}: a whole number is out of range"),
+            Refusal::PastLastPlace(p) => write!(f, "entry {p}: after an array's last place"),
+            Refusal::TextTooLong(p) => write!(f, "entry {p}: a text is longer than the capacity"),
+            Refusal::PredefinedIds => write!(f, "the predefined ids are wrong"),
+            Refusal::LengthsWrong => write!(f, "a tag's lengths are wrong"),
+            Refusal::TagTooLarge => write!(f, "the tag is too large"),
+        }
+    }
+}
+
+impl Error for Refusal {}

@@ -9,18 +9,11 @@ ghost use Rattle.types.specs.rounds.Turns.{rounds_from};
 use crate::book::contents::{book_ok, count_of};
 use crate::layout::predefined::{PredefinedIds, ids_ok, put_predefined};
 use crate::refusals::refusal::Refusal;
-use crate::rounds::round::{Round, one_round};
+use crate::rounds::round::one_round;
 use crate::tables::lent::{
     MEMBER_WORDS, MEMBERS, MemberTable, NAME_BYTES, NameTable, TYPE_WORDS, TYPES, TypeTable,
 };
-use words::load16;
-
-// So many types stand in the tables, or the book was refused.
-#[derive(Clone, Copy)]
-pub enum Built {
-    Types(u32),
-    Refused(Refusal),
-}
+use words::Word;
 
 // Tables of no types.
 fn clear(types: &mut TypeTable, members: &mut MemberTable, names: &mut NameTable)
@@ -36,12 +29,10 @@ fn first_waiting(done: &[u8], t: usize) -> usize
     requires { t ≤ length done.now }
     ensures { FirstWaits done.now t result }
 {
-    let mut i: usize = 0;
-    while i < t {
+    for i in 0..t {
         if done[i] == 0 {
             return i;
         }
-        i += 1;
     }
     0
 }
@@ -58,7 +49,7 @@ fn run(
     done: &mut [u8],
     stuck: &mut [u16],
     tried: &mut [u8],
-) -> Built
+) -> Result<u32, Refusal>
     requires { RunIn book.now t ids types.old members.old names.old
         tys.old done.old stuck.old tried.old }
     ensures { Ended (rounds_from book.now (predefined ids))
@@ -67,26 +58,24 @@ fn run(
     let mut u = put_predefined(types, members, names, ids);
     let mut left = t;
     while 0 < left {
-        let r = one_round(
+        match one_round(
             book, t, u, left, types, members, names, tys, done, stuck, tried,
-        );
-        match r {
-            Round::Refused(x) => {
-                clear(types, members, names);
-                return Built::Refused(x);
-            }
-            Round::Went(next, rest) => {
+        ) {
+            Ok((next, rest)) => {
                 if rest == left {
                     clear(types, members, names);
-                    let w = first_waiting(done, t);
-                    return Built::Refused(Refusal::TypesUnknown(w as u32));
+                    return Err(Refusal::TypesUnknown(first_waiting(done, t) as u32));
                 }
                 u = next;
                 left = rest;
             }
+            Err(x) => {
+                clear(types, members, names);
+                return Err(x);
+            }
         }
     }
-    Built::Types(u.types as u32)
+    Ok(u.types as u32)
 }
 
 // The registry of a book, with a scratch that is lent.
@@ -100,38 +89,39 @@ fn build_with(
     done: &mut [u8],
     stuck: &mut [u16],
     tried: &mut [u8],
-) -> Built
+) -> Result<u32, Refusal>
     requires { Scratch book.now tys.old done.old stuck.old tried.old }
     ensures { Ended (build_of ids book.now)
         types.new members.new names.new result }
 {
     clear(types, members, names);
     if !ids_ok(ids) {
-        return Built::Refused(Refusal::PredefinedIds);
+        return Err(Refusal::PredefinedIds);
     }
     if !book_ok(book) {
-        return Built::Refused(Refusal::BookMalformed);
+        return Err(Refusal::BookMalformed);
     }
-    let t = count_of(load16(book, 0));
+    let t = count_of(u16::load(book, 0));
     run(book, t, ids, types, members, names, tys, done, stuck, tried)
 }
 
-// The same with a small scratch for a small book, for pace: it zeroes 5 KB where any other zeroes 384.
-fn build_small(
+// The same with a scratch of its own, for a book of at most T types and M members.
+fn build_sized<const T: usize, const M: usize>(
     book: &[u8],
     ids: PredefinedIds,
     types: &mut TypeTable,
     members: &mut MemberTable,
     names: &mut NameTable,
-) -> Built
-    requires { AtMost book.now 256 2048 }
+) -> Result<u32, Refusal>
+    requires sized { (T ≤ 65536) × (M ≤ 65536) }
+    requires few { AtMost book.now T M }
     ensures { Ended (build_of ids book.now)
         types.new members.new names.new result }
 {
-    let mut tys = [0u16; 2048];
-    let mut done = [0u8; 256];
-    let mut stuck = [0u16; 256];
-    let mut tried = [0u8; 256];
+    let mut tys = [0u16; M];
+    let mut done = [0u8; T];
+    let mut stuck = [0u16; T];
+    let mut tried = [0u8; T];
     build_with(
         book, ids, types, members, names, &mut tys, &mut done, &mut stuck, &mut tried,
     )
@@ -144,34 +134,24 @@ fn is_small(book: &[u8]) -> bool
     if book.len() < 4 {
         return true;
     }
-    let t = count_of(load16(book, 0));
-    if 256 < t {
-        return false;
-    }
-    let m = count_of(load16(book, 2));
-    m <= 2048
+    count_of(u16::load(book, 0)) <= 256 && count_of(u16::load(book, 2)) <= 2048
 }
 
 // The registry of a book in the lent tables, after the predefined types under the given ids; with a scratch that is
-// enough for any book, or a small one.
+// enough for any book, or, for pace, a small one: that zeroes 5 KB where any other zeroes 384.
 pub fn build(
     book: &[u8],
     ids: PredefinedIds,
     types: &mut TypeTable,
     members: &mut MemberTable,
     names: &mut NameTable,
-) -> Built
+) -> Result<u32, Refusal>
     ensures { Ended (build_of ids book.now)
         types.new members.new names.new result }
 {
     if is_small(book) {
-        return build_small(book, ids, types, members, names);
+        build_sized::<256, 2048>(book, ids, types, members, names)
+    } else {
+        build_sized::<65536, 65536>(book, ids, types, members, names)
     }
-    let mut tys = [0u16; 65536];
-    let mut done = [0u8; 65536];
-    let mut stuck = [0u16; 65536];
-    let mut tried = [0u8; 65536];
-    build_with(
-        book, ids, types, members, names, &mut tys, &mut done, &mut stuck, &mut tried,
-    )
 }

@@ -5,10 +5,9 @@ ghost use Rattle.types.specs.atomics.Lookup.{row_names};
 ghost use Rattle.types.specs.inside.rounds.Resolve.{Resolves, Resolvable, StillIn, Still};
 ghost use Rattle.types.specs.rounds.Resolve.{type_names};
 
-use crate::atomics::lookup::{FoundTy, find_type, lookup};
+use crate::atomics::lookup::{find_type, lookup};
 use crate::book::contents::entry_at;
 use crate::tables::lent::{TypeTable, word_of};
-use words::wide;
 
 // Looks n members' types up among the first `known` types; answers how many were found before the first that
 // was not.
@@ -25,24 +24,16 @@ pub fn resolve(
     ensures { Resolves (row_names types.now names.now known)
         (type_names book.now at 0 n) tys.old tys.new result }
 {
-    let mut j: usize = 0;
-    while j < n {
-        let e = entry_at(book, at + 16 * j);
-        let span = e.ty;
-        let start = wide(span.at);
-        let end = start + wide(span.long);
-        let found = lookup(types, names, known, &book[start..end]);
-        match found {
-            FoundTy::Is(ty) => {
-                tys[j] = word_of(ty);
-            }
-            FoundTy::Nothing => {
-                return j;
-            }
-        }
-        j += 1;
+    for j in 0..n {
+        let span = entry_at(book, at + 16 * j).ty;
+        let start = span.at as usize;
+        let end = start + span.long as usize;
+        let Some(ty) = lookup(types, names, known, &book[start..end]) else {
+            return j;
+        };
+        tys[j] = word_of(ty);
     }
-    j
+    n
 }
 
 // The k-th member's type, which was not among the first `from` types, is not among the first n either. Where `from`
@@ -62,13 +53,8 @@ pub fn waits_still(
     if from == 0 {
         return false;
     }
-    let e = entry_at(book, at + 16 * k);
-    let span = e.ty;
-    let start = wide(span.at);
-    let end = start + wide(span.long);
-    let found = find_type(types, names, from, n, &book[start..end]);
-    match found {
-        FoundTy::Is(_) => false,
-        FoundTy::Nothing => true,
-    }
+    let span = entry_at(book, at + 16 * k).ty;
+    let start = span.at as usize;
+    let end = start + span.long as usize;
+    find_type(types, names, from, n, &book[start..end]).is_none()
 }

@@ -1,22 +1,14 @@
 // One round over the types of a book (document 01, "Order of building"): each type that waits takes its turn.
 ghost use Rattle.types.specs.inside.rounds.OneRound.{RoundIn, RoundMade};
 
-use crate::adding::progress::Progress;
 use crate::adding::used::Used;
 use crate::book::contents::{count_of, type_entry};
 use crate::refusals::refusal::Refusal;
 use crate::rounds::turn::take_turn;
 use crate::tables::lent::{MemberTable, NameTable, TypeTable};
 
-// A type was refused, or so much of the tables is used after the round, and so many types still wait.
-#[derive(Clone, Copy)]
-pub enum Round {
-    Refused(Refusal),
-    Went(Used, usize),
-}
-
 // The turns of the types that wait, in book order: of the t types of a good book so many, with so much of the tables
-// used.
+// used. Answers how much is used after the round, and how many types still wait.
 pub fn one_round(
     book: &[u8],
     t: usize,
@@ -29,7 +21,7 @@ pub fn one_round(
     done: &mut [u8],
     stuck: &mut [u16],
     tried: &mut [u8],
-) -> Round
+) -> Result<(Used, usize), Refusal>
     requires { RoundIn book.now t u left types.old members.old names.old
         tys.old done.old stuck.old tried.old }
     ensures { RoundMade book.now t u
@@ -39,27 +31,17 @@ pub fn one_round(
 {
     let mut used = u;
     let mut rest = left;
-    let mut i: usize = 0;
-    let mut at: usize = 4 + 16 * t;
-    while i < t {
-        let e = type_entry(book, i);
-        let n = count_of(e.count);
+    let mut at = 4 + 16 * t;
+    for i in 0..t {
         if done[i] == 0 {
-            let r = take_turn(book, i, at, types, members, names, used, tys, stuck, tried);
-            match r {
-                Progress::Waits => {}
-                Progress::Refused(x) => {
-                    return Round::Refused(x);
-                }
-                Progress::Added(next) => {
-                    used = next;
-                    done[i] = 1;
-                    rest -= 1;
-                }
+            let turn = take_turn(book, i, at, types, members, names, used, tys, stuck, tried)?;
+            if let Some(next) = turn {
+                used = next;
+                done[i] = 1;
+                rest -= 1;
             }
         }
-        at += 16 * n;
-        i += 1;
+        at += 16 * count_of(type_entry(book, i).count);
     }
-    Round::Went(used, rest)
+    Ok((used, rest))
 }

@@ -11,12 +11,11 @@ ghost use Rattle.types.specs.rounds.Resolve.{type_names, has_name};
 ghost use Rattle.types.specs.rounds.Turns.{count_of, decls_of};
 
 use crate::adding::add::{Waiting, add_entry};
-use crate::adding::progress::Progress;
 use crate::adding::used::Used;
 use crate::book::contents::{count_of, type_entry};
+use crate::refusals::refusal::Refusal;
 use crate::rounds::resolve::{resolve, waits_still};
 use crate::tables::lent::{MemberTable, NameTable, TypeTable};
-use words::{wide, wide8};
 
 // The turn of the i-th type of a book, whose members' entries begin at a place; so much of the tables is used. A type
 // that waited looks through the types that were added since, for the member whose type was not found.
@@ -31,7 +30,7 @@ pub fn take_turn(
     tys: &mut [u16],
     stuck: &mut [u16],
     tried: &mut [u8],
-) -> Progress
+) -> Result<Option<Used>, Refusal>
     requires { TurnIn types.old members.old names.old book.now tys.old stuck.old tried.old i at u }
     ensures { (Turned (all_known has_name (row_names types.old names.old u.types)
         (type_names book.now at 0 (count_of book.now i)))
@@ -45,10 +44,10 @@ pub fn take_turn(
 {
     let known = u.types;
     let k = count_of(stuck[i]);
-    let from = wide(wide8(tried[i]));
+    let from = tried[i] as usize;
     if waits_still(types, names, book, at, k, from, known) {
         tried[i] = known as u8;
-        return Progress::Waits;
+        return Ok(None);
     }
     let e = type_entry(book, i);
     let n = count_of(e.count);
@@ -56,15 +55,15 @@ pub fn take_turn(
     if found < n {
         stuck[i] = found as u16;
         tried[i] = known as u8;
-        return Progress::Waits;
+        return Ok(None);
     }
-    let start = wide(e.name.at);
-    let end = start + wide(e.name.long);
+    let start = e.name.at as usize;
+    let end = start + e.name.long as usize;
     let w = Waiting {
         number: i as u32,
         entry: e,
         at,
         used: u,
     };
-    add_entry(book, tys, w, &book[start..end], types, members, names)
+    add_entry(book, tys, w, &book[start..end], types, members, names).map(Some)
 }

@@ -8,12 +8,10 @@ use crate::tables::lent::{TYPE_WORDS, TYPES, TypeTable};
 pub fn type_count(types: &TypeTable) -> usize
     ensures { result ≡ type_count types.now }
 {
-    let mut i: usize = 0;
-    while i < TYPES {
+    for i in 0..TYPES {
         if types[TYPE_WORDS * i + 2] == 0 {
             return i;
         }
-        i += 1;
     }
-    i
+    TYPES
 }

@@ -11,8 +11,8 @@ ghost use Rattle.types.specs.tables.Limits.{most_types, most_members, most_names
 ghost use Rattle.types.specs.tables.Registry.{no_types, no_members, no_names};
 
 use crate::atomics::atomic::Atomic;
-use crate::tables::member::{Bit, Member, Span, StructDef, StructKind, Ty};
-use words::{copy, wide};
+use crate::tables::member::{Member, Span, StructDef, StructKind, Ty};
+use words::copy;
 
 // How many types, members and bytes of names the tables hold; a row is eight words.
 pub const TYPES: usize = 200;
@@ -59,7 +59,7 @@ fn ty_word(ty: Ty) -> u32
 {
     match ty {
         Ty::Atomic(a) => a.num() as u32,
-        Ty::Struct(n) => 0x8000 + (n as u32),
+        Ty::Struct(n) => 0x8000 + n as u32,
     }
 }
 
@@ -75,45 +75,38 @@ pub fn ty_of(w: u32) -> Ty
     ensures { result ≡ ty_of_word w }
 {
     if w < 0x8000 {
-        return Ty::Atomic(Atomic::at(wide(w)));
+        Ty::Atomic(Atomic::at(w as usize))
+    } else {
+        Ty::Struct((w - 0x8000) as usize)
     }
-    Ty::Struct(wide(w - 0x8000))
 }
 
 // 0, or one more than the bit.
-fn bit_word(bit: Bit) -> u32
+fn bit_word(bit: Option<u8>) -> u32
     ensures { result ≡ bit_word bit }
 {
     match bit {
-        Bit::None => 0,
-        Bit::At(k) => (k as u32) + 1,
+        None => 0,
+        Some(k) => u32::from(k) + 1,
     }
 }
 
 // Any word reads as no bit or as one of the eight.
-fn bit_of(w: u32) -> Bit
+fn bit_of(w: u32) -> Option<u8>
     ensures { result ≡ bit_of_word w }
 {
     if w == 0 {
-        return Bit::None;
+        None
+    } else {
+        Some(((w - 1) % 8) as u8)
     }
-    Bit::At(((w - 1) % 8) as u8)
 }
 
 // 1 for hidden, and 2 for local.
 fn flags_word(hidden: bool, local: bool) -> u32
     ensures { result ≡ flags_of hidden local }
 {
-    if hidden {
-        if local {
-            return 3;
-        }
-        return 1;
-    }
-    if local {
-        return 2;
-    }
-    0
+    u32::from(hidden) + 2 * u32::from(local)
 }
 
 fn kind_word(kind: StructKind) -> u32
@@ -139,36 +132,21 @@ fn kind_of(w: u32) -> StructKind
     }
 }
 
-fn low8(x: u32) -> u8
-    ensures { result ≡ x % 256 }
-{
-    (x % 256) as u8
-}
-
-pub fn low16(x: u32) -> u16
-    ensures { result ≡ x % 65536 }
-{
-    (x % 65536) as u16
-}
-
 // The member that a row holds.
 pub fn member_row(members: &MemberTable, row: usize) -> Member
     requires { row < most_members }
     ensures { result ≡ member_at members.now row }
 {
     let at = MEMBER_WORDS * row;
-    let ty = ty_of(members[at + 2]);
-    let bit = bit_of(members[at + 5]);
     let flags = members[at + 6];
-    let access = low8(members[at + 7]);
     Member {
-        ty,
+        ty: ty_of(members[at + 2]),
         count: members[at + 3],
         offset: members[at + 4],
-        bit,
+        bit: bit_of(members[at + 5]),
         hidden: flags % 2 == 1,
         local: flags / 2 % 2 == 1,
-        access,
+        access: (members[at + 7] % 256) as u8,
     }
 }
 
@@ -190,16 +168,16 @@ pub fn put_member(members: &mut MemberTable, row: usize, name: Span, m: Member)
     ensures { members.new ≡ sets members.old (8 * row) (member_row name m) }
 {
     let at = MEMBER_WORDS * row;
-    let ty = m.ty;
-    let bit = m.bit;
-    members[at] = name.at;
-    members[at + 1] = name.long;
-    members[at + 2] = ty_word(ty);
-    members[at + 3] = m.count;
-    members[at + 4] = m.offset;
-    members[at + 5] = bit_word(bit);
-    members[at + 6] = flags_word(m.hidden, m.local);
-    members[at + 7] = m.access as u32;
+    members[at..at + MEMBER_WORDS].copy_from_slice(&[
+        name.at,
+        name.long,
+        ty_word(m.ty),
+        m.count,
+        m.offset,
+        bit_word(m.bit),
+        flags_word(m.hidden, m.local),
+        u32::from(m.access),
+    ]);
 }
 
 // The structure that a row holds.
@@ -208,19 +186,15 @@ pub fn type_row(types: &TypeTable, i: usize) -> StructDef
     ensures { result ≡ type_at types.now i }
 {
     let at = TYPE_WORDS * i;
-    let id = low16(types[at + 2]);
-    let handle = low16(types[at + 3]);
-    let kind = kind_of(types[at + 5]);
-    let name = Span {
-        at: types[at],
-        long: types[at + 1],
-    };
     StructDef {
-        name,
-        id,
-        handle,
+        name: Span {
+            at: types[at],
+            long: types[at + 1],
+        },
+        id: (types[at + 2] % 65536) as u16,
+        handle: (types[at + 3] % 65536) as u16,
         size: types[at + 4],
-        kind,
+        kind: kind_of(types[at + 5]),
         first: types[at + 6],
         count: types[at + 7],
     }
@@ -232,16 +206,16 @@ pub fn put_type(types: &mut TypeTable, i: usize, d: StructDef)
     ensures { types.new ≡ sets types.old (8 * i) (type_row d) }
 {
     let at = TYPE_WORDS * i;
-    let name = d.name;
-    let kind = d.kind;
-    types[at] = name.at;
-    types[at + 1] = name.long;
-    types[at + 2] = d.id as u32;
-    types[at + 3] = d.handle as u32;
-    types[at + 4] = d.size;
-    types[at + 5] = kind_word(kind);
-    types[at + 6] = d.first;
-    types[at + 7] = d.count;
+    types[at..at + TYPE_WORDS].copy_from_slice(&[
+        d.name.at,
+        d.name.long,
+        u32::from(d.id),
+        u32::from(d.handle),
+        d.size,
+        kind_word(d.kind),
+        d.first,
+        d.count,
+    ]);
 }
 
 // Bytes among the names, from a place on; the other bytes stay.

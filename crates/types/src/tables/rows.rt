@@ -4,16 +4,15 @@ ghost use Rattle.types.specs.tables.Lent.{member_at, member_said, member_says, n
 
 use crate::atomics::atomic::Atomic;
 use crate::tables::lent::{MEMBERS, MemberTable, TYPES, TypeTable, member_row, name_row, type_row};
-use crate::tables::member::{Bit, Member, Span, StructDef, StructKind, Ty};
+use crate::tables::member::{Member, Span, StructDef, StructKind, Ty};
 
 // What stands past the last row. The table is lent for its length alone, which the promise speaks of.
 fn type_past(types: &[u32], i: usize) -> StructDef
     requires { length types.now ≤ 8 * i }
     ensures { result ≡ type_at types.now i }
 {
-    let name = Span { at: 0, long: 0 };
     StructDef {
-        name,
+        name: Span { at: 0, long: 0 },
         id: 0,
         handle: 0,
         size: 0,
@@ -31,7 +30,7 @@ fn member_past(members: &[u32], row: usize) -> Member
         ty: Ty::Atomic(Atomic::Bool),
         count: 0,
         offset: 0,
-        bit: Bit::None,
+        bit: None,
         hidden: false,
         local: false,
         access: 0,
@@ -50,9 +49,10 @@ pub fn type_at(types: &TypeTable, i: usize) -> StructDef
     ensures { type_row result ≡ type_said types.now i }
 {
     if i < TYPES {
-        return type_row(types, i);
+        type_row(types, i)
+    } else {
+        type_past(types, i)
     }
-    type_past(types, i)
 }
 
 // The member that a row holds.
@@ -60,9 +60,10 @@ pub fn member_at(members: &MemberTable, row: usize) -> Member
     ensures { member_says result ≡ member_said members.now row }
 {
     if row < MEMBERS {
-        return member_row(members, row);
+        member_row(members, row)
+    } else {
+        member_past(members, row)
     }
-    member_past(members, row)
 }
 
 // Where the name of the member in a row stands.
@@ -70,7 +71,8 @@ pub fn name_at(members: &MemberTable, row: usize) -> Span
     ensures { result ≡ name_at members.now row }
 {
     if row < MEMBERS {
-        return name_row(members, row);
+        name_row(members, row)
+    } else {
+        name_past(members, row)
     }
-    name_past(members, row)
 }

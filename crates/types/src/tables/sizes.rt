@@ -5,7 +5,6 @@ ghost use Rattle.types.specs.tables.Sizes.{size_in, sizes_in};
 
 use crate::tables::lent::{TypeTable, type_row};
 use crate::tables::member::Ty;
-use words::wide64;
 
 // The bytes of a type.
 pub fn size_in(types: &TypeTable, ty: Ty) -> u64
@@ -13,10 +12,7 @@ pub fn size_in(types: &TypeTable, ty: Ty) -> u64
     ensures { result ≡ size_in (sizes_in types.now) ty }
 {
     match ty {
-        Ty::Atomic(a) => a.size() as u64,
-        Ty::Struct(n) => {
-            let d = type_row(types, n);
-            wide64(d.size)
-        }
+        Ty::Atomic(a) => u64::from(a.size()),
+        Ty::Struct(n) => u64::from(type_row(types, n).size),
     }
 }

@@ -11,16 +11,7 @@ pub fn is_there(types: &TypeTable, ty: Ty) -> bool
     ensures { result ≡ is_there types.now ty }
 {
     match ty {
-        Ty::Atomic(_) => {
-            return true;
-        }
-        Ty::Struct(n) => {
-            if TYPES <= n {
-                return false;
-            }
-            let d = type_row(types, n);
-            let id = d.id;
-            return id != 0;
-        }
+        Ty::Atomic(_) => true,
+        Ty::Struct(n) => n < TYPES && type_row(types, n).id != 0,
     }
 }

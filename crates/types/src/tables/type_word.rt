@@ -13,10 +13,7 @@ pub fn type_in(types: &TypeTable, ty: Ty) -> u32
     ensures { result ≡ type_in (ids_in types.now) ty }
 {
     match ty {
-        Ty::Atomic(a) => a.code() as u32,
-        Ty::Struct(n) => {
-            let d = type_row(types, n);
-            0x8000 + (d.id as u32)
-        }
+        Ty::Atomic(a) => u32::from(a.code()),
+        Ty::Struct(n) => 0x8000 + u32::from(type_row(types, n).id),
     }
 }

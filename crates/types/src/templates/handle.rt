@@ -3,8 +3,6 @@
 ghost use Rattle.std.specs.Prelude.{◌≡◌};
 ghost use Rattle.types.specs.templates.Handle.{fold_byte, fold_from, not_zero, handle_of};
 
-use words::{wide8, wide16};
-
 // The value before the first byte.
 pub const START: u16 = 0x1D0F;
 
@@ -12,32 +10,21 @@ pub const START: u16 = 0x1D0F;
 fn fold_byte(h: u16, b: u8) -> u16
     ensures { result ≡ fold_byte h b }
 {
-    let x = wide16(h);
-    let rotated = x * 32 % 65536 + x / 2048;
-    ((rotated ^ wide8(b)) * 0x9E37 % 65536) as u16
+    (h.rotate_left(5) ^ u16::from(b)).wrapping_mul(0x9E37)
 }
 
 // The fold goes on from h over some more bytes.
 pub fn fold_handle(h: u16, s: &[u8]) -> u16
     ensures { result ≡ fold_from h s.now }
 {
-    let mut fold = h;
-    let mut i: usize = 0;
-    while i < s.len() {
-        fold = fold_byte(fold, s[i]);
-        i += 1;
-    }
-    fold
+    s.iter().fold(h, |fold, &b| fold_byte(fold, b))
 }
 
 // The handle that a finished fold stands for: 0 becomes 1.
 pub fn finish_handle(h: u16) -> u16
     ensures { result ≡ not_zero h }
 {
-    if h == 0 {
-        return 1;
-    }
-    h
+    if h == 0 { 1 } else { h }
 }
 
 // The handle of a whole template.

@@ -11,19 +11,19 @@ ghost use Rattle.types.specs.tables.Limits.{most_members};
 ghost use Rattle.types.specs.tables.TypeWord.{ids_in};
 ghost use Rattle.types.specs.templates.Template.{info_of, info_bytes, user_id, semicolon_n, padding, member_ids};
 
-use crate::tables::lent::{MemberTable, TypeTable, low16, member_row, name_row};
-use crate::tables::member::{Bit, Span, StructDef, StructKind};
+use crate::tables::lent::{MemberTable, TypeTable, member_row, name_row};
+use crate::tables::member::{Span, StructDef, StructKind};
 use crate::tables::type_word::type_in;
 use crate::templates::sink::{Sink, emit};
-use words::wide;
+use words::Word;
 
 // Bit number, else the low 16 bits of the count.
-fn info_of(bit: Bit, count: u32) -> u16
+fn info_of(bit: Option<u8>, count: u32) -> u16
     ensures { result ≡ info_of bit count }
 {
     match bit {
-        Bit::None => low16(count),
-        Bit::At(k) => k as u16,
+        None => (count % 0x1_0000) as u16,
+        Some(k) => u16::from(k),
     }
 }
 
@@ -33,12 +33,11 @@ fn info(types: &TypeTable, members: &MemberTable, row: usize) -> [u8; 8]
     ensures { result ≡ info_bytes (ids_in types.now) (member_at members.now row) }
 {
     let m = member_row(members, row);
-    let bit = m.bit;
-    let ty = m.ty;
+    let word = type_in(types, m.ty);
     let mut bytes = [0u8; 8];
-    words::store16(&mut bytes, 0, info_of(bit, m.count));
-    words::store16(&mut bytes, 2, low16(type_in(types, ty)));
-    words::store32(&mut bytes, 4, m.offset);
+    info_of(m.bit, m.count).store(&mut bytes, 0);
+    ((word % 0x1_0000) as u16).store(&mut bytes, 2);
+    m.offset.store(&mut bytes, 4);
     bytes
 }
 
@@ -54,14 +53,10 @@ pub fn emit_infos(
     ensures { Emitted (infos_in types.now members.now d)
         sink out.old result out.new }
 {
-    let first = wide(d.first);
-    let n = wide(d.count);
+    let first = d.first as usize;
     let mut k = sink;
-    let mut i: usize = 0;
-    while i < n {
-        let bytes = info(types, members, first + i);
-        k = emit(&bytes, k, out);
-        i += 1;
+    for row in first..first + d.count as usize {
+        k = emit(&info(types, members, row), k, out);
     }
     k
 }
@@ -71,9 +66,8 @@ fn emit_name(names: &[u8], name: Span, sink: Sink, out: &mut [u8]) -> Sink
     requires { (name.at + name.long ≤ length names.now) × SinkRoom (name_in names.now name) sink out.old }
     ensures { Emitted (name_in names.now name) sink out.old result out.new }
 {
-    let from = wide(name.at);
-    let to = from + wide(name.long);
-    emit(&names[from..to], sink, out)
+    let from = name.at as usize;
+    emit(&names[from..from + name.long as usize], sink, out)
 }
 
 // A name of the table with `;n`.
@@ -91,10 +85,7 @@ fn emit_name_n(names: &[u8], name: Span, sink: Sink, out: &mut [u8]) -> Sink
 pub fn user_id(id: u16) -> bool
     ensures { result ≡ user_id id }
 {
-    if id < 0x100 {
-        return false;
-    }
-    id <= 0xEFF
+    0x100 <= id && id <= 0xEFF
 }
 
 // The type's name as a template has it.
@@ -104,28 +95,16 @@ pub fn emit_shown(names: &[u8], d: StructDef, sink: Sink, out: &mut [u8]) -> Sin
         × SinkRoom (shown_in names.now d) sink out.old }
     ensures { Emitted (shown_in names.now d) sink out.old result out.new }
 {
-    let kind = d.kind;
-    let name = d.name;
-    match kind {
-        StructKind::Udt => {
-            return emit_name_n(names, name, sink, out);
-        }
-        StructKind::Predefined => {
-            return emit_name(names, name, sink, out);
-        }
-        StructKind::Str => {
-            if user_id(d.id) {
-                return emit_name_n(names, name, sink, out);
-            }
-            return emit(b"ASCIISTRING82", sink, out);
-        }
-        StructKind::Aoi => {
-            return emit_name_n(names, name, sink, out);
-        }
+    match d.kind {
+        StructKind::Udt => emit_name_n(names, d.name, sink, out),
+        StructKind::Predefined => emit_name(names, d.name, sink, out),
+        StructKind::Str if user_id(d.id) => emit_name_n(names, d.name, sink, out),
+        StructKind::Str => emit(b"ASCIISTRING82", sink, out),
+        StructKind::Aoi => emit_name_n(names, d.name, sink, out),
     }
 }
 
-// Each member's name and 0. The loop begins as that of `emit_infos`.
+// Each member's name and 0.
 pub fn emit_names(
     members: &MemberTable,
     names: &[u8],
@@ -137,15 +116,11 @@ pub fn emit_names(
     ensures { Emitted (names_in members.now names.now d)
         sink out.old result out.new }
 {
-    let first = wide(d.first);
-    let n = wide(d.count);
+    let first = d.first as usize;
     let mut k = sink;
-    let mut i: usize = 0;
-    while i < n {
-        let name = name_row(members, first + i);
-        k = emit_name(names, name, k, out);
+    for row in first..first + d.count as usize {
+        k = emit_name(names, name_row(members, row), k, out);
         k = emit(b"\0", k, out);
-        i += 1;
     }
     k
 }
@@ -155,10 +130,8 @@ pub fn emit_padding(sink: Sink, out: &mut [u8]) -> Sink
     requires { SinkRoom (padding sink.at) sink out.old }
     ensures { Emitted (padding sink.at) sink out.old result out.new }
 {
-    let at = sink.at;
-    let zeros = [0u8; 3];
-    let n = (at + 3) / 4 * 4 - at;
-    emit(&zeros[..n], sink, out)
+    let n = sink.at.next_multiple_of(4) - sink.at;
+    emit(&[0u8; 3][..n], sink, out)
 }
 
 // The ids of n members.
@@ -167,12 +140,8 @@ pub fn emit_ids(n: u32, sink: Sink, out: &mut [u8]) -> Sink
     ensures { Emitted (member_ids 0 n) sink out.old result out.new }
 {
     let mut k = sink;
-    let mut i: u32 = 0;
-    while i < n {
-        let mut bytes = [0u8; 2];
-        words::store16(&mut bytes, 0, low16(0xE000 + i));
-        k = emit(&bytes, k, out);
-        i += 1;
+    for i in 0..n {
+        k = emit(&((0xE000 + i) as u16).to_le_bytes(), k, out);
     }
     k
 }

@@ -7,7 +7,7 @@ use crate::templates::handle::fold_handle;
 use words::copy;
 
 // How many bytes came, the fold over them, and whether they are stored.
-#[derive(Clone, Copy)]
+#[derive(Clone, Copy, Debug, PartialEq, Eq)]
 pub struct Sink {
     pub at: usize,
     pub fold: u16,
@@ -19,20 +19,12 @@ pub fn emit(s: &[u8], sink: Sink, out: &mut [u8]) -> Sink
     requires { SinkRoom s.now sink out.old }
     ensures { Emitted s.now sink out.old result out.new }
 {
-    let at = sink.at;
-    let writes = sink.writes;
-    let fold = fold_handle(sink.fold, s);
-    if writes {
-        copy(out, at, s);
-        return Sink {
-            at: at + s.len(),
-            fold,
-            writes: true,
-        };
+    if sink.writes {
+        copy(out, sink.at, s);
     }
     Sink {
-        at: at + s.len(),
-        fold,
-        writes: false,
+        at: sink.at + s.len(),
+        fold: fold_handle(sink.fold, s),
+        ..sink
     }
 }

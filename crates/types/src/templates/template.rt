@@ -1,17 +1,18 @@
 // Templates (document 01, "Template and handle"): a structure's template is walked once, piece by piece,
 // for its length, for its handle, and to write it.
-ghost use Rattle.std.specs.Prelude.{◌≡◌, ◌≤◌, ◌<◌, length};
+ghost use Rattle.std.specs.Prelude.{◌≡◌, ◌≤◌, ◌<◌, true, false, length, MatchResult};
 ghost use Rattle.std.proofs.lemmas.List.Edits.{sets};
+ghost use Rattle.types.specs.refusals.Said.{said_by};
 ghost use Rattle.types.specs.inside.tables.Defs.{Readable};
 ghost use Rattle.types.specs.inside.templates.Pieces.{Emittable, EmittedAll, front_in};
 ghost use Rattle.types.specs.inside.templates.Sink.{Emitted};
-ghost use Rattle.types.specs.refusals.Given.{Given, said_by};
+ghost use Rattle.types.specs.refusals.Given.{Given};
 ghost use Rattle.types.specs.tables.Kept.{Kept};
+ghost use Rattle.types.specs.tables.Lent.{type_at};
 ghost use Rattle.types.specs.templates.Handle.{handle_of};
 ghost use Rattle.types.specs.templates.Template.{has_template, object_size, template_for, template_in};
 ghost use Rattle.types.specs.templates.Template.{template_length};
 
-use crate::refusals::given::Wrote;
 use crate::refusals::refusal::Refusal;
 use crate::tables::lent::{MemberTable, NameTable, TypeTable, type_row};
 use crate::tables::member::{StructDef, Ty};
@@ -21,7 +22,6 @@ use crate::templates::pieces::{
     emit_ids, emit_infos, emit_names, emit_padding, emit_shown, user_id,
 };
 use crate::templates::sink::{Sink, emit};
-use words::wide;
 
 // What every template has.
 fn emit_front(
@@ -60,9 +60,10 @@ fn walk(
     let k1 = emit_front(types, members, names, d, sink, out);
     if user_id(d.id) {
         let k2 = emit_padding(k1, out);
-        return emit_ids(d.count, k2, out);
+        emit_ids(d.count, k2, out)
+    } else {
+        k1
     }
-    k1
 }
 
 // The walk that stores nothing.
@@ -89,8 +90,7 @@ pub fn template_bytes(
     requires { Readable members.now d }
     ensures { result ≡ length (template_in types.now members.now names.now d) }
 {
-    let sink = measure(types, members, names, d);
-    sink.at as u32
+    measure(types, members, names, d).at as u32
 }
 
 // The handle of a structure's template.
@@ -103,8 +103,7 @@ pub fn template_handle(
     requires { Readable members.now d }
     ensures { result ≡ handle_of (template_in types.now members.now names.now d) }
 {
-    let sink = measure(types, members, names, d);
-    finish_handle(sink.fold)
+    finish_handle(measure(types, members, names, d).fold)
 }
 
 // Stores a structure's template; the bytes past it are kept.
@@ -128,24 +127,37 @@ pub fn write_template(
     walk(types, members, names, d, start, out);
 }
 
+// The structure with a number; or 15.
+pub fn struct_there(types: &TypeTable, n: usize) -> Result<StructDef, Refusal>
+    ensures { MatchResult result
+        (λ d. (has_template types.now (Ty.Struct n) ≡ true) × (d ≡ type_at types.now n))
+        (λ e. (has_template types.now (Ty.Struct n) ≡ false) × (e ≡ Refusal.NoSuchType)) }
+{
+    if !is_there(types, Ty::Struct(n)) {
+        return Err(Refusal::NoSuchType);
+    }
+    Ok(type_row(types, n))
+}
+
 // The length of the template of the structure with a number; or 15.
-pub fn template_len(types: &TypeTable, members: &MemberTable, names: &NameTable, n: usize) -> Wrote
+pub fn template_len(
+    types: &TypeTable,
+    members: &MemberTable,
+    names: &NameTable,
+    n: usize,
+) -> Result<u32, Refusal>
     requires { Kept types.now members.now names.now }
     ensures { said_by result ≡ template_length types.now members.now names.now n }
 {
-    if is_there(types, Ty::Struct(n)) {
-        let d = type_row(types, n);
-        let long = template_bytes(types, members, names, d);
-        return Wrote::Length(long);
-    }
-    Wrote::Refused(Refusal::NoSuchType)
+    let d = struct_there(types, n)?;
+    Ok(template_bytes(types, members, names, d))
 }
 
 // The object definition size of a template of n bytes.
 pub fn object_definition_size(n: u32) -> u32
     ensures { result ≡ object_size n }
 {
-    ((wide(n) + 23 + 3) / 4) as u32
+    (u64::from(n) + 23).div_ceil(4) as u32
 }
 
 // The template of a type, stored from the buffer's start on: its length; or a refusal, and nothing stored.
@@ -155,27 +167,20 @@ pub fn template(
     names: &NameTable,
     ty: Ty,
     out: &mut [u8],
-) -> Wrote
+) -> Result<u32, Refusal>
     requires { Kept types.now members.now names.now }
     ensures { Given (has_template types.now ty)
         (template_for types.now members.now names.now ty)
         out.old result out.new }
 {
-    match ty {
-        Ty::Atomic(_) => {
-            return Wrote::Refused(Refusal::NoSuchType);
-        }
-        Ty::Struct(n) => {
-            if is_there(types, Ty::Struct(n)) {
-                let d = type_row(types, n);
-                let long = template_bytes(types, members, names, d);
-                if out.len() < long as usize {
-                    return Wrote::Refused(Refusal::NoRoom);
-                }
-                write_template(types, members, names, d, out);
-                return Wrote::Length(long);
-            }
-            return Wrote::Refused(Refusal::NoSuchType);
-        }
+    let Ty::Struct(n) = ty else {
+        return Err(Refusal::NoSuchType);
+    };
+    let d = struct_there(types, n)?;
+    let long = template_bytes(types, members, names, d);
+    if out.len() < long as usize {
+        return Err(Refusal::NoRoom);
     }
+    write_template(types, members, names, d, out);
+    Ok(long)
 }

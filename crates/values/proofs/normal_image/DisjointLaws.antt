@@ -1,5 +1,6 @@
 -- What tables whose members share no bit promise (document 01, "Layout", "Normal image"): the tree of every value of
 -- them has branches that share no bit.
+use Rattle.std.specs.Prelude.{Option, Some, None}
 use Prim.Native.Nat.{ℕ, ◌*◌, ◌<◌}
 use native.Mathlib.Omega.{arith}
 use mathlib.Core.Bool.{Bool, true, false, cond}
@@ -11,8 +12,6 @@ use Rattle.types.specs.layout.Laid.{Earlier}
 use Rattle.types.specs.tables.Limits.{most_types}
 use Rattle.types.specs.declared.atomics.atomic.Atomic.{Atomic}
 use Rattle.types.specs.declared.atomics.atomic.Atomic.TheVariants as atomic
-use Rattle.types.specs.declared.tables.member.Bit.{Bit}
-use Rattle.types.specs.declared.tables.member.Bit.TheVariants.{None, At}
 use Rattle.types.specs.declared.tables.member.Ty.{Ty}
 use Rattle.types.specs.declared.tables.member.Ty.TheVariants as ty
 use Rattle.values.specs.inside.normal_image.Placed.{Disjoint, GoodLeaf, TreePlaced}
@@ -64,9 +63,9 @@ module _ (trees : ℕ → Tree) (i : ℕ) (placed : (s : ℕ) → s < i → Tree
   value_placed (ty.Struct s) n l = structs_placed s n l
 
   -- the tree of a member whose type is earlier has branches that share no bit
-  pub member_placed : (b : Bit) (t : Ty) (n : ℕ) → Earlier i t → TreePlaced (bit_tree b (value_tree trees t n))
+  pub member_placed : (b : Option ℕ) (t : Ty) (n : ℕ) → Earlier i t → TreePlaced (bit_tree b (value_tree trees t n))
   member_placed None t n l = value_placed t n l
-  member_placed (At k) t n l = unfold TreePlaced in tt
+  member_placed (Some k) t n l = unfold TreePlaced in tt
 
 -- a value's tree has branches that share no bit
 pub disjoint_value : {types members : List ℕ} → Disjoint types members → (t : Ty) (n : ℕ) → TyFits t

@@ -1,5 +1,6 @@
 -- The rows of BOOLs kept aside and put back (document 01, "Normal image"): what one row comes to, and what is done and
 -- left after some of them. Which rows hold a plain member.
+use Rattle.std.specs.Prelude.{Option, Some, None}
 use Prim.Native.Nat.{ℕ, suc, ◌+◌, ◌-◌, ◌*◌, ◌/◌, ◌%◌, ◌<◌, ◌≤◌}
 use native.Mathlib.Decide.{dec_lt}
 use native.Mathlib.Nat.{add-zero}
@@ -12,8 +13,6 @@ use Rattle.words.specs.Bits.{Bits, flat, from, stamp}
 use Rattle.words.proofs.StampLaws.{one_bit, cond_beside, cond_own}
 use Rattle.types.specs.layout.Laid.{first_bit}
 use Rattle.types.specs.tables.Lent.{member_at}
-use Rattle.types.specs.declared.tables.member.Bit.{Bit}
-use Rattle.types.specs.declared.tables.member.Bit.TheVariants.{None, At}
 use Rattle.types.specs.declared.tables.member.Member.{Member}
 use Rattle.values.specs.inside.normal_image.InPlace.{RowsHere, flag_bit, flagged, is_flag, is_plain}
 use Rattle.values.specs.inside.writing.Rows.{MemberHere}
@@ -28,7 +27,7 @@ unfolding is_plain
 plain_hidden e h = rw (← e, h)
 
 -- a visible BOOL of a host is not plain
-pub plain_bit : {m n : Member} {k : ℕ} → m ≡ n → m.hidden ≡ false → m.bit ≡ At k → false ≡ is_plain n
+pub plain_bit : {m n : Member} {k : ℕ} → m ≡ n → m.hidden ≡ false → m.bit ≡ Some k → false ≡ is_plain n
 unfolding is_plain
 plain_bit e h b = rw (← e, h, b)
 
@@ -44,7 +43,7 @@ pub unflagged : {m n : Member} (x : Bits) {y : Bits} → m ≡ n → flag_bit m 
 unfolding is_flag
 unflagged x {y} e f = rw (← e, f) refl
 
-own_bit : (hidden : Bool) (x : Bit) {b : ℕ} → cond hidden None x ≡ At b → x ≡ At b
+own_bit : (hidden : Bool) (x : Option ℕ) {b : ℕ} → cond hidden None x ≡ Some b → x ≡ Some b
 own_bit true x e = cc
 own_bit false x e = e
 
@@ -53,11 +52,11 @@ pub record FlagHere (members : List ℕ) (row base : ℕ) (image : List ℕ) (m 
   pub is : m ≡ member_at members row
   pub here : RowsHere members row 1 base image
   pub place : start ≡ m.offset
-  pub flag : flag_bit m ≡ At b
+  pub flag : flag_bit m ≡ Some b
 
 module _ {members : List ℕ} {row base : ℕ} {image : List ℕ} {m : Member} {start b : ℕ}
     (w : FlagHere members row base image m start b) where
-  bit_is : m.bit ≡ At b
+  bit_is : m.bit ≡ Some b
   bit_is = own_bit m.hidden m.bit w.flag
 
   member_here : MemberHere w.here.sizes (member_at members row) base image
@@ -115,12 +114,6 @@ pub record Keeping (members : List ℕ) (first base : ℕ) (image kept : List �
   pub each : (i : ℕ) → i < k → is_flag (member_at members (first + i)) ≡ true
       → flat new i ≡ flat image (8 * base + first_bit (member_at members (first + i)))
 
--- before the first row there is nothing to be kept
-pub keeping_none : {members : List ℕ} {first base : ℕ} {image kept : List ℕ} {k : ℕ} → k ≡ 0
-    → Keeping members first base image kept k kept
-keeping_none {members} {first} {base} {image} {kept} {k} e =
-    record { long = refl; each = λ i l. absurd (let z : ⊥ = omega arith in z) }
-
 -- one row more, its BOOL kept where it has one
 pub keeping_more : {members : List ℕ} {first base : ℕ} {image kept : List ℕ} {k : ℕ} {new : List ℕ} {newer : List ℕ}
     → Keeping members first base image kept k new → length newer ≡ length new
@@ -149,14 +142,6 @@ pub record PuttingFlags (members : List ℕ) (first n : ℕ) (b : Bits) (p : ℕ
   pub long : length new ≡ length image
   pub left : flagged b p k (members_at members (first + k) (n - k)) (flat new)
       ≡ flagged b p 0 (members_at members first n) (flat image)
-
--- before the first row the whole is still to be put back
-pub putting_none : {members : List ℕ} {first n : ℕ} {b : Bits} {p : ℕ} {image : List ℕ} {k : ℕ} → k ≡ 0
-    → PuttingFlags members first n b p image k image
-putting_none {members} {first} {n} {b} {p} {image} {k} e =
-    let f : first + k ≡ first = omega arith in
-    let g : n - k ≡ n = omega arith in
-    record { long = refl; left = rw (f, g, e) refl }
 
 flagged_first : (b : Bits) (p k : ℕ) (members : List ℕ) (row n : ℕ) (x : Bits)
     → flagged b p k (members_at members row (suc n)) x

@@ -1,6 +1,7 @@
 -- The first half of demand 3 (document 01, "Normal image", "What promises shut out") over the answers of calls, for
 -- tables as our own calls left them: of two images of a value, the streams that `read` left in two buffers are the same
 -- exactly when the images that `normal` left are.
+use Rattle.std.specs.Prelude.{Result, Ok}
 use Prim.Native.Nat.{ℕ, ◌*◌}
 use native.Mathlib.Omega.{arith}
 use mathlib.Core.Path.{◌≡◌, refl, sym, ◌∙◌}
@@ -8,14 +9,13 @@ use mathlib.Core.List.{List}
 use borrow.Author.Tests.{eq-eqb}
 use lib.ListN.{length, take}
 use Rattle.words.specs.Words.{Bytes}
+use Rattle.types.specs.declared.refusals.refusal.Refusal.{Refusal}
 use Rattle.types.specs.layout.Placing.{times}
 use Rattle.types.specs.tables.Kept.{KeptRows}
 use Rattle.types.specs.tables.Sizes.{size_in, sizes_in}
 use Rattle.types.specs.declared.tables.member.Ty.{Ty}
 use Rattle.values.specs.normal_image.Normalised.{MadeNormal, normal_result, value_normal}
 use Rattle.values.specs.reading.Read.{Answered}
-use Rattle.values.specs.declared.reading.read.Streamed.TheVariants.{Length}
-use Rattle.values.specs.declared.writing.write.Taken.{Taken}
 use Rattle.values.proofs.normal_image.KeptPlaced.{kept_disjoint}
 use Rattle.values.proofs.normal_image.SameStream.{same_stream}
 use Rattle.values.proofs.reading.ReadingLaws.{LengthTold, length_told}
@@ -26,8 +26,8 @@ pub record SameExactly (stream stream' image image' : List ℕ) : Type 0 where
   pub same_streams : image ≡ image' → stream ≡ stream'
 
 -- where a length was answered, `normal` leaves the normal image
-normal_left : {types members : List ℕ} {t : Ty} {n k : ℕ} {x out new : List ℕ} {r : Taken} {z : List ℕ}
-    → LengthTold types members t n x out k new → MadeNormal types members t n x r z
+normal_left : {types members : List ℕ} {t : Ty} {n k : ℕ} {x out new : List ℕ} {r : Result (Unit {0}) Refusal}
+    {z : List ℕ} → LengthTold types members t n x out k new → MadeNormal types members t n x r z
     → z ≡ value_normal types members t n x
 unfolding normal_result
 normal_left {types} {t = t} {n = n} {x = x} told m =
@@ -36,8 +36,8 @@ normal_left {types} {t = t} {n = n} {x = x} told m =
 module _ {types members : List ℕ} (kept : KeptRows types members) {t : Ty} {n : ℕ} {x y : List ℕ} (b : Bytes x)
     (c : Bytes y) where
   -- the first half of demand 3, over the answers of two calls of `read` and two of `normal`
-  pub same_answers : {i j : ℕ} {out out' new new' z z' : List ℕ} {r r' : Taken}
-      → Answered types members t n x out (Length i) new → Answered types members t n y out' (Length j) new'
+  pub same_answers : {i j : ℕ} {out out' new new' z z' : List ℕ} {r r' : Result (Unit {0}) Refusal}
+      → Answered types members t n x out (Ok i) new → Answered types members t n y out' (Ok j) new'
       → MadeNormal types members t n x r z → MadeNormal types members t n y r' z'
       → SameExactly (take i new) (take j new') z z'
   same_answers p q l m =

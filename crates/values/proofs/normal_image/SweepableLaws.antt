@@ -1,5 +1,6 @@
 -- What tables that can be swept promise (document 01, "Layout", "Normal image"): a structure's branches share no bit,
 -- and its rows lie in its image.
+use Rattle.std.specs.Prelude.{Option, Some, None}
 use Prim.Native.Nat.{ℕ, ◌*◌, ◌<◌}
 use native.Mathlib.Omega.{arith}
 use mathlib.Core.Path.{◌≡◌, refl, sym, subst}
@@ -9,8 +10,6 @@ use Rattle.types.specs.layout.Laid.{Plain, has_bit}
 use Rattle.types.specs.tables.Lent.{type_at}
 use Rattle.types.specs.tables.Limits.{most_types}
 use Rattle.types.specs.tables.Sizes.{sizes_in}
-use Rattle.types.specs.declared.tables.member.Bit.{Bit}
-use Rattle.types.specs.declared.tables.member.Bit.TheVariants.{None, At}
 use Rattle.types.specs.declared.tables.member.Member.{Member}
 use Rattle.values.specs.inside.normal_image.InPlace.{RowsHere, is_plain}
 use Rattle.values.specs.inside.normal_image.Placed.{BranchesPlaced, TreePlaced, Sweepable}
@@ -24,9 +23,9 @@ pub plain_is : (m : Member) → is_plain m ≡ true → Plain m
 unfolding is_plain
 plain_is m e = go m.hidden m.bit refl refl e
   where
-    go : (h : Bool) (b : Bit) → m.hidden ≡ h → m.bit ≡ b → cond h false (not (has_bit b)) ≡ true → Plain m
+    go : (h : Bool) (b : Option ℕ) → m.hidden ≡ h → m.bit ≡ b → cond h false (not (has_bit b)) ≡ true → Plain m
     go true b f g q = absurd (true≢false (sym q))
-    go false (At k) f g q = absurd (true≢false (sym q))
+    go false (Some k) f g q = absurd (true≢false (sym q))
     go false None f g q = record { visible = f; whole = g }
 
 module _ {types members : List ℕ} (s : Sweepable types members) where

@@ -24,7 +24,7 @@ use Rattle.values.specs.reading.Trees.{known_in, tree_of_value}
 use Rattle.values.specs.stream.Form.{count_in}
 use Rattle.values.specs.stream.Stream.{Token, most_bytes}
 use Rattle.values.specs.writing.Writing.{Outcome, ok, ended, write, written}
-use Rattle.values.specs.writing.Written.{Result, taking, value_written, write_result}
+use Rattle.values.specs.writing.Written.{WriteResult, taking, value_written, write_result}
 use Rattle.values.proofs.normal_image.CharLaws.{length_chars}
 use Rattle.values.proofs.normal_image.DisjointLaws.{disjoint_value}
 use Rattle.values.proofs.normal_image.OverLaws.{over, over_bit}
@@ -34,7 +34,7 @@ use Rattle.values.proofs.normal_image.WriteBack.{tree_back}
 use Rattle.values.proofs.writing.WrittenHeld.{bytes_bit}
 
 -- what a write of the stream of x over z answers and leaves
-pub record WrittenBack (tree : Tree) (x z : List ℕ) (r : Result) : Type 0 where
+pub record WrittenBack (tree : Tree) (x z : List ℕ) (r : WriteResult) : Type 0 where
   pub accepted : r.answer ≡ done tt
   pub long : length r.image ≡ length z
   pub bits : (k : ℕ) → k < 8 * length z

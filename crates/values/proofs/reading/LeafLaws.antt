@@ -1,5 +1,6 @@
 -- A member that is no structure (document 01, "Value stream", "Reading"): what it gives by its bit and its type, that
 -- none of it is a text, and that its bytes lie in the image.
+use Rattle.std.specs.Prelude.{Option, Some, None}
 use Prim.Native.Nat.{ℕ, ◌+◌, ◌-◌, ◌*◌, ◌%◌, ◌<◌, ◌≤◌}
 use native.Mathlib.Omega.{arith}
 use mathlib.Core.Path.{◌≡◌, refl, sym, ap, ◌∙◌}
@@ -17,8 +18,6 @@ use Rattle.types.specs.tables.Lent.{member_at, bit_of_word}
 use Rattle.types.specs.tables.Sizes.{sizes_in}
 use Rattle.types.specs.declared.atomics.atomic.Atomic.{Atomic}
 use Rattle.types.specs.declared.atomics.atomic.Atomic.TheVariants as atomic
-use Rattle.types.specs.declared.tables.member.Bit.{Bit}
-use Rattle.types.specs.declared.tables.member.Bit.TheVariants.{None, At}
 use Rattle.types.specs.declared.tables.member.Member.{Member}
 use Rattle.types.specs.declared.tables.member.Ty.{Ty}
 use Rattle.types.specs.declared.tables.member.Ty.TheVariants as ty
@@ -70,11 +69,11 @@ textless_atomics a n image =
     (textless_up (element_out a image) n (λ k. textless_emit a (flat (part image (size_of a * k) (size_of a)))))))
 
 module _ (j : ℕ) (image : List ℕ) where
-  textless_parts : (h : Bool) (b : Bit) (t : Ty) (n at : ℕ)
+  textless_parts : (h : Bool) (b : Option ℕ) (t : Ty) (n at : ℕ)
       → Textless (cond h [] (member j
       ∷ bit_out b (λ k. bool (flat image (8 * at + k)) ∷ []) (leaf_value t n (part image at))))
   textless_parts true b t n at = textless_none
-  textless_parts false (At k) t n at = textless_append textless_plain textless_plain
+  textless_parts false (Some k) t n at = textless_append textless_plain textless_plain
   textless_parts false None (ty.Atomic a) n at =
       textless_append textless_plain (textless_atomics a n (part image at (size_of a * times n)))
   textless_parts false None (ty.Struct s) n at = textless_plain
@@ -110,12 +109,12 @@ pub record NumberPut (types members image out : List ℕ) (i row j at : ℕ) (m 
   pub from : start ≡ m.offset
   pub count : n ≡ m.count
 
-bit_low : (b : Bool) (n k : ℕ) → cond b None (At (n % 8)) ≡ At k → k < 8
+bit_low : (b : Bool) (n k : ℕ) → cond b None (Some (n % 8)) ≡ Some k → k < 8
 bit_low true n k e = let z : ◌≡◌ {A = ℕ} 0 1 = cc in absurd (let y : ⊥ = omega arith in y)
 bit_low false n k e = let q : n % 8 ≡ k = cc in omega arith
 
 -- the bit that a row names is one of the eight of a byte
-pub row_bit : (members : List ℕ) (row k : ℕ) → (member_at members row).bit ≡ At k → k < 8
+pub row_bit : (members : List ℕ) (row k : ℕ) → (member_at members row).bit ≡ Some k → k < 8
 unfolding member_at bit_of_word
 row_bit members row k e =
     bit_low (eqb (get_or members (8 * row + 5) 0) 0) (get_or members (8 * row + 5) 0 - 1) k e
@@ -131,7 +130,7 @@ module _ {types members image out : List ℕ} {i row j at : ℕ} {m : Member} {m
   number_then e v = rw e (put_first (member j) textless_plain.none refl refl w.put v)
 
   -- a BOOL is one bit of a byte
-  module _ {k : ℕ} (e : m.bit ≡ At k) where
+  module _ {k : ℕ} (e : m.bit ≡ Some k) where
     bit_is : leaf_out j (member_at members row) image ≡ member j ∷ bool (flat image (8 * start + k)) ∷ []
     unfolding leaf_out
     bit_is = rw (← w.is, w.shown, e, w.from)

@@ -1,5 +1,6 @@
 -- The law `meaning` (document 01, "Reading"): the walk over the tables gives what reading the type's tree gives. Each
 -- member is read from its own part of the image; a string's text is a part of the image's bytes.
+use Rattle.std.specs.Prelude.{Option, Some, None}
 use Prim.Native.Nat.{ℕ, zero, suc, ◌+◌, ◌*◌, ◌≤◌, ◌<◌}
 use native.Mathlib.Nat.{add-zero, zero-add, mul_assoc, mul-one, mul-suc, mul-le-mul_left}
 use native.Mathlib.Omega.{arith}
@@ -20,8 +21,6 @@ use Rattle.types.specs.tables.Lent.{member_at, type_at}
 use Rattle.types.specs.tables.Limits.{most_types}
 use Rattle.types.specs.tables.Sizes.{bits_of, size_in, sizes_in}
 use Rattle.types.specs.declared.atomics.atomic.Atomic.{Atomic}
-use Rattle.types.specs.declared.tables.member.Bit.{Bit}
-use Rattle.types.specs.declared.tables.member.Bit.TheVariants.{None, At}
 use Rattle.types.specs.declared.tables.member.Member.{Member}
 use Rattle.types.specs.declared.tables.member.Ty.{Ty}
 use Rattle.types.specs.declared.tables.member.Ty.TheVariants as ty
@@ -150,7 +149,7 @@ module _ (types members : List ℕ) (trees : ℕ → Tree) (i : ℕ) (sound : Tr
   value_read (ty.Struct s) n image l h b = structs_read s n image l h b
 
   -- a member's value, from its own part
-  body_read : (v : Bit) (m : Member) (image : List ℕ) → Earlier i m.ty
+  body_read : (v : Option ℕ) (m : Member) (image : List ℕ) → Earlier i m.ty
       → first_in v m.offset + bits_of (sizes_in types) v m ≤ 8 * length image → Bytes image
       → bit_out v (λ k. bool (flat image (8 * m.offset + k)) ∷ [])
       (value_by types members rec m.ty m.count (part image m.offset (bytes_by types members rec m)))
@@ -162,7 +161,7 @@ module _ (types members : List ℕ) (trees : ℕ → Tree) (i : ℕ) (sound : Tr
       ∙ part_read (value_tree trees m.ty m.count) image m.offset size
       (value_inside types members trees i sound m.ty m.count l)
       (omega (arith, value_span types members trees i sound m.ty m.count l))
-  body_read (At k) m image l h b = sym (flag_read (flat image) (8 * m.offset + k))
+  body_read (Some k) m image l h b = sym (flag_read (flat image) (8 * m.offset + k))
 
   -- a member, hidden or not, and the branches after it
   member_read : (j : ℕ) (m : Member) (image : List ℕ) (rest : Branches) → MemberWithin types i (length image) m

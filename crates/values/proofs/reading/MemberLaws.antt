@@ -1,5 +1,6 @@
 -- Rows of a structure in the walk (document 01, "Reading"): what the tables say of a row, and what a member gives by
 -- whether it is a structure: its number and that structure or those structures, or else what `leaf_out` gives.
+use Rattle.std.specs.Prelude.{Option, Some, None}
 use Prim.Native.Nat.{ℕ, ◌+◌, ◌*◌, ◌<◌, ◌≤◌}
 use native.Mathlib.Omega.{arith}
 use mathlib.Core.Path.{◌≡◌, refl}
@@ -13,8 +14,6 @@ use Rattle.types.specs.tables.Lent.{member_at, type_at}
 use Rattle.types.specs.tables.Limits.{most_types}
 use Rattle.types.specs.tables.Sizes.{size_in, sizes_in}
 use Rattle.types.specs.declared.atomics.atomic.Atomic.{Atomic}
-use Rattle.types.specs.declared.tables.member.Bit.{Bit}
-use Rattle.types.specs.declared.tables.member.Bit.TheVariants.{None, At}
 use Rattle.types.specs.declared.tables.member.Member.{Member}
 use Rattle.types.specs.declared.tables.member.Ty.{Ty}
 use Rattle.types.specs.declared.tables.member.Ty.TheVariants as ty
@@ -26,11 +25,11 @@ use Rattle.values.specs.declared.reading.rows.Nested.{Nested}
 
 -- ---- which rows are structures
 
-nested_parts : (h : Bool) (b : Bit) (t : Ty) → cond h false (bit_nested b t) ≡ true
+nested_parts : (h : Bool) (b : Option ℕ) (t : Ty) → cond h false (bit_nested b t) ≡ true
     → (h ≡ false) × ((b ≡ None) × (bit_nested None t ≡ true))
 nested_parts true b t e = clash e refl
 nested_parts false None t e = (refl, (refl, e))
-nested_parts false (At k) t e = clash e refl
+nested_parts false (Some k) t e = clash e refl
 
 module _ (m : Member) (nested : is_nested m ≡ true) where
   parts : (m.hidden ≡ false) × ((m.bit ≡ None) × (bit_nested None m.ty ≡ true))
@@ -52,12 +51,13 @@ module _ (m : Member) (nested : is_nested m ≡ true) where
 -- ---- what a row gives
 
 module _ (types members : List ℕ) (rec : ℕ → List ℕ → List Token) (j : ℕ) (m : Member) (image : List ℕ) where
-  leaf_parts : (h : Bool) (b : Bit) (t : Ty) (n at : ℕ) (f : ℕ → List Token) → cond h false (bit_nested b t) ≡ false
+  leaf_parts : (h : Bool) (b : Option ℕ) (t : Ty) (n at : ℕ) (f : ℕ → List Token)
+      → cond h false (bit_nested b t) ≡ false
       → cond h [] (member j ∷ bit_out b f
       (value_by types members rec t n (part image at (size_in (sizes_in types) t * times n))))
       ≡ cond h [] (member j ∷ bit_out b f (leaf_value t n (part image at)))
   leaf_parts true b t n at f e = refl
-  leaf_parts false (At k) t n at f e = refl
+  leaf_parts false (Some k) t n at f e = refl
   leaf_parts false None (ty.Atomic a) n at f e = refl
   leaf_parts false None (ty.Struct s) n at f e = clash refl e
 

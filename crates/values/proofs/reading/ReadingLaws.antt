@@ -1,4 +1,5 @@
 -- What a reading answers and leaves (document 01, "Reading", "Refusal numbers"): a law for each way out of the call.
+use Rattle.std.specs.Prelude.{Result, Ok, Err}
 use Prim.Native.Nat.{ℕ, ◌+◌, ◌*◌, ◌<◌, ◌≤◌, min}
 use native.Mathlib.Nat.{mul-one}
 use native.Mathlib.Omega.{arith}
@@ -32,8 +33,6 @@ use Rattle.values.specs.reading.Read.{Answered}
 use Rattle.values.specs.reading.Tree.{items, read}
 use Rattle.values.specs.reading.Trees.{known_in, tree_of_value}
 use Rattle.values.specs.stream.Stream.{Token, bodies, most_bytes, stream_bytes}
-use Rattle.values.specs.declared.reading.read.Streamed.{Streamed}
-use Rattle.values.specs.declared.reading.read.Streamed.TheVariants.{Length, Refused}
 use Rattle.values.specs.declared.stream.place.Place.{Place}
 use Rattle.values.proofs.reading.ImageLaws.{fit_long, fit_there, unfit}
 use Rattle.values.proofs.reading.Meaning.{meaning}
@@ -42,23 +41,23 @@ use Rattle.values.proofs.stream.StreamLaws.{stream_long, stream_laid}
 -- ---- one way out each
 
 module _ (types members : List ℕ) (t : Ty) (n : ℕ) (image out : List ℕ) where
-  no_type : is_there types t ≡ false → Answered types members t n image out (Refused NoSuchType) out
+  no_type : is_there types t ≡ false → Answered types members t n image out (Err NoSuchType) out
   unfolding read_answer
   no_type e = record { answer = rw e refl; leaves = rw e refl }
 
   no_image : is_there types t ≡ true → image_fits types t n image ≡ false
-      → Answered types members t n image out (Refused ImageLength) out
+      → Answered types members t n image out (Err ImageLength) out
   unfolding read_answer
   no_image e f = record { answer = rw (e, f) refl; leaves = rw (e, f) refl }
 
   -- the ways out with 15 and 14: the image is not one of the type, and nothing is written
   pub unfit_read : {w : Refusal} → why w ≡ said_of_image types t n (length image)
-      → Answered types members t n image out (Refused w) out
+      → Answered types members t n image out (Err w) out
   unfit_read {w} e =
-      unfit types t n image (λ w. Answered types members t n image out (Refused w) out) no_type no_image w e
+      unfit types t n image (λ w. Answered types members t n image out (Err w) out) no_type no_image w e
 
   -- the image is one of the type: the answer is the one about the stream
-  pub answered : {r : Streamed} {new : List ℕ} → done tt ≡ said_of_image types t n (length image)
+  pub answered : {r : Result ℕ Refusal} {new : List ℕ} → done tt ≡ said_of_image types t n (length image)
       → StreamWritten types members t n image out r new → Answered types members t n image out r new
   unfolding read_answer
   answered e w =
@@ -68,13 +67,13 @@ module _ (types members : List ℕ) (t : Ty) (n : ℕ) (image out : List ℕ) wh
 
   -- the way out with 16: the stream has no room, and nothing is written
   pub no_room : has_room (value_stream types members t n image) (length out) ≡ false
-      → StreamWritten types members t n image out (Refused NoRoom) out
+      → StreamWritten types members t n image out (Err NoRoom) out
   unfolding stream_answer
   no_room e = record { answer = rw e refl; leaves = rw e refl }
 
   all_room : {k : ℕ} {new : List ℕ} → has_room (value_stream types members t n image) (length out) ≡ true
       → k ≡ length (value_stream types members t n image) → new ≡ sets out 0 (value_stream types members t n image)
-      → StreamWritten types members t n image out (Length k) new
+      → StreamWritten types members t n image out (Ok k) new
   unfolding stream_answer
   all_room e f g = record { answer = rw e (ap done f); leaves = rw e g }
 
@@ -165,7 +164,7 @@ module _ (types members : List ℕ) (t : Ty) (n : ℕ) (image out : List ℕ) (r
   pub read_all : {entries text : ℕ} {mid new : List ℕ} {p : Place} → entries ≡ length ts → text ≡ length (bodies ts)
       → 12 * length ts + length (bodies ts) ≤ room → mid ≡ sets out 0 (bytes_of 4 entries)
       → TokensLaid mid (4 + 12 * entries) 4 0 ts new p
-      → StreamWritten types members t n image out (Length (4 + 12 * entries + text)) new
+      → StreamWritten types members t n image out (Ok (4 + 12 * entries + text)) new
   read_all {entries} {text} {mid} e f l m w =
       all_room types members t n image out (in_room l) (omega (arith, long, e, f))
       (w.bytes ∙ ap (λ (o : List ℕ). laid_in o (4 + 12 * entries) 4 0 ts) m
@@ -208,7 +207,7 @@ pub record LengthTold (types members : List ℕ) (t : Ty) (n : ℕ) (image out :
   pub stream : take k new ≡ value_stream types members t n image
 
 module _ {types members : List ℕ} {t : Ty} {n k : ℕ} {image out new : List ℕ}
-    (w : Answered types members t n image out (Length k) new) where
+    (w : Answered types members t n image out (Ok k) new) where
   abbrev stream : List ℕ
   stream = value_stream types members t n image
 

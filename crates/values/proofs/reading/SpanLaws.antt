@@ -1,5 +1,6 @@
 -- The trees of the types in the tables (document 01, "Layout", "Value stream"): a tree has as many bits as its type's
 -- bytes say, and the branches of a structure lie inside it.
+use Rattle.std.specs.Prelude.{Option, Some, None}
 use Prim.Native.Nat.{ℕ, zero, suc, ◌+◌, ◌*◌, ◌≤◌, ◌<◌}
 use native.Mathlib.Nat.{add-zero, mul_assoc, mul-one}
 use native.Mathlib.Omega.{arith}
@@ -17,8 +18,6 @@ use Rattle.types.specs.tables.Limits.{most_types}
 use Rattle.types.specs.tables.Sizes.{bits_of, size_in, sizes_in}
 use Rattle.types.specs.declared.atomics.atomic.Atomic.{Atomic}
 use Rattle.types.specs.declared.atomics.atomic.Atomic.TheVariants as atomic
-use Rattle.types.specs.declared.tables.member.Bit.{Bit}
-use Rattle.types.specs.declared.tables.member.Bit.TheVariants.{None, At}
 use Rattle.types.specs.declared.tables.member.Member.{Member}
 use Rattle.types.specs.declared.tables.member.Ty.{Ty}
 use Rattle.types.specs.declared.tables.member.Ty.TheVariants as ty
@@ -138,14 +137,14 @@ module _ (types members : List ℕ) (trees : ℕ → Tree) (i : ℕ) (sound : Tr
   value_inside (ty.Struct s) n l = structs_inside s n l
 
   -- a member's bits are those that its row says
-  pub bit_span : (b : Bit) (m : Member) → Earlier i m.ty
+  pub bit_span : (b : Option ℕ) (m : Member) → Earlier i m.ty
       → span (bit_tree b (value_tree trees m.ty m.count)) ≡ bits_of (sizes_in types) b m
   bit_span None m l = value_span m.ty m.count l
-  bit_span (At k) m l = unfold span in refl
+  bit_span (Some k) m l = unfold span in refl
 
-  bit_inside : (b : Bit) (m : Member) → Earlier i m.ty → Inside (bit_tree b (value_tree trees m.ty m.count))
+  bit_inside : (b : Option ℕ) (m : Member) → Earlier i m.ty → Inside (bit_tree b (value_tree trees m.ty m.count))
   bit_inside None m l = value_inside m.ty m.count l
-  bit_inside (At k) m l = unfold Inside in tt
+  bit_inside (Some k) m l = unfold Inside in tt
 
   -- a member that lies inside, hidden or not, before others that do
   seen_inside : (hidden : Bool) (size j : ℕ) (m : Member) (rest : Branches) → MemberWithin types i size m

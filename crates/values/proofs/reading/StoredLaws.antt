@@ -4,7 +4,7 @@ use Prim.Native.Nat.{ℕ, ◌+◌, ◌-◌, ◌<◌, ◌≤◌}
 use native.Mathlib.Omega.{arith}
 use mathlib.Core.Path.{◌≡◌, refl, sym, ap, ap₂, ◌∙◌}
 use mathlib.Core.Bool.{Bool, true, false, cond}
-use mathlib.Core.List.{List, []}
+use mathlib.Core.List.{List}
 use borrow.Author.Tests.{eq-eqb, ne_eqb, eqb-true}
 use lib.Dec.{eqb}
 use lib.ListN.{length, take, drop}
@@ -18,10 +18,11 @@ use Rattle.types.specs.declared.tables.member.StructDef.{StructDef}
 use Rattle.types.specs.declared.tables.member.Ty.{Ty}
 use Rattle.types.specs.declared.tables.member.Ty.TheVariants as ty
 use Rattle.types.proofs.Face.{there_fits}
-use Rattle.values.specs.inside.reading.Texts.{TextHeld}
+use Rattle.types.specs.refusals.Said.{done, refused}
+use Rattle.values.specs.inside.reading.Texts.{StringRow, TextHeld}
 use Rattle.values.specs.inside.reading.Walkable.{IsString, Walkable}
-use Rattle.values.specs.reading.Texts.{capacity_at, text_length, Address, Stored, capacity_of, string_number}
-use Rattle.values.specs.reading.Texts.{text_number, text_part}
+use Rattle.values.specs.reading.Texts.{capacity_at, text_length, capacity_of, string_number}
+use Rattle.values.specs.reading.Texts.{text_answer, text_number, text_part}
 use Rattle.values.specs.reading.Trees.{is_string_kind}
 
 -- ---- the numbers
@@ -65,10 +66,6 @@ module _ (types : List ℕ) (t : Ty) (image : List ℕ) where
       → string_number types i (length image) ≡ text_number types t image
   unfolding text_number
   number_struct h e = rw (h, e)
-
--- a structure that is there has a number below 200
-pub there_low : (types : List ℕ) (t : Ty) {i : ℕ} → is_there types t ≡ true → t ≡ ty.Struct i → i < most_types
-there_low types t h e = rw e at (there_fits types t h)
 
 -- ---- an image that is not refused
 
@@ -131,35 +128,60 @@ pub no_atomic : {A : Type 0} (types image : List ℕ) (a : Atomic) → text_numb
 unfolding text_number
 no_atomic types image a n = let z : ◌≡◌ {A = ℕ} 15 0 = n in absurd (let y : ⊥ = omega arith in y)
 
--- no atomic has the number 0, so that nothing is asked of its text
-pub held_atomic : {types members : List ℕ} {t : Ty} {a : Atomic} {image : List ℕ} {n : ℕ} → t ≡ ty.Atomic a
-    → text_number types t image ≡ 0 → TextHeld types members t image n
-held_atomic {types} {a = a} {image = image} e n = no_atomic types image a (rw e at n)
+-- ---- the row of a string type
+
+module _ {types : List ℕ} {t : Ty} {d : StructDef} (r : StringRow types t d) (image : List ℕ) where
+  struct_number : string_number types r.number (length image) ≡ text_number types t image
+  struct_number = number_struct types t image r.there r.struct
+
+  -- an image of the row's size: the number is 0
+  pub row_fits : length image ≡ d.size → 0 ≡ text_number types t image
+  row_fits l = string_fits types r.number (length image) r.row r.string l ∙ struct_number
+
+  -- an image of another length: the number is 14
+  pub row_misfits : (length image ≡ d.size → ⊥) → 14 ≡ text_number types t image
+  row_misfits l = string_misfits types r.number (length image) r.row r.string l ∙ struct_number
+
+  -- in an image of the row's size the members' rows are in the table, and the text lies in the image
+  module _ {members : List ℕ} (w : Walkable types members) (l : length image ≡ d.size) where
+    row_readable : TextReadable types members r.number image
+    row_readable = readable t image w r.struct (sym (row_fits l))
+
+    pub row_low : d.first < 1999
+    row_low = let h = row_readable.rows in rw r.row h
+
+    pub row_inside : 4 + capacity_at members d.first ≤ length image
+    row_inside = let h = row_readable.inside in rw r.row h
+
+    pub row_held : {n : ℕ} → n ≡ text_length (capacity_at members d.first) image → TextHeld types members t image n
+    row_held e = held_struct r.struct row_readable (rw r.row at e)
 
 -- ---- what is handed back
 
-module _ {types members : List ℕ} {t : Ty} {image : List ℕ} {whole place : Address} {number : ℕ}
-    (e : number ≡ text_number types t image) (block : place.0 ≡ whole.0) where
-  -- a number of 0: the text's part of the image is handed back, 4 bytes after the image's start
-  pub stored_text : {n : ℕ} → number ≡ 0 → TextHeld types members t image n → place.1 ≡ 4 + whole.1
-      → Stored types members t image whole number (take (4 + n - 4) (drop 4 image)) place
-  unfolding text_part part
-  stored_text {n} z h s =
-      let f : 4 + n - 4 ≡ text_length (capacity_of types members t) image = omega (arith, h.long) in
-      record {
-        why = e;
-        text = rw (← e, eq-eqb number 0 z, f);
-        block = block;
-        start = rw (eq-eqb number 0 z) (omega (arith, s));
-      }
+-- a text is said where the test holds, and is the one that is said there
+tested : {p q : List ℕ} (number : ℕ) (b : Bool) → done p ≡ cond b (done q) (refused number 0) → (b ≡ true) × (p ≡ q)
+tested number true e = (refl, cc)
+tested number false e = cc
 
-  -- any other number: an empty part at the image's start is handed back
-  pub stored_none : (number ≡ 0 → ⊥) → place.1 ≡ 0 + whole.1 → Stored types members t image whole number [] place
-  unfolding text_part
-  stored_none z s =
-      record {
-        why = e;
-        text = rw (← e, ne_eqb number 0 z);
-        block = block;
-        start = rw (ne_eqb number 0 z) (omega (arith, s));
-      }
+module _ (types members : List ℕ) (t : Ty) (image : List ℕ) where
+  -- a number of 0: the text's part of the image is handed back
+  pub stored_text : {n : ℕ} → 0 ≡ text_number types t image → TextHeld types members t image n
+      → done (take (4 + n - 4) (drop 4 image)) ≡ text_answer types members t image
+  unfolding text_answer text_part part
+  stored_text {n} z h =
+      let f : 4 + n - 4 ≡ text_length (capacity_of types members t) image = omega (arith, h.long) in
+      rw (← z, f)
+
+  -- any other number: it is the refusal's
+  pub stored_none : {number : ℕ} → number ≡ text_number types t image → (number ≡ 0 → ⊥)
+      → refused number 0 ≡ text_answer types members t image
+  unfolding text_answer
+  stored_none {number} e z = rw (← e, ne_eqb number 0 z)
+
+  -- a text handed back: the number is 0, and the text is the part
+  pub stored_part : {p : List ℕ} → done p ≡ text_answer types members t image
+      → (text_number types t image ≡ 0) × (p ≡ text_part types members t image)
+  unfolding text_answer
+  stored_part {p} e =
+      let h = tested (text_number types t image) (eqb (text_number types t image) 0) e in
+      (eqb-true (text_number types t image) 0 h.0, h.1)

@@ -1,5 +1,7 @@
 -- The text that `text` hands back is the text that `read` streams (document 01, "Reading"): for tables as our own calls
--- left them, where `text` answers 0, the stream of that image is one text entry with the bytes of the part.
+-- left them, where `text` answers a part, the stream of that image is one text entry with the bytes of the part.
+use denote.Bor.{Bor}
+use Rattle.std.specs.Prelude.{Ok}
 use Prim.Native.Nat.{ℕ, ◌*◌}
 use native.Mathlib.Nat.{mul-one}
 use mathlib.Core.Path.{◌≡◌, refl, sym, ap, ◌∙◌}
@@ -15,12 +17,12 @@ use Rattle.types.proofs.Face.{times_one}
 use Rattle.values.specs.inside.reading.Walk.{struct_by, struct_out, struct_within, text_out}
 use Rattle.values.specs.inside.reading.Walkable.{ValueImage}
 use Rattle.values.specs.reading.Read.{value_stream}
-use Rattle.values.specs.reading.Texts.{Address, Stored, capacity_of, text_number, text_part, capacity_at, text_in}
+use Rattle.values.specs.reading.Texts.{Stored, capacity_of, text_number, text_part, capacity_at, text_in}
 use Rattle.values.specs.reading.Trees.{is_string_kind}
 use Rattle.values.specs.stream.Stream.{stream_bytes, text}
 use Rattle.values.proofs.reading.KeptWalkable.{kept_walkable}
 use Rattle.values.proofs.reading.ReadingLaws.{stream_is, value_one}
-use Rattle.values.proofs.reading.StoredLaws.{Accepted, accepted, no_atomic}
+use Rattle.values.proofs.reading.StoredLaws.{Accepted, accepted, no_atomic, stored_part}
 
 -- a string is read as one text
 string_out : (types members : List ℕ) (i : ℕ) (image : List ℕ) → is_string_kind (type_at types i).kind ≡ true
@@ -42,14 +44,20 @@ accepted_image {types} {i} a =
       long = a.long ∙ sym (mul-one (sizes_in types i)) ∙ ap (λ (k : ℕ). sizes_in types i * k) (times_one 0 refl);
     }
 
-module _ {types members : List ℕ} (kept : KeptRows types members) {image : List ℕ} (b : Bytes image) where
-  -- where `text` answers 0 and a part, `read` streams the one text entry with the part's bytes
-  pub text_streamed : {t : Ty} {whole place : Address} {part : List ℕ}
-      → Stored types members t image whole 0 part place
-      → value_stream types members t 0 image ≡ stream_bytes (text part ∷ [])
-  text_streamed {t = ty.Atomic a} s = no_atomic types image a (sym s.why)
-  text_streamed {t = ty.Struct i} s =
-      let a = accepted types i image (sym s.why) in
+module _ {types members : List ℕ} (kept : KeptRows types members) (image : List ℕ) (b : Bytes image) where
+  streamed : (t : Ty) {p : List ℕ} → text_number types t image ≡ 0 → p ≡ text_part types members t image
+      → value_stream types members t 0 image ≡ stream_bytes (text p ∷ [])
+  streamed (ty.Atomic a) z e = no_atomic types image a z
+  streamed (ty.Struct i) z e =
+      let a = accepted types i image z in
       stream_is types members (kept_walkable kept.kept) (ty.Struct i) 0 image (accepted_image a) b
       ∙ ap stream_bytes (value_one types members 0 image i refl ∙ string_out types members i image a.string
-      ∙ ap (λ (p : List ℕ). text p ∷ []) (sym (s.text ∙ part_is types members (ty.Struct i) image (sym s.why))))
+      ∙ ap (λ (p : List ℕ). text p ∷ []) (sym (e ∙ part_is types members (ty.Struct i) image z)))
+
+-- where `text` answers a part, `read` streams the one text entry with the part's bytes
+pub text_streamed : {types members : List ℕ} → KeptRows types members → {t : Ty} {image part : Bor (List ℕ)}
+    → Bytes image.now → Stored types members t image (Ok part)
+    → value_stream types members t 0 image.now ≡ stream_bytes (text part.now ∷ [])
+text_streamed {types} {members} kept {t} {image} b s =
+    let h = stored_part types members t image.now s.answer in
+    streamed kept image.now b t h.0 h.1

@@ -1,7 +1,6 @@
 -- How many entries a value has (document 01, "Value stream"): counts that go on from a number, and what a
 -- string, an array of structures and a member's number add to them.
-use Prim.Native.Nat.{ℕ, ◌+◌, ◌*◌, ◌^◌, ◌<◌, ◌≤◌}
-use native.Mathlib.Nat.{mul-le-mul}
+use Prim.Native.Nat.{ℕ, ◌+◌, ◌*◌, ◌<◌, ◌≤◌}
 use native.Mathlib.Omega.{arith}
 use mathlib.Core.Path.{◌≡◌, refl, sym, ap, ◌∙◌}
 use mathlib.Core.Bool.{Bool, true, false, cond}
@@ -19,7 +18,7 @@ use Rattle.values.specs.inside.reading.Walkable.{Walkable}
 use Rattle.values.specs.inside.stream.Counting.{Counted, TextFree}
 use Rattle.values.specs.reading.Texts.{capacity_at}
 use Rattle.values.specs.reading.Trees.{is_string_kind}
-use Rattle.values.specs.stream.Stream.{most_bytes, Token, member, bodies}
+use Rattle.values.specs.stream.Stream.{Token, member, bodies}
 use Rattle.values.proofs.reading.UpLaws.{up_length, up_least, up_first, up_bodies, wrap_length, wrap_bodies}
 use Rattle.values.proofs.reading.WalkLaws.{struct_out_lem}
 
@@ -57,11 +56,6 @@ plain_same w q =
     }
 
 -- ---- structures
-
--- the product of count and entries fits
-pub product_fits : {n e most : ℕ} → most ≤ most_bytes → e ≤ most → n ≤ most → n * e ≤ 2 ^ 62
-product_fits {n} {e} h k l =
-    omega (arith, mul-le-mul {n₁ = n} {m₁ = e} {n₂ = 2147483648} {m₂ = 2147483648} (omega arith) (omega arith))
 
 -- a member's number before a value, which is read from a part of the image
 pub member_counted : {most from sum : ℕ} {f : List ℕ → List Token} {b t : Bool} (j : ℕ) (own : List ℕ → List ℕ)

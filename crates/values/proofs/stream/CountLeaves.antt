@@ -1,5 +1,6 @@
 -- How many entries an atomic and a member that is no structure have (document 01, "Reading"): as many for every image,
 -- none of them a text, and few enough to add up.
+use Rattle.std.specs.Prelude.{Some, None}
 use Prim.Native.Nat.{ℕ, ◌+◌, ◌*◌, ◌^◌, ◌<◌, ◌≤◌}
 use native.Mathlib.Nat.{mul-le-mul_right}
 use native.Mathlib.Omega.{arith}
@@ -14,7 +15,6 @@ use Rattle.types.specs.atomics.Atomic.{bit_string, size_of}
 use Rattle.types.specs.layout.Placing.{times}
 use Rattle.types.specs.declared.atomics.atomic.Atomic.{Atomic}
 use Rattle.types.specs.declared.atomics.atomic.Atomic.TheVariants as atomic
-use Rattle.types.specs.declared.tables.member.Bit.TheVariants.{None, At}
 use Rattle.types.specs.declared.tables.member.Member.{Member}
 use Rattle.types.specs.declared.tables.member.Ty.TheVariants as ty
 use Rattle.values.specs.inside.reading.Walk.{up_to, bit_token, bits_out, number_out, element_out, numbers_out}
@@ -180,7 +180,7 @@ module _ (m : Member) (j : ℕ) where
 
   module _ (shown : m.hidden ≡ false) where
     -- a BOOL of a structure has two entries: its number and its bit
-    pub leaf_bit : {k : ℕ} → m.bit ≡ At k → TextFree (leaf_out j m) 2
+    pub leaf_bit : {k : ℕ} → m.bit ≡ Some k → TextFree (leaf_out j m) 2
     unfolding leaf_out bodies
     leaf_bit b = record { exact = λ image. rw (shown, b); plain = λ image. rw (shown, b) }
 

@@ -1,5 +1,6 @@
 -- Laws of one entry (document 01, "Value stream"): its twelve bytes, as they are stored; what was stored is loaded
 -- again, only its bytes say an entry, and what is said of bytes tells the entry.
+use Rattle.std.specs.Prelude.{Option, Some, None}
 use Prim.Native.Nat.{ℕ, zero, suc, ◌+◌, ◌*◌, ◌/◌, ◌%◌, ◌^◌, ◌≤◌, ◌<◌}
 use native.Mathlib.Nat.{add-zero, zero-add, mod-eq_of_lt}
 use native.Mathlib.Decide.{dec_lt, ℕ_discrete}
@@ -25,8 +26,6 @@ use Rattle.values.specs.stream.Entry.{payloads_right, said_by, three_zeros}
 use Rattle.values.specs.stream.Stream.{entry_bytes}
 use Rattle.values.specs.declared.stream.entry.Entry.{Entry}
 use Rattle.values.specs.declared.stream.entry.Entry.TheVariants as entry
-use Rattle.values.specs.declared.stream.entry.Loaded.{Loaded}
-use Rattle.values.specs.declared.stream.entry.Loaded.TheVariants.{Is, Malformed}
 
 -- ---- one entry
 
@@ -150,7 +149,7 @@ entry_only s at b e =
 -- ---- an entry by value
 
 -- what an entry is by a matched kind it is by the entry's own kind
-pub kind_told : {kind k : ℕ} {r : Loaded} (x : ℕ) → kind ≡ k → r ≡ loaded_of k x → r ≡ loaded_of kind x
+pub kind_told : {kind k : ℕ} {r : Option Entry} (x : ℕ) → kind ≡ k → r ≡ loaded_of k x → r ≡ loaded_of kind x
 kind_told x e h = h ∙ sym (ap (λ (k : ℕ). loaded_of k x) e)
 
 -- none of the first n numbers, as the arms of a match leave it
@@ -163,9 +162,9 @@ past i zero h = omega arith
 past i (suc n) h = lt_of_le-ne (past i n h.0) (λ e. h.1 (sym e))
 
 -- a kind that is none of the twelve is malformed
-pub kind_above : (kind x : ℕ) → NoneBelow kind 12 → Malformed ≡ loaded_of kind x
+pub kind_above : (kind x : ℕ) → NoneBelow kind 12 → None ≡ loaded_of kind x
 unfolding loaded_of
-kind_above kind x h = sym (get_or-eq_default (payloads_in x) Malformed (past kind 12 h))
+kind_above kind x h = sym (get_or-eq_default (payloads_in x) None (past kind 12 h))
 
 -- where three zeros stand after the kind, the entry is what kind and payload say
 pub zeros_read : (s : List ℕ) (at : ℕ) → get_or s (at + 1) 0 ≡ 0 → get_or s (at + 2) 0 ≡ 0 → get_or s (at + 3) 0 ≡ 0
@@ -173,27 +172,18 @@ pub zeros_read : (s : List ℕ) (at : ℕ) → get_or s (at + 1) 0 ≡ 0 → get
 unfolding entry_in three_zeros
 zeros_read s at a b c = simp (eq-eqb _ 0 a, eq-eqb _ 0 b, eq-eqb _ 0 c)
 
-text_back : (place long : ℕ) → place < 2 ^ 32 → text_entry (place + 2 ^ 32 * long) ≡ Is (entry.Text place long)
+text_back : (place long : ℕ) → place < 2 ^ 32 → text_entry (place + 2 ^ 32 * long) ≡ Some (entry.Text place long)
 text_back place long h =
     let e : (place + 2 ^ 32 * long) % 2 ^ 32 ≡ place = omega arith in
     let f : (place + 2 ^ 32 * long) / 2 ^ 32 ≡ long = omega arith in
     rw (e, f)
 
-low_back : (f : ℕ → Entry) (x : ℕ) → x < 2 ^ 32 → low_in f x ≡ Is (f x)
+low_back : (f : ℕ → Entry) (x : ℕ) → x < 2 ^ 32 → low_in f x ≡ Some (f x)
 unfolding low_in
 low_back f x h = rw (lt-ltb x (2 ^ 32) h)
 
--- the same, from the low half that the code takes
-pub low_is : (f : ℕ → Entry) {x y : ℕ} → x < 2 ^ 32 → y ≡ x % 2 ^ 32 → Is (f y) ≡ low_in f x
-low_is f {x} {y} h e = ap (λ (z : ℕ). Is (f z)) (e ∙ mod-eq_of_lt h) ∙ sym (low_back f x h)
-
--- a payload with more than 32 bits, where 32 are asked, is malformed
-pub low_none : (f : ℕ → Entry) {x : ℕ} → 2 ^ 32 ≤ x → Malformed ≡ low_in f x
-unfolding low_in
-low_none f {x} h = rw (le-ltb x (2 ^ 32) h)
-
 -- its kind and its payload say the entry
-loaded_back : (e : Entry) → EntryFits e → loaded_of (entry_kind e) (entry_payload e) ≡ Is e
+loaded_back : (e : Entry) → EntryFits e → loaded_of (entry_kind e) (entry_payload e) ≡ Some e
 unfolding loaded_of bare_in truth_in
 loaded_back entry.Null h = refl
 loaded_back (entry.Bool true) h = refl
@@ -215,7 +205,7 @@ bare_said : (e : Entry) (x : ℕ) → entry_payload e ≡ 0 → said_by (bare_in
 unfolding bare_in
 bare_said e x p = go (ℕ_discrete x 0)
   where
-    go : Dec (x ≡ 0) → said_by (cond (eqb x 0) (Is e) Malformed) ≡ entry_or17 (eqb x 0) (entry_kind e) x
+    go : Dec (x ≡ 0) → said_by (cond (eqb x 0) (Some e) None) ≡ entry_or17 (eqb x 0) (entry_kind e) x
     go (yes h) = rw (eq-eqb x 0 h) (ap (λ (y : ℕ). done (entry_kind e, y)) (p ∙ sym h))
     go (no h) = rw (ne_eqb x 0 h) refl
 
@@ -224,7 +214,7 @@ unfolding truth_in
 truth_said x = go (ℕ_discrete x 0) (ℕ_discrete x 1)
   where
     go : Dec (x ≡ 0) → Dec (x ≡ 1)
-        → said_by (cond (eqb x 0) (Is (entry.Bool false)) (cond (eqb x 1) (Is (entry.Bool true)) Malformed))
+        → said_by (cond (eqb x 0) (Some (entry.Bool false)) (cond (eqb x 1) (Some (entry.Bool true)) None))
         ≡ entry_or17 (ltb x 2) 1 x
     go (yes h) l = rw h refl
     go (no h) (yes l) = rw l refl
@@ -235,7 +225,7 @@ low_said : (f : ℕ → Entry) (kind x : ℕ) → entry_kind (f x) ≡ kind → 
 unfolding low_in
 low_said f kind x a b = go (ltb x (2 ^ 32))
   where
-    go : (t : Bool) → said_by (cond t (Is (f x)) Malformed) ≡ entry_or17 t kind x
+    go : (t : Bool) → said_by (cond t (Some (f x)) None) ≡ entry_or17 t kind x
     go true = ap₂ (λ (k y : ℕ). done (k, y)) a b
     go false = refl
 
@@ -246,13 +236,13 @@ text_said x =
 
 -- each of some answers, the first of them to a kind, with whether the payload is right
 infixr 30 ◌then◌
-data EachSaid (x : ℕ) : ℕ → List Loaded → List Bool → Type 0 where
+data EachSaid (x : ℕ) : ℕ → List (Option Entry) → List Bool → Type 0 where
   none : {kind : ℕ} → EachSaid x kind [] []
-  ◌then◌ : {kind : ℕ} {r : Loaded} {rs : List Loaded} {b : Bool} {bs : List Bool} → said_by r ≡ entry_or17 b kind x
-      → EachSaid x (suc kind) rs bs → EachSaid x kind (r ∷ rs) (b ∷ bs)
+  ◌then◌ : {kind : ℕ} {r : Option Entry} {rs : List (Option Entry)} {b : Bool} {bs : List Bool}
+      → said_by r ≡ entry_or17 b kind x → EachSaid x (suc kind) rs bs → EachSaid x kind (r ∷ rs) (b ∷ bs)
 
-said_at : {x kind : ℕ} {rs : List Loaded} {bs : List Bool} → EachSaid x kind rs bs → (j : ℕ)
-    → said_by (get_or rs j Malformed) ≡ entry_or17 (get_or bs j false) (kind + j) x
+said_at : {x kind : ℕ} {rs : List (Option Entry)} {bs : List Bool} → EachSaid x kind rs bs → (j : ℕ)
+    → said_by (get_or rs j None) ≡ entry_or17 (get_or bs j false) (kind + j) x
 said_at none j = refl
 said_at (a then b) zero = rw add-zero a
 said_at {kind} (a then b) (suc j) =
@@ -279,7 +269,7 @@ each_said x =
 loaded_said : (kind x : ℕ) → said_by (loaded_of kind x) ≡ entry_or17 (payload_right kind x) kind x
 unfolding loaded_of payload_right
 loaded_said kind x =
-    subst (λ (k : ℕ). said_by (get_or (payloads_in x) kind Malformed) ≡ entry_or17
+    subst (λ (k : ℕ). said_by (get_or (payloads_in x) kind None) ≡ entry_or17
     (get_or (payloads_right x) kind false) k x)
     (zero-add kind) (said_at (each_said x) kind)
 
@@ -288,13 +278,13 @@ pub entry_said : (s : List ℕ) (at : ℕ) → leb (at + 12) (length s) ≡ true
 unfolding entry_in entry_at is_entry
 entry_said s at l = rw l (go (three_zeros s at))
   where
-    go : (b : Bool) → said_by (cond b (loaded_of (kind_at s at) (payload_at s at)) Malformed)
+    go : (b : Bool) → said_by (cond b (loaded_of (kind_at s at) (payload_at s at)) None)
         ≡ entry_or17 (b && payload_right (kind_at s at) (payload_at s at)) (kind_at s at) (payload_at s at)
     go true = loaded_said (kind_at s at) (payload_at s at)
     go false = refl
 
 -- bytes that are not there are malformed
-pub nothing_said : (s : List ℕ) (at : ℕ) → leb (at + 12) (length s) ≡ false → said_by Malformed ≡ entry_at s at
+pub nothing_said : (s : List ℕ) (at : ℕ) → leb (at + 12) (length s) ≡ false → said_by None ≡ entry_at s at
 unfolding entry_at is_entry
 nothing_said s at l = rw l refl
 
@@ -304,13 +294,13 @@ both_said {k} {x} {l} {y} e =
     (ap (λ (p : ℕ × ℕ). p.0) same, ap (λ (p : ℕ × ℕ). p.1) same)
 
 -- what is said tells what was loaded: its kind and its payload tell an entry
-pub loaded_same : (r s : Loaded) → LoadedFits r → LoadedFits s → said_by r ≡ said_by s → r ≡ s
-loaded_same (Is e) (Is f) g h q =
+pub loaded_same : (r s : Option Entry) → LoadedFits r → LoadedFits s → said_by r ≡ said_by s → r ≡ s
+loaded_same (Some e) (Some f) g h q =
     let same = both_said q in
     sym (loaded_back e g) ∙ ap₂ loaded_of same.0 same.1 ∙ loaded_back f h
-loaded_same (Is e) Malformed g h q = cc
-loaded_same Malformed (Is f) g h q = cc
-loaded_same Malformed Malformed g h q = refl
+loaded_same (Some e) None g h q = cc
+loaded_same None (Some f) g h q = cc
+loaded_same None None g h q = refl
 
 -- ---- at any place
 

@@ -7,6 +7,8 @@ use native.Mathlib.Omega.{arith}
 use mathlib.Core.Path.{◌≡◌, refl, sym, ap, ap₂, ◌∙◌, subst}
 use mathlib.Core.Bool.{Bool, true, false, cond, ◌&&◌}
 use mathlib.Core.List.{List}
+use Rattle.std.specs.Bool.{then_some}
+use Rattle.std.specs.Prelude.{Option, Some, None}
 use lib.Dec.{eqb, leb}
 use lib.ListN.{length, get_or, get_or-eq_default}
 use borrow.Author.Tests.{eq-eqb, ne_eqb, eqb-true, le-leb, lt-leb}
@@ -14,7 +16,7 @@ use Rattle.words.specs.Words.{word_at}
 use Rattle.words.proofs.TestLaws.{clash}
 use Rattle.words.proofs.WordLaws.{word_split, word_four}
 use Rattle.words.proofs.ArithLaws.{none_most, below_most}
-use Rattle.values.specs.inside.stream.Steps.{Moved, most_of, nowhere, text_step_of}
+use Rattle.values.specs.inside.stream.Steps.{Moved, most_of, text_step_of}
 use Rattle.values.specs.stream.Entry.{is_entry, kind_at, payload_at, payload_right, payloads_right, three_zeros}
 use Rattle.values.specs.stream.Form.{TextStep, At, Broken, text_step, entry_step, step_at, on_step, formed, count_in}
 use Rattle.values.specs.stream.Form.{base_in, stream_ok}
@@ -26,18 +28,12 @@ use Rattle.values.specs.stream.Stream.{most_bytes}
 at_same : (x y : ℕ) → At x ≡ At y → x ≡ y
 at_same x y e = cc
 
--- a step that goes on to a place is answered by that place
-pub moved_to : {place r : ℕ} {step : TextStep} → step ≡ At r → r < nowhere → r ≤ place + 2 ^ 32 → Moved place step r
-moved_to e l h = record { goes = λ q. e; near = λ q. h; broken = λ q. absurd (let z : ⊥ = omega arith in z) }
-
--- a broken step is told by the place that is nowhere
-pub moved_none : {place : ℕ} {step : TextStep} → step ≡ Broken → Moved place step nowhere
-moved_none e =
-    record {
-      goes = λ q. absurd (let z : ⊥ = omega arith in z);
-      near = λ q. absurd (let z : ⊥ = omega arith in z);
-      broken = λ q. e;
-    }
+-- one test tells whether a step goes on to a place
+pub moved_if : {p : ℕ} {b : Bool} {r : Option ℕ} (place : ℕ) (step : TextStep) (test : Bool) → r ≡ then_some b p
+    → b ≡ test → p ≤ place + 2 ^ 32 → (test ≡ true → step ≡ At p) → (test ≡ false → step ≡ Broken)
+    → Moved place step r
+moved_if place step true e q h on off = rw (e, q) (on refl, h)
+moved_if place step false e q h on off = rw (e, q) (off refl)
 
 -- ---- one kind's payloads: the greatest one
 
@@ -190,11 +186,11 @@ module _ (s : List ℕ) (at place : ℕ) (inside : at + 12 ≤ length s) where
           rw (le-leb (at + 12) (length s) inside, eq-eqb _ 0 a, eq-eqb _ 0 b, eq-eqb _ 0 d, e) refl
 
 -- a step by the three words that the code loads is the step of the entry
-pub words_moved : {place r head low high : ℕ} (s : List ℕ) (at : ℕ) → at + 12 ≤ length s → head ≡ word_at 4 s at
-    → low ≡ word_at 4 s (at + 4) → high ≡ word_at 4 s (at + 8)
+pub words_moved : {head low high : ℕ} (s : List ℕ) (at place : ℕ) (r : Option ℕ) → at + 12 ≤ length s
+    → head ≡ word_at 4 s at → low ≡ word_at 4 s (at + 4) → high ≡ word_at 4 s (at + 8)
     → Moved place (text_step_of head (low + 2 ^ 32 * high) place) r
     → Moved place (step_at s at place) r
-words_moved {place} {r} {head} {low} {high} s at inside e f g w =
+words_moved {head} {low} {high} s at place r inside e f g w =
     let far : at + 4 + 4 ≡ at + 8 = omega arith in
     let both : low + 2 ^ 32 * high ≡ payload_at s at
     = ap₂ (λ (x y : ℕ). x + 2 ^ 32 * y) f (g ∙ ap (word_at 4 s) (sym far)) ∙ sym (word_split 4 4 s (at + 4)) in
@@ -220,19 +216,18 @@ module _ {s : List ℕ} {base n place k : ℕ} (w : EntriesLeft s base n place k
   next l = let e : n - k ≡ suc (n - (k + 1)) = omega arith in rw e refl
 
   -- an entry whose step goes on: one entry less is left
-  pub left_on : {p : ℕ} → k < n → Moved place (step_at s (4 + 12 * k) place) p → p < nowhere
+  pub left_on : {p : ℕ} → k < n → Moved place (step_at s (4 + 12 * k) place) (Some p)
       → EntriesLeft s base n p (k + 1)
-  left_on {p} l v f =
+  left_on l v =
       record {
         inside = omega arith;
-        small = omega (arith, w.small, v.near f);
-        rest = w.rest ∙ next l ∙ rw (v.goes f) refl;
+        small = omega (arith, w.small, v.1);
+        rest = w.rest ∙ next l ∙ rw v.0 refl;
       }
 
   -- an entry whose step is broken: the form is wrong
-  pub left_broken : {p : ℕ} → k < n → Moved place (step_at s (4 + 12 * k) place) p → nowhere ≤ p
-      → false ≡ formed s base 0 n 0
-  left_broken l v f = sym (w.rest ∙ next l ∙ rw (v.broken f) refl)
+  pub left_broken : k < n → Moved place (step_at s (4 + 12 * k) place) None → false ≡ formed s base 0 n 0
+  left_broken l v = sym (w.rest ∙ next l ∙ rw v refl)
 
   -- no entry is left: the form is right where the texts end at the stream's end
   pub left_done : n ≤ k → eqb (base + place) (length s) ≡ formed s base 0 n 0

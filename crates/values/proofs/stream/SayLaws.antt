@@ -1,5 +1,6 @@
 -- Every entry of a reading can be said (document 01, "Value stream"): its kind is one of the twelve and its payload
 -- fits, so that a reading's stream is well formed and says the reading's entries.
+use Rattle.std.specs.Prelude.{Option, Some, None}
 use Prim.Native.Nat.{ℕ, zero, suc, ◌+◌, ◌-◌, ◌*◌, ◌^◌, ◌<◌, ◌≤◌}
 use native.Mathlib.Omega.{arith}
 use mathlib.Core.Path.{refl}
@@ -21,8 +22,6 @@ use Rattle.types.specs.tables.Limits.{most_types}
 use Rattle.types.specs.tables.Sizes.{sizes_in}
 use Rattle.types.specs.declared.atomics.atomic.Atomic.{Atomic}
 use Rattle.types.specs.declared.atomics.atomic.Atomic.TheVariants as atomic
-use Rattle.types.specs.declared.tables.member.Bit.{Bit}
-use Rattle.types.specs.declared.tables.member.Bit.TheVariants.{None, At as BitAt}
 use Rattle.types.specs.declared.tables.member.Member.{Member}
 use Rattle.types.specs.declared.tables.member.Ty.{Ty}
 use Rattle.types.specs.declared.tables.member.Ty.TheVariants as ty
@@ -125,11 +124,11 @@ module _ (types members : List ℕ) (rec : ℕ → List ℕ → List Token) (i :
   value_sound (ty.Atomic a) n image l = atomics_sound a n image
   value_sound (ty.Struct s) n image l = structs_sound s n image l
 
-  bit_sound : (b : Bit) (f : ℕ → Bool) (ts : List Token) → Every SaidWell ts
+  bit_sound : (b : Option ℕ) (f : ℕ → Bool) (ts : List Token) → Every SaidWell ts
       → Every SaidWell (bit_out b (λ k. bool (f k) ∷ []) ts)
   unfolding Every
   bit_sound None f ts w = w
-  bit_sound (BitAt k) f ts w = (bool_sound (f k), tt)
+  bit_sound (Some k) f ts w = (bool_sound (f k), tt)
 
   member_sound : (j : ℕ) (m : Member) (image : List ℕ) → j < 2 ^ 32 → Earlier i m.ty
       → Every SaidWell (member_by types members rec j m image)

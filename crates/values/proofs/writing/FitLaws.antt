@@ -1,5 +1,6 @@
 -- Which entries an atomic takes (document 01, "Writing"): the code's limits say what `Effects` says, by one law over
 -- the width; and what is taken sets the payload's bits. The same for a text.
+use Rattle.std.specs.Prelude.{Option, None, Some, Err}
 use Prim.Native.Nat.{ℕ, ◌+◌, ◌-◌, ◌*◌, ◌^◌, ◌<◌, ◌≤◌}
 use native.Mathlib.Decide.{dec_lt, ℕ_discrete}
 use native.Mathlib.Omega.{arith}
@@ -14,11 +15,13 @@ use Rattle.words.specs.Bits.{Bits, bit_of}
 use Rattle.words.specs.Words.{Bytes}
 use Rattle.words.proofs.WordLaws.{word_below}
 use Rattle.words.proofs.ArithLaws.{low_test, below_most}
-use Rattle.words.proofs.TestLaws.{picked}
 use Rattle.types.specs.atomics.Atomic.{bit_string, size_of}
 use Rattle.types.specs.declared.atomics.atomic.Atomic.{Atomic}
 use Rattle.types.specs.declared.atomics.atomic.Atomic.TheVariants as atomic
-use Rattle.values.specs.inside.writing.Effects.{Judged, kept, set, refused, atomic_takes}
+use Rattle.types.specs.declared.refusals.refusal.Refusal.TheVariants.{EntryMisfit}
+use Rattle.values.specs.declared.writing.limits.Misfit.{Misfit}
+use Rattle.values.specs.declared.writing.limits.Misfit.TheVariants.{Kind, Range}
+use Rattle.values.specs.inside.writing.Effects.{Judged, kept, set, refused, atomic_takes, number_in}
 use Rattle.values.specs.inside.writing.Limits.{above_misfit, signed_misfit, whole_misfit, limits_of, misfit, one_kind}
 use Rattle.values.specs.inside.writing.Limits.{wholes}
 use Rattle.values.specs.inside.writing.Passes.{CheckedFrom, accepted, first_kind, left_at}
@@ -47,24 +50,24 @@ not_null takes t e = rw (ne_eqb (kind_of t) 0 e) refl
 -- ---- one kind
 
 -- what is set, or a refusal
-judged_by : (b : Bits) (number : ℕ) → 1 ≤ number → (fits : Bool)
-    → Judged (cond fits (put b) (refuse number)) (cond fits 0 number)
-judged_by b number l true = set refl b refl
-judged_by b number l false = refused l refl
+judged_by : (b : Bits) (why : Misfit) (fits : Bool)
+    → Judged (cond fits (put b) (refuse (number_in why))) (cond fits None (Some why))
+judged_by b why true = set refl b refl
+judged_by b why false = refused why refl refl
 
 kind_judged : (kind : ℕ) (t : Token) (x : ℕ) → (kind ≡ 2 → ⊥) → (kind_of t ≡ 0 → ⊥)
     → Judged (of_kind kind t) (misfit (one_kind kind) (kind_of t) x)
 unfolding of_kind misfit
 kind_judged kind t x a n =
-    rw (ne_eqb (kind_of t) 0 n, ne_eqb kind 2 a) (judged_by (payload_bits t) 18 (omega arith) (eqb (kind_of t) kind))
+    rw (ne_eqb (kind_of t) 0 n, ne_eqb kind 2 a) (judged_by (payload_bits t) Kind (eqb (kind_of t) kind))
 
 -- ---- whole numbers in a range
 
 -- the numbers below zero, and the others
 two_tests : (b : Bits) (below low high : Bool) → Judged (cond (cond below low high) (put b) (refuse 19))
-    (cond below (cond low 0 19) (cond high 0 19))
-two_tests b true low high = judged_by b 19 (omega arith) low
-two_tests b false low high = judged_by b 19 (omega arith) high
+    (cond below (cond low None (Some Range)) (cond high None (Some Range)))
+two_tests b true low high = judged_by b Range low
+two_tests b false low high = judged_by b Range high
 
 module _ (low high under most : ℕ) (t : Token) (x : ℕ) (l : x < 2 ^ 64) (e : under + low + 1 ≡ 2 ^ 64)
     (f : most + 1 ≡ high) (p : (kind_of t ≡ 6 → ⊥) → payload_of 0 t ≡ x) where
@@ -81,12 +84,12 @@ module _ (low high under most : ℕ) (t : Token) (x : ℕ) (l : x < 2 ^ 64) (e :
   unsigned_judged n k =
       let same = p (λ h. let z : ⊥ = omega arith in z) in
       rw (ne_eqb (kind_of t) 2 n, eq-eqb (kind_of t) 3 k, same, below_most high most x f)
-      (judged_by (bit_of x) 19 (omega arith) (leb x most))
+      (judged_by (bit_of x) Range (leb x most))
 
   other_judged : (kind_of t ≡ 2 → ⊥) → (kind_of t ≡ 3 → ⊥)
       → Judged (whole low high t) (whole_misfit (wholes under most) (kind_of t) x)
   unfolding whole in_range whole_misfit signed_misfit above_misfit
-  other_judged n k = rw (ne_eqb (kind_of t) 2 n, ne_eqb (kind_of t) 3 k) (refused (omega arith) refl)
+  other_judged n k = rw (ne_eqb (kind_of t) 2 n, ne_eqb (kind_of t) 3 k) (refused Kind refl refl)
 
   whole_judged : (kind_of t ≡ 0 → ⊥) → Judged (whole low high t) (misfit (wholes under most) (kind_of t) x)
   unfolding misfit
@@ -152,15 +155,15 @@ shape atomic.LWord = bits_shape 64 (omega arith)
 
 -- ---- no atomic takes a text, a member, or a bracket
 
--- for a text, a member number or a bracket the limits of every atomic say 18
-pub above_misfits : (a : Atomic) (kind x : ℕ) → 6 ≤ kind → misfit (limits_of a) kind x ≡ 18
+-- for a text, a member number or a bracket the limits of every atomic say that it does not fit
+pub above_misfits : (a : Atomic) (kind x : ℕ) → 6 ≤ kind → misfit (limits_of a) kind x ≡ Some Kind
 unfolding misfit whole_misfit
 above_misfits a kind x l = go (shape a)
   where
     not : (j : ℕ) → j < 6 → eqb kind j ≡ false
     not j h = ne_eqb kind j (λ q. let z : ⊥ = omega (arith, l, h, q) in z)
 
-    go : {takes : Token → Effect} {f : Limits} → TakesBy takes f → misfit f kind x ≡ 18
+    go : {takes : Token → Effect} {f : Limits} → TakesBy takes f → misfit f kind x ≡ Some Kind
     go (one k n h e g) = rw (g, not 0 (omega arith), ne_eqb k 2 n, not k h) refl
     go (range low high under most a b e g) = rw (g, not 0 (omega arith), not 2 (omega arith), not 3 (omega arith)) refl
 
@@ -184,7 +187,7 @@ shape_judged (one kind n k e g) t x l p z = rw (e t, g) (kind_judged kind t x n 
 shape_judged (range low high under most a b e g) t x l p z =
     rw (e t, g) (whole_judged low high under most t x l a b p z)
 
-misfit_null : (f : Limits) (kind x : ℕ) → kind ≡ 0 → misfit f kind x ≡ 0
+misfit_null : (f : Limits) (kind x : ℕ) → kind ≡ 0 → misfit f kind x ≡ None
 unfolding misfit
 misfit_null f kind x e = rw (eq-eqb kind 0 e) refl
 
@@ -198,25 +201,12 @@ atomic_judged a t x l e = go (ℕ_discrete (kind_of t) 0)
     go (no n) = rw (not_null (atomic_takes a) t n) (shape_judged (shape a) t x l e n)
 
 -- the same of entry k, by what the code reads of it
-pub atomic_here : {s : List ℕ} {k : ℕ} → Bytes s → (a : Atomic) (t : EntryThere s k) {f : Limits} {kind x number : ℕ}
-    → f ≡ limits_of a → kind ≡ first_kind (left_at s k) → x ≡ payload_of_entry s k → number ≡ misfit f kind x
-    → Judged (or_null (atomic_takes a) t.token) number
+pub atomic_here : {s : List ℕ} {k : ℕ} → Bytes s → (a : Atomic) (t : EntryThere s k) {f : Limits} {kind x : ℕ}
+    {r : Option Misfit} → f ≡ limits_of a → kind ≡ first_kind (left_at s k) → x ≡ payload_of_entry s k
+    → r ≡ misfit f kind x → Judged (or_null (atomic_takes a) t.token) r
 atomic_here {s} {k} bytes a t e g h i =
     rw (i, e, g, kind_there t, h)
     (atomic_judged a t.token (payload_of_entry s k) (word_below 8 s (8 + 12 * k) bytes) t.payload)
-
--- the number that the limits say is below 20
-pub misfit_small : (f : Limits) (kind x : ℕ) {number : ℕ} → number ≡ misfit f kind x → number < 20
-unfolding misfit whole_misfit signed_misfit above_misfit
-misfit_small f kind x e =
-    let above = picked (◌< 20) (leb x f.most) 0 19 (omega arith) (omega arith) in
-    let below = picked (◌< 20) (ltb f.under x) 0 19 (omega arith) (omega arith) in
-    rw e
-    (picked (◌< 20) (eqb kind 0) _ _ (omega arith)
-    (picked (◌< 20) (eqb f.kind 2) _ _
-    (picked (◌< 20) (eqb kind 2) _ _ (picked (◌< 20) (leb 0x8000000000000000 x) _ _ below above)
-    (picked (◌< 20) (eqb kind 3) _ _ above (omega arith)))
-    (picked (◌< 20) (eqb kind f.kind) _ _ (omega arith) (omega arith))))
 
 -- what is set is the payload's bits
 data Sets (b : Bits) (e : Effect) : Type 0 where
@@ -259,11 +249,11 @@ flag_takes t = refl
 
 module _ (capacity : ℕ) (t : Token) where
   -- null, a text that is not too long, one that is, and another entry
-  pub text_null : kind_of t ≡ 0 → Judged (or_null (as_text capacity) t) 0
+  pub text_null : kind_of t ≡ 0 → Judged (or_null (as_text capacity) t) None
   text_null k = kept refl (null_keeps (as_text capacity) t k)
 
   -- a text that is not too long is taken
-  pub text_fits : kind_of t ≡ 6 → length (body_of t) ≤ capacity → Judged (or_null (as_text capacity) t) 0
+  pub text_fits : kind_of t ≡ 6 → length (body_of t) ≤ capacity → Judged (or_null (as_text capacity) t) None
   unfolding as_text
   text_fits k l =
       rw (not_null (as_text capacity) t (λ h. let z : ⊥ = omega arith in z))
@@ -271,26 +261,27 @@ module _ (capacity : ℕ) (t : Token) where
       (rw (eq-eqb (kind_of t) 6 k, le-leb (length (body_of t)) capacity l) refl))
 
   -- a text that is longer than the capacity is refused with 21
-  pub text_long : kind_of t ≡ 6 → capacity < length (body_of t) → Judged (or_null (as_text capacity) t) 21
+  pub text_long : kind_of t ≡ 6 → capacity < length (body_of t) → or_null (as_text capacity) t ≡ refuse 21
   unfolding as_text
   text_long k l =
       rw (not_null (as_text capacity) t (λ h. let z : ⊥ = omega arith in z))
-      (refused (omega arith) (rw (eq-eqb (kind_of t) 6 k, lt-leb (length (body_of t)) capacity l) refl))
+      (rw (eq-eqb (kind_of t) 6 k, lt-leb (length (body_of t)) capacity l) refl)
 
-  text_other : (kind_of t ≡ 0 → ⊥) → (kind_of t ≡ 6 → ⊥) → Judged (or_null (as_text capacity) t) 18
+  text_other : (kind_of t ≡ 0 → ⊥) → (kind_of t ≡ 6 → ⊥) → or_null (as_text capacity) t ≡ refuse 18
   unfolding as_text
-  text_other n k = rw (not_null (as_text capacity) t n) (refused (omega arith) (rw (ne_eqb (kind_of t) 6 k) refl))
+  text_other n k = rw (not_null (as_text capacity) t n) (rw (ne_eqb (kind_of t) 6 k) refl)
 
 -- no text and no null stands at entry k
-pub no_text : {s : List ℕ} {k r : ℕ} (capacity w p : ℕ) → stream_ok s ≡ true → k ≤ count_in s
-    → (first_kind (left_at s k) ≡ 0 → ⊥) → (first_kind (left_at s k) ≡ 6 → ⊥) → r ≡ 2 ^ 32 * 18 + k
-    → CheckedFrom s k r (write_one (or_null (as_text capacity)) w p (left_at s k))
-no_text {s} {k} {r} capacity w p form l a b e = go (dec_lt k (count_in s))
+pub no_text : {s : List ℕ} {k : ℕ} (capacity w p : ℕ) → stream_ok s ≡ true → k ≤ count_in s
+    → (first_kind (left_at s k) ≡ 0 → ⊥) → (first_kind (left_at s k) ≡ 6 → ⊥)
+    → CheckedFrom s k (Err (EntryMisfit k)) (write_one (or_null (as_text capacity)) w p (left_at s k))
+no_text {s} {k} capacity w p form l a b = go (dec_lt k (count_in s))
   where
-    go : Dec (k < count_in s) → CheckedFrom s k r (write_one (or_null (as_text capacity)) w p (left_at s k))
+    go : Dec (k < count_in s)
+        → CheckedFrom s k (Err (EntryMisfit k)) (write_one (or_null (as_text capacity)) w p (left_at s k))
     go (yes h) =
         let t = there s k form h in
         let kind = kind_there t in
         one_refused form (or_null (as_text capacity)) w p t
-        (text_other capacity t.token (λ q. a (kind ∙ q)) (λ q. b (kind ∙ q))) (λ q. omega arith) e
-    go (no h) = one_missing form (or_null (as_text capacity)) w p (omega arith) e
+        (text_other capacity t.token (λ q. a (kind ∙ q)) (λ q. b (kind ∙ q))) refl
+    go (no h) = one_missing form (or_null (as_text capacity)) w p (omega arith)

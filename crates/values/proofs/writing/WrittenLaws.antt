@@ -1,7 +1,8 @@
 -- The whole of a write (document 01, "Writing", "Refusal numbers"): 15, 14 and 17 leave the image as it was; so does
 -- the first bad entry, whose number in the stream is its place; else the image is what the entries make of it.
-use Prim.Native.Nat.{ℕ, ◌-◌, ◌/◌, ◌%◌, ◌^◌, ◌<◌, ◌≤◌}
-use native.Mathlib.Nat.{mod-eq_of_lt, sub-zero, zero-add}
+use Rattle.std.specs.Prelude.{Result, Ok, Err}
+use Prim.Native.Nat.{ℕ, ◌-◌, ◌<◌, ◌≤◌}
+use native.Mathlib.Nat.{sub-zero, zero-add}
 use native.Mathlib.Omega.{arith}
 use mathlib.Core.Path.{◌≡◌, refl, sym, ap, ◌∙◌, fun_ext}
 use mathlib.Core.Bool.{true, false}
@@ -29,8 +30,6 @@ use Rattle.values.specs.stream.Form.{count_in, stream_ok}
 use Rattle.values.specs.stream.Stream.{Token}
 use Rattle.values.specs.writing.Writing.{Outcome, ok, bad, ended, write, written}
 use Rattle.values.specs.writing.Written.{Done, bytes_after, taken_of, value_written, write_result}
-use Rattle.values.specs.declared.writing.write.Taken.{Taken}
-use Rattle.values.specs.declared.writing.write.Taken.TheVariants.{Whole, Refused}
 use Rattle.values.proofs.reading.ImageLaws.{fit_long, fit_there, unfit}
 use Rattle.values.proofs.reading.TreeLaws.{chars_part}
 use Rattle.values.proofs.stream.LeftLaws.{left_long, none_left, there}
@@ -72,7 +71,7 @@ module _ (types members : List ℕ) (t : Ty) (n : ℕ) (s image : List ℕ) (for
 
   at_bad : (x : Refusal) {q : ℕ} → place_of x ≡ q → q ≤ count_in s
       → ended (entries (flat image)) ≡ bad (number_of x) (left_at s q)
-      → Entered types members t n s image (Refused x) image
+      → Entered types members t n s image (Err x) image
   at_bad x {q} k l e =
       record {
         answer =
@@ -81,40 +80,38 @@ module _ (types members : List ℕ) (t : Ty) (n : ℕ) (s image : List ℕ) (for
       }
 
   -- where the check refuses, the call answers that refusal and leaves the image
-  pub refused_entered : {r : ℕ} (x : Refusal) → CheckedFrom s 0 r entries → 2 ^ 32 ≤ r → number_of x ≡ r / 2 ^ 32
-      → place_of x ≡ r % 2 ^ 32 → Entered types members t n s image (Refused x) image
-  refused_entered {r} x c l e f =
-      let w = c.refuses l in
-      at_bad x f w.inside (rw e (ap ended (w.gives (flat image))))
+  pub refused_entered : {why : Refusal} → CheckedFrom s 0 (Err why) entries
+      → Entered types members t n s image (Err why) image
+  refused_entered {why} c = at_bad why refl c.says.inside (ap ended (c.says.gives (flat image)))
 
   -- a refusal of the check has a number from 18 to 21
-  pub refused_number : {r : ℕ} → CheckedFrom s 0 r entries → 2 ^ 32 ≤ r → (18 ≤ r / 2 ^ 32) × (r / 2 ^ 32 ≤ 21)
-  refused_number {r} c l = bad_number tree 0 (left_at s 0) (flat image) ((c.refuses l).gives (flat image))
+  pub refused_number : {why : Refusal} → CheckedFrom s 0 (Err why) entries
+      → (18 ≤ number_of why) × (number_of why ≤ 21)
+  refused_number c = bad_number tree 0 (left_at s 0) (flat image) (c.says.gives (flat image))
 
   -- an entry that is left over
-  pub left_over : {r place : ℕ} → CheckedFrom s 0 r entries → r < 2 ^ 32 → r < count_in s → place ≡ r % 2 ^ 32
-      → Entered types members t n s image (Refused (EntryMisfit place)) image
-  left_over {r} {place} c l m e =
-      let w = c.goes l in
+  pub left_over : {r : ℕ} → CheckedFrom s 0 (Ok r) entries → r < count_in s
+      → Entered types members t n s image (Err (EntryMisfit r)) image
+  left_over {r} c m =
+      let w = c.says in
       let first = there s r form m in
-      let low : place ≡ r = e ∙ mod-eq_of_lt l in
       let over : ended (entries (flat image)) ≡ bad 18 (left_at s r)
       = ap ended ((w.gives (flat image)).1 ∙ ap (λ (ts : List Token). ok ts (w.gives (flat image)).0) first.left)
       ∙ ap (bad 18) (sym first.left) in
-      at_bad (EntryMisfit place) low (omega arith) over
+      at_bad (EntryMisfit r) refl (omega arith) over
 
-  module _ {r : ℕ} (c : CheckedFrom s 0 r entries) (l : r < 2 ^ 32) (all : count_in s ≤ r) where
+  module _ {r : ℕ} (c : CheckedFrom s 0 (Ok r) entries) (all : count_in s ≤ r) where
     -- where the check went past the last entry, the entries are accepted over this image
     pub all_accepted : accepted (entries (flat image)) ≡ true
-    all_accepted = ap accepted ((c.goes l).gives (flat image)).1
+    all_accepted = ap accepted (c.says.gives (flat image)).1
 
     -- where all entries are taken and set, nothing is refused
     pub entered_whole : {k : ℕ} {new : List ℕ} → Applied s 0 k image new entries → Bytes new
-        → Entered types members t n s image Whole new
+        → Entered types members t n s image (Ok tt) new
     entered_whole {k} {new} a b =
         let none = none_left s r all in
         let same : left_at s k ≡ []
-        = sym (ap rest_of a.gives) ∙ ap rest_of ((c.goes l).gives (flat image)).1 ∙ none in
+        = sym (ap rest_of a.gives) ∙ ap rest_of (c.says.gives (flat image)).1 ∙ none in
         let done : ended (entries (flat image)) ≡ ok [] (flat new)
         = ap ended (a.gives ∙ ap (λ (ts : List Token). ok ts (flat new)) same) in
         record {
@@ -126,20 +123,20 @@ module _ (types members : List ℕ) (t : Ty) (n : ℕ) (s image : List ℕ) (for
 -- ---- the call
 
 module _ (types members : List ℕ) (t : Ty) (n : ℕ) (s image : List ℕ) where
-  no_type : is_there types t ≡ false → Done types members t n s image (Refused NoSuchType) image
+  no_type : is_there types t ≡ false → Done types members t n s image (Err NoSuchType) image
   unfolding write_result
   no_type e = record { answer = rw e refl; leaves = rw e refl }
 
   no_image : is_there types t ≡ true → image_fits types t n image ≡ false
-      → Done types members t n s image (Refused ImageLength) image
+      → Done types members t n s image (Err ImageLength) image
   unfolding write_result
   no_image e f = record { answer = rw (e, f) refl; leaves = rw (e, f) refl }
 
   -- the ways out with 15 and 14: the image is not one of the type, and it is as it was
   pub unfit_write : {w : Refusal} → why w ≡ said_of_image types t n (length image)
-      → Done types members t n s image (Refused w) image
+      → Done types members t n s image (Err w) image
   unfit_write {w} e =
-      unfit types t n image (λ w. Done types members t n s image (Refused w) image) no_type no_image w e
+      unfit types t n image (λ w. Done types members t n s image (Err w) image) no_type no_image w e
 
   module _ (fits : done tt ≡ said_of_image types t n (length image)) where
     there_is : is_there types t ≡ true
@@ -149,12 +146,13 @@ module _ (types members : List ℕ) (t : Ty) (n : ℕ) (s image : List ℕ) wher
     long_is = fit_long types t n image fits
 
     -- the way out with 17: the stream is malformed, and the image is as it was
-    pub no_stream : stream_ok s ≡ false → Done types members t n s image (Refused StreamMalformed) image
+    pub no_stream : stream_ok s ≡ false → Done types members t n s image (Err StreamMalformed) image
     unfolding write_result
     no_stream e = record { answer = rw (there_is, long_is, e) refl; leaves = rw (there_is, long_is, e) refl }
 
     -- past these three tests the call answers and leaves what the entries do
-    pub entered_done : {r : Taken} {new : List ℕ} → stream_ok s ≡ true → Entered types members t n s image r new
+    pub entered_done : {r : Result (Unit {0}) Refusal} {new : List ℕ} → stream_ok s ≡ true
+        → Entered types members t n s image r new
         → Done types members t n s image r new
     unfolding write_result
     entered_done e w =

@@ -1,23 +1,17 @@
 -- Reading (document 01, "Reading", "Refusal numbers"): the stream of a value, and what the call answers and leaves: 15,
 -- 14, 16 in that order, and then nothing is written; else the stream, and the bytes past it kept.
-use Rattle.std.specs.Prelude.{ℕ, ◌*◌, min, Bool, cond, List, ◌≡◌, eqb, leb, length}
+use Rattle.std.specs.Prelude.{ℕ, ◌*◌, min, Bool, cond, List, ◌≡◌, eqb, leb, length, Result}
 use Rattle.std.proofs.lemmas.List.Edits.{sets}
 use Rattle.words.specs.Bits.{flat}
+use Rattle.types.specs.declared.refusals.refusal.Refusal.{Refusal}
 use Rattle.types.specs.layout.Placing.{times}
-use Rattle.types.specs.refusals.Said.{Said, done, refused, why}
+use Rattle.types.specs.refusals.Said.{Said, done, refused, said_by}
 use Rattle.types.specs.tables.Sizes.{size_in, sizes_in}
 use Rattle.types.specs.tables.There.{is_there}
 use Rattle.types.specs.declared.tables.member.Ty.{Ty}
 use Rattle.values.specs.reading.Tree.{Tree, items, read}
 use Rattle.values.specs.reading.Trees.{known_in, tree_of_value}
 use Rattle.values.specs.stream.Stream.{stream_bytes, most_bytes}
-use Rattle.values.specs.declared.reading.read.Streamed.{Streamed}
-use Rattle.values.specs.declared.reading.read.Streamed.TheVariants.{Length, Refused}
-
--- what an answer says: the stream's length, or a refusal
-abbrev pub said_by : Streamed → Said ℕ
-said_by (Length n) = done n
-said_by (Refused r) = why r
 
 -- the stream of an image of a tree
 unfoldable pub stream_of : Tree → List ℕ → List ℕ
@@ -50,7 +44,7 @@ abbrev pub left_by : Said ℕ → List ℕ → List ℕ → List ℕ
 left_by (done n) out stream = sets out 0 stream
 left_by (refused number place) out stream = out
 
-pub record Answered (types members : List ℕ) (t : Ty) (n : ℕ) (image out : List ℕ) (r : Streamed) (new : List ℕ)
+pub record Answered (types members : List ℕ) (t : Ty) (n : ℕ) (image out : List ℕ) (r : Result ℕ Refusal) (new : List ℕ)
     : Type 0 where
   pub answer : said_by r ≡ read_answer types members t n image (length out)
   pub leaves : new ≡ left_by (read_answer types members t n image (length out)) out

@@ -1,12 +1,15 @@
 -- The stored text of a string (document 01, "Reading": handed back as that part of the caller's image; "Refusal
 -- numbers"): min(LEN, capacity) bytes of DATA; 15 for no such type or no string type, then 14 for an image that is not
 -- of the type's size, else 0.
-use Rattle.std.specs.Prelude.{ℕ, ◌+◌, cond, List, [], ◌≡◌, eqb, length}
+use denote.Bor.{Bor}
+use Rattle.std.specs.Prelude.{ℕ, ◌+◌, cond, List, [], ◌≡◌, eqb, length, Result, Ok, Err, IfOk}
 use Rattle.words.specs.Bits.{flat}
 use Rattle.words.specs.Words.{part}
 use Rattle.types.specs.tables.Lent.{member_at, type_at}
 use Rattle.types.specs.tables.Sizes.{sizes_in}
 use Rattle.types.specs.tables.There.{is_there}
+use Rattle.types.specs.declared.refusals.refusal.Refusal.{Refusal}
+use Rattle.types.specs.refusals.Said.{Said, done, refused, why}
 use Rattle.types.specs.declared.tables.member.Ty.{Ty}
 use Rattle.types.specs.declared.tables.member.Ty.TheVariants as ty
 use Rattle.values.specs.reading.Leaf.{clipped}
@@ -47,19 +50,25 @@ unfoldable pub text_part : List ℕ → List ℕ → Ty → List ℕ → List �
 text_part types members t image =
     cond (eqb (text_number types t image) 0) (text_in (capacity_of types members t) image) []
 
--- where in the image the part begins: after LEN, and an empty part at the image's start
-abbrev pub text_start : ℕ → ℕ
-text_start number = cond (eqb number 0) 4 0
+-- the answer: the text, or the refusal
+unfoldable pub text_answer : List ℕ → List ℕ → Ty → List ℕ → Said (List ℕ)
+text_answer types members t image =
+    cond (eqb (text_number types t image) 0) (done (text_part types members t image))
+    (refused (text_number types t image) 0)
 
--- a place in memory: the number of a block of memory, and a byte's number in that block
-abbrev pub Address : Type 0
-Address = ℕ × ℕ
+-- what an answer with a part says: the part's bytes, or the refusal
+abbrev pub said_of_part : Result (Bor (List ℕ)) Refusal → Said (List ℕ)
+said_of_part (Ok part) = done part.now
+said_of_part (Err w) = why w
 
--- what a caller who asks for the text of the image at an address gets: a number, and the part at another address; that
--- it is the very part of the image, and no other bytes like it, is said by its block and the byte where it begins
-pub record Stored (types members : List ℕ) (t : Ty) (image : List ℕ) (whole : Address) (number : ℕ) (part : List ℕ)
-    (place : Address) : Type 0 where
-  pub why : number ≡ text_number types t image
-  pub text : part ≡ text_part types members t image
-  pub block : place.0 ≡ whole.0
-  pub start : place.1 ≡ whole.1 + text_start number
+-- a part is the very part of the image behind LEN, and no other bytes like it: it lies in the image's block of memory,
+-- and begins 4 bytes after the image
+pub record VeryPart (image part : Bor (List ℕ)) : Type 0 where
+  pub block : part.ref_ptr.0 ≡ image.ref_ptr.0
+  pub start : part.ref_ptr.1 ≡ image.ref_ptr.1 + 4
+
+-- what a caller who asks for the text of an image gets
+pub record Stored (types members : List ℕ) (t : Ty) (image : Bor (List ℕ)) (r : Result (Bor (List ℕ)) Refusal)
+    : Type 0 where
+  pub answer : said_of_part r ≡ text_answer types members t image.now
+  pub place : IfOk r (VeryPart image)

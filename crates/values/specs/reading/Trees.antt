@@ -1,13 +1,11 @@
 -- The tree of a type (document 01, "Value stream"), made from what is known of each structure; no tables are in it. A
 -- structure holds only earlier ones, so that 200 steps of nesting are enough.
-use Rattle.std.specs.Prelude.{ℕ, zero, suc, ◌+◌, ◌*◌, Bool, true, false, cond, List, [], ◌∷◌, eqb}
+use Rattle.std.specs.Prelude.{ℕ, zero, suc, ◌+◌, ◌*◌, Bool, true, false, cond, List, [], ◌∷◌, eqb, Option, Some, None}
 use Rattle.types.specs.atomics.Atomic.{bit_string, size_of}
 use Rattle.types.specs.layout.Laid.{first_bit}
 use Rattle.types.specs.tables.Lent.{member_at, type_at}
 use Rattle.types.specs.tables.Limits.{most_types}
 use Rattle.types.specs.declared.atomics.atomic.Atomic.{Atomic}
-use Rattle.types.specs.declared.tables.member.Bit.{Bit}
-use Rattle.types.specs.declared.tables.member.Bit.TheVariants.{None, At}
 use Rattle.types.specs.declared.tables.member.Member.{Member}
 use Rattle.types.specs.declared.tables.member.StructKind.{StructKind}
 use Rattle.types.specs.declared.tables.member.StructKind.TheVariants.{Udt, Predefined, Str, Aoi}
@@ -54,9 +52,9 @@ atomics_tree a n =
     cond (bit_string a) (bits (8 * size_of a) n) (cond (eqb n 0) (leaf (leaf_of a)) (array n (leaf (leaf_of a))))
 
 -- a BOOL of a structure is one bit
-abbrev pub bit_tree : Bit → Tree → Tree
+abbrev pub bit_tree : Option ℕ → Tree → Tree
 bit_tree None t = t
-bit_tree (At k) t = leaf flag
+bit_tree (Some k) t = leaf flag
 
 -- a hidden member is left out
 abbrev pub seen : Bool → ℕ → ℕ → Tree → Branches → Branches

@@ -1,6 +1,7 @@
 -- Entries by value (document 01, "Value stream"): the number of each kind, its payload, its twelve bytes, and what
 -- twelve bytes say.
 use Rattle.std.specs.Prelude.{ℕ, ◌+◌, ◌*◌, ◌^◌, ◌<◌, true, false, cond, Bool, ◌&&◌, List, [], ◌∷◌, ◌≡◌, eqb, leb, ltb}
+use Rattle.std.specs.Prelude.{Option, Some, None}
 use Rattle.std.specs.Prelude.{get_or, length}
 use Rattle.std.proofs.lemmas.List.Edits.{sets}
 use Rattle.words.specs.Bits.{digit}
@@ -9,8 +10,6 @@ use Rattle.types.specs.refusals.Said.{Said, done, refused}
 use Rattle.values.specs.stream.Stream.{entry_bytes}
 use Rattle.values.specs.declared.stream.entry.Entry.{Entry}
 use Rattle.values.specs.declared.stream.entry.Entry.TheVariants as entry
-use Rattle.values.specs.declared.stream.entry.Loaded.{Loaded}
-use Rattle.values.specs.declared.stream.entry.Loaded.TheVariants.{Is, Malformed}
 
 -- 0 null, 1 bool, 2 signed, 3 unsigned, 4 REAL bits, 5 LREAL bits, 6 text, 7 member number, 8 and 9 structure open and
 -- close, 10 and 11 array open and close
@@ -63,16 +62,16 @@ abbrev pub bytes_of_entry : Entry → List ℕ
 bytes_of_entry e = entry_bytes (entry_kind e) (entry_payload e)
 
 -- so does what was loaded
-abbrev pub LoadedFits : Loaded → Type 0
-LoadedFits (Is e) = EntryFits e
-LoadedFits Malformed = Unit {0}
+abbrev pub LoadedFits : Option Entry → Type 0
+LoadedFits (Some e) = EntryFits e
+LoadedFits None = Unit {0}
 
 -- ---- what twelve bytes say
 
 -- what an answer says: an entry's kind and its payload, or 17
-abbrev pub said_by : Loaded → Said (ℕ × ℕ)
-said_by (Is e) = done (entry_kind e, entry_payload e)
-said_by Malformed = refused 17 0
+abbrev pub said_by : Option Entry → Said (ℕ × ℕ)
+said_by (Some e) = done (entry_kind e, entry_payload e)
+said_by None = refused 17 0
 
 -- whether a number of 64 bits is right as a payload of each kind, 0 to 11: a bool is 0 or 1, REAL bits and a member's
 -- number have 32 bits, and unused payload is zero

@@ -1,9 +1,10 @@
 -- Writing (document 01, "Writing", "Refusal numbers"): what the call answers and leaves: 15, 14, 17 in that order, then
 -- the first bad entry with its number in the stream, the entry count where one is missing; and after a refusal the
 -- image is as it was.
-use Rattle.std.specs.Prelude.{ℕ, ◌-◌, cond, List, ◌≡◌, length}
+use Rattle.std.specs.Prelude.{ℕ, ◌-◌, cond, List, ◌≡◌, length, Result}
 use Rattle.words.specs.Bits.{flat}
-use Rattle.types.specs.refusals.Said.{Said, done, refused, why}
+use Rattle.types.specs.declared.refusals.refusal.Refusal.{Refusal}
+use Rattle.types.specs.refusals.Said.{Said, done, refused, said_by}
 use Rattle.types.specs.tables.There.{is_there}
 use Rattle.types.specs.declared.tables.member.Ty.{Ty}
 use Rattle.values.specs.reading.Leaf.{chars}
@@ -12,13 +13,6 @@ use Rattle.values.specs.reading.Trees.{known_in, tree_of_value}
 use Rattle.values.specs.stream.Decode.{tokens_in}
 use Rattle.values.specs.stream.Form.{count_in, stream_ok}
 use Rattle.values.specs.writing.Writing.{Outcome, ok, bad, written}
-use Rattle.values.specs.declared.writing.write.Taken.{Taken}
-use Rattle.values.specs.declared.writing.write.Taken.TheVariants.{Whole, Refused}
-
--- what an answer says: no value, or a refusal
-abbrev pub said_by : Taken → Said (Unit {0})
-said_by Whole = done tt
-said_by (Refused r) = why r
 
 -- of n entries, the first of those that are left is number n less how many are left
 abbrev pub taken_of : ℕ → Outcome → Said (Unit {0})
@@ -36,17 +30,17 @@ value_written types members t n s image =
     written (tree_of_value (known_in types members) t n) (tokens_in s) (flat image)
 
 -- a call's answer, and the image it leaves
-pub record Result : Type 0 where
+pub record WriteResult : Type 0 where
   pub answer : Said (Unit {0})
   pub image : List ℕ
 
-abbrev pub refusing : ℕ → List ℕ → Result
+abbrev pub refusing : ℕ → List ℕ → WriteResult
 refusing number image = record { answer = refused number 0; image = image }
 
-abbrev pub taking : ℕ → Outcome → List ℕ → Result
+abbrev pub taking : ℕ → Outcome → List ℕ → WriteResult
 taking n w image = record { answer = taken_of n w; image = bytes_after w image }
 
-unfoldable pub write_result : List ℕ → List ℕ → Ty → ℕ → List ℕ → List ℕ → Result
+unfoldable pub write_result : List ℕ → List ℕ → Ty → ℕ → List ℕ → List ℕ → WriteResult
 write_result types members t n s image =
     cond (is_there types t)
     (cond (image_fits types t n image)
@@ -55,6 +49,7 @@ write_result types members t n s image =
     (refusing 14 image))
     (refusing 15 image)
 
-pub record Done (types members : List ℕ) (t : Ty) (n : ℕ) (s image : List ℕ) (r : Taken) (new : List ℕ) : Type 0 where
+pub record Done (types members : List ℕ) (t : Ty) (n : ℕ) (s image : List ℕ) (r : Result (Unit {0}) Refusal)
+    (new : List ℕ) : Type 0 where
   pub answer : said_by r ≡ (write_result types members t n s image).answer
   pub leaves : new ≡ (write_result types members t n s image).image

@@ -8,25 +8,14 @@ ghost use Rattle.values.specs.inside.normal_image.InPlace.{RowsHere, flag_bit, f
 ghost use Rattle.values.specs.reading.Trees.{members_at};
 
 use crate::writing::bools::put_bit;
-use types::{Bit, Member, MemberTable, member_row};
-use words::{bit_at, wide};
-
-// The place of a bit inside its byte.
-fn bit_in_byte(k: usize) -> u8
-    ensures { (result ≡ k % 8) × (result < 8) }
-{
-    (k % 8) as u8
-}
+use types::{Member, MemberTable, member_row};
+use words::bit_at;
 
 // The bit of a visible BOOL of a host; no other member has one.
-fn flag_bit(m: Member) -> Bit
+fn flag_bit(m: Member) -> Option<u8>
     ensures { result ≡ flag_bit m }
 {
-    let hidden = m.hidden;
-    if hidden {
-        return Bit::None;
-    }
-    m.bit
+    if m.hidden { None } else { m.bit }
 }
 
 // One member, if it is a visible BOOL, kept as bit k.
@@ -45,16 +34,9 @@ fn keep_flag(
         (flat kept.old) }
 {
     let m = member_row(members, row);
-    match flag_bit(m) {
-        Bit::At(b) => {
-            put_bit(
-                kept,
-                k / 8,
-                bit_in_byte(k),
-                bit_at(image, base + wide(m.offset), b),
-            );
-        }
-        Bit::None => {}
+    if let Some(b) = flag_bit(m) {
+        let value = bit_at(image, base + m.offset as usize, b);
+        put_bit(kept, k / 8, (k % 8) as u8, value);
     }
 }
 
@@ -72,10 +54,8 @@ pub fn keep_flags(
         → flat kept.new k
         ≡ flat image.now (8 * base + first_bit (member_at members.now (first + k))) }
 {
-    let mut k: usize = 0;
-    while k < n {
+    for k in 0..n {
         keep_flag(members, first + k, k, image, base, kept);
-        k += 1;
     }
 }
 
@@ -88,16 +68,9 @@ fn put_flag(members: &MemberTable, row: usize, k: usize, kept: &[u8], image: &mu
         (flat image.old) }
 {
     let m = member_row(members, row);
-    match flag_bit(m) {
-        Bit::At(b) => {
-            put_bit(
-                image,
-                base + wide(m.offset),
-                b,
-                bit_at(kept, k / 8, bit_in_byte(k)),
-            );
-        }
-        Bit::None => {}
+    if let Some(b) = flag_bit(m) {
+        let value = bit_at(kept, k / 8, (k % 8) as u8);
+        put_bit(image, base + m.offset as usize, b, value);
     }
 }
 
@@ -113,9 +86,7 @@ pub fn put_flags(
     ensures { flat image.new ≡ flagged (flat kept.now) (8 * base) 0
         (members_at members.now first n) (flat image.old) }
 {
-    let mut k: usize = 0;
-    while k < n {
+    for k in 0..n {
         put_flag(members, first + k, k, kept, image, base);
-        k += 1;
     }
 }

@@ -9,9 +9,7 @@ ghost use Rattle.values.specs.normal_image.Normalised.{MadeNormal, value_normal}
 use crate::normal_image::leaves::normal_atomics;
 use crate::normal_image::walk::{normal_elements, normal_struct};
 use crate::reading::images::image_fit;
-use crate::stream::tokens::as_size;
-use crate::writing::write::Taken;
-use types::{Fit, MemberTable, Ty, TypeTable};
+use types::{MemberTable, Refusal, Ty, TypeTable};
 
 // A value of n elements, or of one where n is 0.
 fn normal_value(types: &TypeTable, members: &MemberTable, ty: Ty, n: usize, image: &mut [u8])
@@ -20,16 +18,9 @@ fn normal_value(types: &TypeTable, members: &MemberTable, ty: Ty, n: usize, imag
         ≡ value_normal types.now members.now ty n image.old }
 {
     match ty {
-        Ty::Atomic(a) => {
-            normal_atomics(a, n, image, 0);
-        }
-        Ty::Struct(i) => {
-            if n == 0 {
-                normal_struct(types, members, i, image, 0);
-                return;
-            }
-            normal_elements(types, members, i, n, image, 0);
-        }
+        Ty::Atomic(a) => normal_atomics(a, n, image, 0),
+        Ty::Struct(i) if n == 0 => normal_struct(types, members, i, image, 0),
+        Ty::Struct(i) => normal_elements(types, members, i, n, image, 0),
     }
 }
 
@@ -41,16 +32,12 @@ pub fn normal(
     ty: Ty,
     count: u64,
     image: &mut [u8],
-) -> Taken
+) -> Result<(), Refusal>
     requires { KeptRows types.now members.now }
     ensures { MadeNormal types.now members.now ty count image.old result
         image.new }
 {
-    match image_fit(types, ty, count, image.len()) {
-        Fit::Refused(why) => Taken::Refused(why),
-        Fit::Fits => {
-            normal_value(types, members, ty, as_size(count), image);
-            Taken::Whole
-        }
-    }
+    image_fit(types, ty, count, image.len())?;
+    normal_value(types, members, ty, count as usize, image);
+    Ok(())
 }

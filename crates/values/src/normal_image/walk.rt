@@ -13,9 +13,7 @@ ghost use Rattle.values.specs.reading.Trees.{members_at};
 use crate::normal_image::flags::{keep_flags, put_flags};
 use crate::normal_image::leaves::{normal_atomics, normal_text};
 use crate::reading::rows::{capacity_at, is_plain, is_string, struct_size, times_of};
-use crate::writing::sets::clear;
-use types::{MemberTable, Ty, TypeTable, member_row, size_of, type_row};
-use words::wide;
+use types::{MemberTable, Ty, TypeTable, member_row, type_row};
 
 // A bit for each row of the table of members.
 const FLAG_BYTES: usize = 250;
@@ -34,22 +32,19 @@ pub fn normal_struct(
         ≡ made (tree_in types.now members.now i) (8 * base) (flat image.old) }
 {
     let d = type_row(types, i);
-    let kind = d.kind;
-    let first = wide(d.first);
-    let count = wide(d.count);
-    if is_string(kind) {
-        let capacity = capacity_at(members, first);
-        normal_text(capacity, image, base);
+    let first = d.first as usize;
+    if is_string(d.kind) {
+        normal_text(capacity_at(members, first), image, base);
         return;
     }
+    let count = d.count as usize;
     let mut kept = [0u8; FLAG_BYTES];
     keep_flags(members, first, count, image, base, &mut kept);
     sweep(types, members, i, image, base);
     put_flags(members, first, count, &kept, image, base);
 }
 
-// Its visible members that are no BOOLs made normal, and all between them cleared. The loop begins as any over a
-// structure's rows.
+// Its visible members that are no BOOLs made normal, and all between them cleared.
 #[cycle(clearing)]
 fn sweep(types: &TypeTable, members: &MemberTable, i: usize, image: &mut [u8], base: usize)
     requires { Sweepable types.now members.now × Here types.now i base image.old }
@@ -59,17 +54,14 @@ fn sweep(types: &TypeTable, members: &MemberTable, i: usize, image: &mut [u8], b
         (type_at types.now i).count) 0 (flat image.old) }
 {
     let d = type_row(types, i);
-    let first = wide(d.first);
-    let count = wide(d.count);
-    let mut c: usize = 0;
-    let mut k: usize = 0;
-    while k < count {
+    let first = d.first as usize;
+    let mut c = 0;
+    for k in 0..d.count as usize {
         if is_plain(members, first + k) {
             c = normal_member(types, members, i, first + k, image, base, c);
         }
-        k += 1;
     }
-    clear(image, base + c, wide(d.size) - c);
+    image[base + c..base + d.size as usize].fill(0);
 }
 
 // The member in a row of structure i, which begins at `base`; what is between byte c of it and the member is cleared.
@@ -90,23 +82,21 @@ fn normal_member(
         (member_at members.now row) image.old image.new result }
 {
     let m = member_row(members, row);
-    let start = wide(m.offset);
-    let count = wide(m.count);
-    let ty = m.ty;
-    clear(image, base + c, start - c);
-    match ty {
+    let start = m.offset as usize;
+    let count = m.count as usize;
+    image[base + c..base + start].fill(0);
+    match m.ty {
         Ty::Atomic(a) => {
             normal_atomics(a, count, image, base + start);
-            return start + size_of(a) * times_of(count);
+            start + a.size() as usize * times_of(count)
+        }
+        Ty::Struct(t) if count == 0 => {
+            normal_struct(types, members, t, image, base + start);
+            start + struct_size(types, t)
         }
         Ty::Struct(t) => {
-            let size = struct_size(types, t);
-            if count == 0 {
-                normal_struct(types, members, t, image, base + start);
-                return start + size;
-            }
             normal_elements(types, members, t, count, image, base + start);
-            return start + size * count;
+            start + struct_size(types, t) * count
         }
     }
 }
@@ -130,9 +120,7 @@ pub fn normal_elements(
     if size == 0 {
         return;
     }
-    let mut e: usize = 0;
-    while e < count {
+    for e in 0..count {
         normal_struct(types, members, i, image, base + size * e);
-        e += 1;
     }
 }

@@ -10,14 +10,14 @@ ghost use Rattle.values.specs.inside.stream.Laying.{EntriesPut};
 use crate::reading::runs::put_run;
 use crate::stream::entry::put_entry;
 use crate::stream::kinds;
-use types::{Atomic, is_bits};
+use types::Atomic;
 
 // Bit k of a byte.
 fn bit_of(x: u8, k: u8) -> u64
     requires { k < 8 }
     ensures { result ≡ digit (bit_of x k) }
 {
-    ((x >> k) % 2) as u64
+    u64::from((x >> k) % 2)
 }
 
 // The eight bits of a byte.
@@ -25,14 +25,9 @@ fn put_eight(x: u8, out: &mut [u8], at: usize)
     requires { at + 96 ≤ length out.old }
     ensures { EntriesPut out.old at (up_to (bit_token (x ∷ [])) 8) out.new (at + 96) }
 {
-    put_entry(out, at, kinds::BOOL, bit_of(x, 0));
-    put_entry(out, at + 12, kinds::BOOL, bit_of(x, 1));
-    put_entry(out, at + 24, kinds::BOOL, bit_of(x, 2));
-    put_entry(out, at + 36, kinds::BOOL, bit_of(x, 3));
-    put_entry(out, at + 48, kinds::BOOL, bit_of(x, 4));
-    put_entry(out, at + 60, kinds::BOOL, bit_of(x, 5));
-    put_entry(out, at + 72, kinds::BOOL, bit_of(x, 6));
-    put_entry(out, at + 84, kinds::BOOL, bit_of(x, 7));
+    for k in 0..8 {
+        put_entry(out, at + 12 * usize::from(k), kinds::BOOL, bit_of(x, k));
+    }
 }
 
 // All bits of some bytes as an array.
@@ -43,11 +38,9 @@ fn put_bits(s: &[u8], out: &mut [u8], at: usize) -> usize
 {
     put_entry(out, at, kinds::ARRAY_OPEN, 0);
     let mut p = at + 12;
-    let mut i: usize = 0;
-    while i < s.len() {
-        put_eight(s[i], out, p);
+    for &x in s {
+        put_eight(x, out, p);
         p += 96;
-        i += 1;
     }
     put_entry(out, p, kinds::ARRAY_CLOSE, 0);
     p + 12
@@ -71,11 +64,11 @@ pub fn put_atomics(a: Atomic, n: usize, s: &[u8], out: &mut [u8], at: usize) -> 
         × (at + 12 * length (atomics_out a n s.now) ≤ length out.old) }
     ensures { EntriesPut out.old at (atomics_out a n s.now) out.new result }
 {
-    if is_bits(a) {
-        return put_bits(s, out, at);
+    if a.is_bit_string() {
+        put_bits(s, out, at)
+    } else if n == 0 {
+        put_run(a, 1, s, out, at)
+    } else {
+        put_numbers(a, n, s, out, at)
     }
-    if n == 0 {
-        return put_run(a, 1, s, out, at);
-    }
-    put_numbers(a, n, s, out, at)
 }

@@ -9,7 +9,7 @@ use crate::stream::kinds;
 use types::Atomic;
 
 // The kind of a number's entry; from which number on it is negative, and what then stands above it.
-#[derive(Clone, Copy)]
+#[derive(Clone, Copy, Debug, PartialEq, Eq)]
 pub struct Form {
     pub kind: u8,
     pub half: u64,
@@ -46,16 +46,10 @@ pub fn form_of(a: Atomic) -> Form
         Atomic::Int => signed(0x8000, 0xFFFF_FFFF_FFFF_0000),
         Atomic::DInt => signed(0x8000_0000, 0xFFFF_FFFF_0000_0000),
         Atomic::LInt => plain(kinds::SIGNED),
-        Atomic::USInt => plain(kinds::UNSIGNED),
-        Atomic::UInt => plain(kinds::UNSIGNED),
-        Atomic::UDInt => plain(kinds::UNSIGNED),
-        Atomic::ULInt => plain(kinds::UNSIGNED),
+        Atomic::USInt | Atomic::UInt | Atomic::UDInt | Atomic::ULInt => plain(kinds::UNSIGNED),
+        Atomic::Byte | Atomic::Word | Atomic::DWord | Atomic::LWord => plain(kinds::UNSIGNED),
         Atomic::Real => plain(kinds::REAL),
         Atomic::LReal => plain(kinds::LREAL),
-        Atomic::Byte => plain(kinds::UNSIGNED),
-        Atomic::Word => plain(kinds::UNSIGNED),
-        Atomic::DWord => plain(kinds::UNSIGNED),
-        Atomic::LWord => plain(kinds::UNSIGNED),
     }
 }
 
@@ -64,8 +58,7 @@ pub fn extend(f: Form, x: u64) -> u64
     requires { x + f.fill < 2 ^ 64 }
     ensures { result ≡ extended f x }
 {
-    let half = f.half;
-    if x < half {
+    if x < f.half {
         return x;
     }
     x + f.fill
@@ -75,17 +68,11 @@ pub fn extend(f: Form, x: u64) -> u64
 pub fn truth(x: u8) -> u64
     ensures { result ≡ digit (is_true x) }
 {
-    if x == 0 {
-        return 0;
-    }
-    1
+    u64::from(x != 0)
 }
 
 pub fn truth_of(b: bool) -> u64
     ensures { result ≡ digit b }
 {
-    if b {
-        return 1;
-    }
-    0
+    u64::from(b)
 }

@@ -19,16 +19,8 @@ use crate::stream::count::{count_atomics, count_structs};
 use crate::stream::form::MOST_BYTES;
 use crate::stream::lengths::{text_elements, text_struct};
 use crate::stream::place::Place;
-use crate::stream::tokens::as_size;
-use types::{Fit, MemberTable, Refusal, Ty, TypeTable};
-use words::{least, store32};
-
-// The stream's length, or a refusal.
-#[derive(Clone, Copy)]
-pub enum Streamed {
-    Length(usize),
-    Refused(Refusal),
-}
+use types::{MemberTable, Refusal, Ty, TypeTable};
+use words::Word;
 
 // How many entries a value has, and whether one is a text.
 fn count_value(
@@ -64,9 +56,10 @@ fn text_structs(
         image.now) result }
 {
     if n == 0 {
-        return text_struct(types, members, i, image, room);
+        text_struct(types, members, i, image, room)
+    } else {
+        text_elements(types, members, i, n, image, room)
     }
-    text_elements(types, members, i, n, image, room)
 }
 
 // And a value, of which is known whether it has any.
@@ -111,9 +104,10 @@ fn read_structs(
         result }
 {
     if n == 0 {
-        return read_struct(types, members, i, image, out, base, 4, 0);
+        read_struct(types, members, i, image, out, base, 4, 0)
+    } else {
+        read_elements(types, members, i, n, image, out, base, 4, 0)
     }
-    read_elements(types, members, i, n, image, out, base, 4, 0)
 }
 
 // The entries and the texts of a value.
@@ -132,13 +126,11 @@ fn read_value(
         (value_out types.now members.now ty n image.now) out.new result }
 {
     match ty {
-        Ty::Atomic(a) => {
-            let next = put_atomics(a, n, image, out, 4);
-            return Place { at: next, text: 0 };
-        }
-        Ty::Struct(i) => {
-            return read_structs(types, members, i, n, image, out, base);
-        }
+        Ty::Atomic(a) => Place {
+            at: put_atomics(a, n, image, out, 4),
+            text: 0,
+        },
+        Ty::Struct(i) => read_structs(types, members, i, n, image, out, base),
     }
 }
 
@@ -152,7 +144,7 @@ fn read_within(
     image: &[u8],
     out: &mut [u8],
     room: usize,
-) -> Streamed
+) -> Result<usize, Refusal>
     requires walkable { Walkable types.now members.now × ValueImage types.now ty n image.now }
     requires most_room { room + 4 ≡ min (length out.old) most_bytes }
     ensures { StreamWritten types.now members.now ty n image.now
@@ -162,17 +154,17 @@ fn read_within(
     let mut texts = false;
     let entries = count_value(types, members, ty, n, most, &mut texts);
     if most < entries {
-        return Streamed::Refused(Refusal::NoRoom);
+        return Err(Refusal::NoRoom);
     }
     let left = room - 12 * entries;
     let text = text_value(types, members, ty, n, image, left, texts);
     if left < text {
-        return Streamed::Refused(Refusal::NoRoom);
+        return Err(Refusal::NoRoom);
     }
-    store32(out, 0, entries as u32);
+    (entries as u32).store(out, 0);
     let base = 4 + 12 * entries;
     read_value(types, members, ty, n, image, out, base);
-    Streamed::Length(base + text)
+    Ok(base + text)
 }
 
 // The stream of a value of a type, of `count` elements where `count` is not 0, from the buffer's start on: its length;
@@ -184,20 +176,15 @@ pub fn read(
     count: u64,
     image: &[u8],
     out: &mut [u8],
-) -> Streamed
+) -> Result<usize, Refusal>
     requires { KeptRows types.now members.now }
     ensures { Answered types.now members.now ty count image.now
         out.old result out.new }
 {
-    match image_fit(types, ty, count, image.len()) {
-        Fit::Refused(why) => Streamed::Refused(why),
-        Fit::Fits => {
-            let most = least(out.len(), MOST_BYTES);
-            if most < 4 {
-                return Streamed::Refused(Refusal::NoRoom);
-            }
-            let n = as_size(count);
-            return read_within(types, members, ty, n, image, out, most - 4);
-        }
+    image_fit(types, ty, count, image.len())?;
+    let most = out.len().min(MOST_BYTES);
+    if most < 4 {
+        return Err(Refusal::NoRoom);
     }
+    read_within(types, members, ty, count as usize, image, out, most - 4)
 }

@@ -10,17 +10,13 @@ ghost use Rattle.values.specs.inside.reading.Walkable.{HeldIn};
 ghost use Rattle.values.specs.reading.Texts.{capacity_at};
 ghost use Rattle.values.specs.reading.Trees.{is_string_kind};
 
-use types::{Bit, MemberTable, StructKind, Ty, TypeTable, member_row, type_row};
-use words::wide;
+use types::{MemberTable, StructKind, Ty, TypeTable, member_row, type_row};
 
 // A count of 0 is one.
 pub fn times_of(n: usize) -> usize
     ensures { result ≡ times n }
 {
-    if n == 0 {
-        return 1;
-    }
-    n
+    n.max(1)
 }
 
 // The bytes of structure i.
@@ -28,19 +24,13 @@ pub fn struct_size(types: &TypeTable, i: usize) -> usize
     requires { i < most_types }
     ensures { result ≡ sizes_in types.now i }
 {
-    let d = type_row(types, i);
-    wide(d.size)
+    type_row(types, i).size as usize
 }
 
 pub fn is_string(kind: StructKind) -> bool
     ensures { result ≡ is_string_kind kind }
 {
-    match kind {
-        StructKind::Udt => false,
-        StructKind::Predefined => false,
-        StructKind::Str => true,
-        StructKind::Aoi => false,
-    }
+    matches!(kind, StructKind::Str)
 }
 
 // A string has its capacity in its second row.
@@ -48,8 +38,7 @@ pub fn capacity_at(members: &MemberTable, first: usize) -> u32
     requires { first < 1999 }
     ensures { result ≡ capacity_at members.now first }
 {
-    let data = member_row(members, first + 1);
-    data.count
+    member_row(members, first + 1).count
 }
 
 // A row holds a visible structure, or an array of structures.
@@ -58,32 +47,12 @@ pub fn is_nested(members: &MemberTable, row: usize) -> bool
     ensures { result ≡ is_nested (member_at members.now row) }
 {
     let m = member_row(members, row);
-    let hidden = m.hidden;
-    let bit = m.bit;
-    let ty = m.ty;
-    if hidden {
-        return false;
-    }
-    match bit {
-        Bit::At(_) => {
-            return false;
-        }
-        Bit::None => {
-            match ty {
-                Ty::Atomic(_) => {
-                    return false;
-                }
-                Ty::Struct(_) => {
-                    return true;
-                }
-            }
-        }
-    }
+    !m.hidden && m.bit.is_none() && matches!(m.ty, Ty::Struct(_))
 }
 
 // A structure that a row holds: its number, how many there are of it, 0 for one that is no array, and where in the
 // row's own structure it begins.
-#[derive(Clone, Copy)]
+#[derive(Clone, Copy, Debug, PartialEq, Eq)]
 pub struct Nested {
     pub structure: usize,
     pub count: usize,
@@ -96,25 +65,13 @@ pub fn nested_in(members: &MemberTable, row: usize) -> Nested
     ensures { HeldIn (member_at members.now row) result }
 {
     let m = member_row(members, row);
-    let count = wide(m.count);
-    let start = wide(m.offset);
-    let ty = m.ty;
-    match ty {
-        Ty::Atomic(_) => {
-            let structure: usize = 0;
-            return Nested {
-                structure,
-                count,
-                start,
-            };
-        }
-        Ty::Struct(structure) => {
-            return Nested {
-                structure,
-                count,
-                start,
-            };
-        }
+    let Ty::Struct(structure) = m.ty else {
+        unreachable!();
+    };
+    Nested {
+        structure,
+        count: m.count as usize,
+        start: m.offset as usize,
     }
 }
 
@@ -124,13 +81,5 @@ pub fn is_plain(members: &MemberTable, row: usize) -> bool
     ensures { result ≡ is_plain (member_at members.now row) }
 {
     let m = member_row(members, row);
-    let hidden = m.hidden;
-    let bit = m.bit;
-    if hidden {
-        return false;
-    }
-    match bit {
-        Bit::At(_) => false,
-        Bit::None => true,
-    }
+    m.bit.is_none() && !m.hidden
 }

@@ -7,18 +7,14 @@ ghost use Rattle.values.specs.reading.Texts.{text_length};
 use crate::stream::entry::put_entry;
 use crate::stream::kinds;
 use crate::stream::place::Place;
-use words::{copy, load32, wide};
+use words::{Word, copy};
 
 // How long the stored text is.
 pub fn text_length(capacity: u32, image: &[u8]) -> usize
     requires { 4 ≤ length image.now }
     ensures { result ≡ text_length capacity image.now }
 {
-    let long = load32(image, 0);
-    if long < capacity {
-        return wide(long);
-    }
-    wide(capacity)
+    u32::load(image, 0).min(capacity) as usize
 }
 
 // The text's entry, and its bytes among the bodies.
@@ -36,12 +32,7 @@ pub fn put_text(
         out.new result }
 {
     let n = text_length(capacity, image);
-    put_entry(
-        out,
-        at,
-        kinds::TEXT,
-        (text as u64) + 0x1_0000_0000 * (n as u64),
-    );
+    put_entry(out, at, kinds::TEXT, text as u64 + 0x1_0000_0000 * n as u64);
     let end = 4 + n;
     copy(out, base + text, &image[4..end]);
     Place {

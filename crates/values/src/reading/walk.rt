@@ -14,8 +14,8 @@ use crate::reading::texts::put_text;
 use crate::stream::entry::put_entry;
 use crate::stream::kinds;
 use crate::stream::place::Place;
-use types::{Bit, MemberTable, Ty, TypeTable, member_row, size_of, type_row};
-use words::{bit_at, wide};
+use types::{MemberTable, Ty, TypeTable, member_row, type_row};
+use words::bit_at;
 
 // The member in a row of structure i, where it is no structure; j is its number.
 fn read_leaf(
@@ -34,32 +34,25 @@ fn read_leaf(
         (leaf_out j (member_at members.now row) image.now) out.new result }
 {
     let m = member_row(members, row);
-    let hidden = m.hidden;
-    if hidden {
+    if m.hidden {
         return at;
     }
     put_entry(out, at, kinds::MEMBER, j as u64);
     let p = at + 12;
-    let start = wide(m.offset);
-    let n = wide(m.count);
-    let bit = m.bit;
-    let ty = m.ty;
-    match bit {
-        Bit::At(b) => {
+    let start = m.offset as usize;
+    let n = m.count as usize;
+    match m.bit {
+        Some(b) => {
             put_entry(out, p, kinds::BOOL, truth_of(bit_at(image, start, b)));
-            return p + 12;
+            p + 12
         }
-        Bit::None => {
-            match ty {
-                Ty::Atomic(a) => {
-                    let end = start + size_of(a) * times_of(n);
-                    return put_atomics(a, n, &image[start..end], out, p);
-                }
-                Ty::Struct(_) => {
-                    return p;
-                }
+        None => match m.ty {
+            Ty::Atomic(a) => {
+                let end = start + a.size() as usize * times_of(n);
+                put_atomics(a, n, &image[start..end], out, p)
             }
-        }
+            Ty::Struct(_) => p,
+        },
     }
 }
 
@@ -81,12 +74,12 @@ pub fn read_struct(
         (struct_out types.now members.now i image.now) out.new result }
 {
     let d = type_row(types, i);
-    let kind = d.kind;
-    if is_string(kind) {
-        let capacity = capacity_at(members, wide(d.first));
-        return put_text(capacity, image, out, base, at, text);
+    if is_string(d.kind) {
+        let capacity = capacity_at(members, d.first as usize);
+        put_text(capacity, image, out, base, at, text)
+    } else {
+        read_members(types, members, i, image, out, base, at, text)
     }
-    read_members(types, members, i, image, out, base, at, text)
 }
 
 // Its members, between the brackets.
@@ -109,22 +102,18 @@ fn read_members(
         image.now) out.new result }
 {
     let d = type_row(types, i);
-    let first = wide(d.first);
-    let n = wide(d.count);
+    let first = d.first as usize;
     put_entry(out, at, kinds::OPEN, 0);
     let mut p = at + 12;
     let mut t = text;
-    let mut j: usize = 0;
-    while j < n {
+    for j in 0..d.count as usize {
         let row = first + j;
         if is_nested(members, row) {
             let next = read_nested(types, members, i, row, j, image, out, base, p, t);
             p = next.at;
             t = next.text;
-            j += 1;
         } else {
             p = read_leaf(types, members, i, row, j, image, out, p);
-            j += 1;
         }
     }
     put_entry(out, p, kinds::CLOSE, 0);
@@ -213,14 +202,12 @@ pub fn read_elements(
     put_entry(out, at, kinds::ARRAY_OPEN, 0);
     let mut p = at + 12;
     let mut t = text;
-    let mut k: usize = 0;
-    while k < n {
+    for k in 0..n {
         let start = size * k;
         let end = start + size;
         let next = read_struct(types, members, i, &image[start..end], out, base, p, t);
         p = next.at;
         t = next.text;
-        k += 1;
     }
     put_entry(out, p, kinds::ARRAY_CLOSE, 0);
     Place {

@@ -11,16 +11,15 @@ ghost use Rattle.values.specs.inside.stream.Counting.{Counted, TextFree};
 ghost use Rattle.values.specs.stream.Stream.{most_bytes};
 
 use crate::reading::rows::{is_nested, is_string, nested_in, times_of};
-use types::{Atomic, Bit, MemberTable, Ty, TypeTable, is_bits, member_row, size_of, type_row};
-use words::wide;
+use types::{Atomic, MemberTable, Ty, TypeTable, member_row, type_row};
 
 // An atomic, or n of them where n is not 0.
 pub fn atomic_entries(a: Atomic, n: usize) -> usize
     requires { n ≤ 4294967296 }
     ensures { TextFree (atomics_out a n) result }
 {
-    if is_bits(a) {
-        return 2 + 8 * (size_of(a) * times_of(n));
+    if a.is_bit_string() {
+        return 2 + 8 * (a.size() as usize * times_of(n));
     }
     if n == 0 {
         return 1;
@@ -46,27 +45,13 @@ fn leaf_entries(members: &MemberTable, row: usize) -> usize
         × (result ≤ 1099511627776) }
 {
     let m = member_row(members, row);
-    let hidden = m.hidden;
-    if hidden {
+    if m.hidden {
         return 0;
     }
-    let n = wide(m.count);
-    let bit = m.bit;
-    let ty = m.ty;
-    match bit {
-        Bit::At(_) => {
-            return 2;
-        }
-        Bit::None => {
-            match ty {
-                Ty::Atomic(a) => {
-                    return 1 + atomic_entries(a, n);
-                }
-                Ty::Struct(_) => {
-                    return 1;
-                }
-            }
-        }
+    match (m.bit, m.ty) {
+        (Some(_), _) => 2,
+        (None, Ty::Atomic(a)) => 1 + atomic_entries(a, m.count as usize),
+        (None, Ty::Struct(_)) => 1,
     }
 }
 
@@ -114,8 +99,7 @@ fn count_struct(
         texts.old texts.new result }
 {
     let d = type_row(types, i);
-    let kind = d.kind;
-    if is_string(kind) {
+    if is_string(d.kind) {
         *texts = true;
         return from + 1;
     }
@@ -138,24 +122,20 @@ fn count_members(
         (struct_out types.now members.now) i) texts.old texts.new result }
 {
     let d = type_row(types, i);
-    let first = wide(d.first);
-    let n = wide(d.count);
+    let first = d.first as usize;
+    let n = d.count as usize;
     let mut sum = from + 2;
-    let mut j: usize = 0;
-    while j < n {
+    for j in 0..n {
         if most < sum {
             return sum;
         }
         let row = first + j;
-        if is_nested(members, row) {
-            if j + 1 == n {
-                return count_nested(types, members, i, row, sum, most, texts);
-            }
-            sum = count_nested(types, members, i, row, sum, most, texts);
-            j += 1;
-        } else {
+        if !is_nested(members, row) {
             sum += leaf_entries(members, row);
-            j += 1;
+        } else if j + 1 == n {
+            return count_nested(types, members, i, row, sum, most, texts);
+        } else {
+            sum = count_nested(types, members, i, row, sum, most, texts);
         }
     }
     sum

@@ -2,16 +2,15 @@
 // loaded again. Bytes that are no entry are malformed.
 ghost use Rattle.std.specs.Prelude.{◌≡◌, ◌+◌, ◌≤◌, length, leb};
 ghost use Rattle.std.proofs.lemmas.List.Edits.{sets};
-ghost use Rattle.values.specs.inside.stream.Entry.{bare_in, entry_in, loaded_of, low_in, text_entry, truth_in};
+ghost use Rattle.values.specs.inside.stream.Entry.{bare_in, entry_in, loaded_of, low_in, truth_in};
 ghost use Rattle.values.specs.stream.Entry.{EntryStored, entry_at, entry_kind, entry_payload, said_by};
 ghost use Rattle.values.specs.stream.Stream.{entry_bytes};
 
-use crate::reading::numbers::truth_of;
 use crate::stream::kinds;
-use words::{high32, load64, low32, store32, store64, wide8, wide64};
+use words::Word;
 
 // A text has its place in the bodies and its length.
-#[derive(Clone, Copy)]
+#[derive(Clone, Copy, Debug, PartialEq, Eq)]
 pub enum Entry {
     Null,
     Bool(bool),
@@ -25,13 +24,6 @@ pub enum Entry {
     Close,
     ArrayOpen,
     ArrayClose,
-}
-
-// What twelve bytes say.
-#[derive(Clone, Copy)]
-pub enum Loaded {
-    Is(Entry),
-    Malformed,
 }
 
 impl Entry {
@@ -60,18 +52,11 @@ impl Entry {
         ensures { result ≡ entry_payload self }
     {
         match self {
-            Entry::Null => 0,
-            Entry::Bool(b) => truth_of(b),
-            Entry::Signed(x) => x,
-            Entry::Unsigned(x) => x,
-            Entry::Real(x) => wide64(x),
-            Entry::LReal(x) => x,
-            Entry::Text(place, long) => wide64(place) + 0x1_0000_0000 * wide64(long),
-            Entry::Member(j) => wide64(j),
-            Entry::Open => 0,
-            Entry::Close => 0,
-            Entry::ArrayOpen => 0,
-            Entry::ArrayClose => 0,
+            Entry::Bool(b) => u64::from(b),
+            Entry::Signed(x) | Entry::Unsigned(x) | Entry::LReal(x) => x,
+            Entry::Real(x) | Entry::Member(x) => u64::from(x),
+            Entry::Text(place, long) => u64::from(place) + 0x1_0000_0000 * u64::from(long),
+            Entry::Null | Entry::Open | Entry::Close | Entry::ArrayOpen | Entry::ArrayClose => 0,
         }
     }
 }
@@ -80,115 +65,79 @@ impl Entry {
 fn is_inside(long: usize, at: usize) -> bool
     ensures { result ≡ leb (at + 12) long }
 {
-    if long < 12 {
-        return false;
-    }
-    at <= long - 12
+    12 <= long && at <= long - 12
 }
 
 // Stores an entry at a place, the bytes around it stay; or says that it has no room there, and stores nothing.
 pub fn store_entry(out: &mut [u8], at: usize, e: Entry) -> bool
     ensures { EntryStored out.old at e result out.new }
 {
-    if is_inside(out.len(), at) {
-        put_entry(out, at, e.kind(), e.payload());
-        return true;
+    if !is_inside(out.len(), at) {
+        return false;
     }
-    false
+    put_entry(out, at, e.kind(), e.payload());
+    true
 }
 
 // An entry without a payload.
-fn bare_in(e: Entry, x: u64) -> Loaded
+#[tactic(auto, unfolding(crate::specs::inside::stream::Entry::bare_in))]
+fn bare_in(e: Entry, x: u64) -> Option<Entry>
     ensures { result ≡ bare_in e x }
 {
-    if x == 0 {
-        return Loaded::Is(e);
-    }
-    Loaded::Malformed
+    (x == 0).then_some(e)
 }
 
-fn truth_in(x: u64) -> Loaded
+#[tactic(auto, unfolding(crate::specs::inside::stream::Entry::truth_in))]
+fn truth_in(x: u64) -> Option<Entry>
     ensures { result ≡ truth_in x }
 {
-    if x == 0 {
-        return Loaded::Is(Entry::Bool(false));
+    match x {
+        0 => Some(Entry::Bool(false)),
+        1 => Some(Entry::Bool(true)),
+        _ => None,
     }
-    if x == 1 {
-        return Loaded::Is(Entry::Bool(true));
-    }
-    Loaded::Malformed
-}
-
-fn real_in(x: u64) -> Loaded
-    ensures { result ≡ low_in Entry.Real x }
-{
-    if x < 0x1_0000_0000 {
-        return Loaded::Is(Entry::Real(low32(x)));
-    }
-    Loaded::Malformed
-}
-
-fn member_in(x: u64) -> Loaded
-    ensures { result ≡ low_in Entry.Member x }
-{
-    if x < 0x1_0000_0000 {
-        return Loaded::Is(Entry::Member(low32(x)));
-    }
-    Loaded::Malformed
-}
-
-fn text_in(x: u64) -> Loaded
-    ensures { result ≡ text_entry x }
-{
-    Loaded::Is(Entry::Text(low32(x), high32(x)))
 }
 
 // What a kind and a payload say.
-fn loaded_of(kind: u8, x: u64) -> Loaded
+fn loaded_of(kind: u8, x: u64) -> Option<Entry>
     ensures { result ≡ loaded_of kind x }
 {
     match kind {
         kinds::NULL => bare_in(Entry::Null, x),
         kinds::BOOL => truth_in(x),
-        kinds::SIGNED => Loaded::Is(Entry::Signed(x)),
-        kinds::UNSIGNED => Loaded::Is(Entry::Unsigned(x)),
-        kinds::REAL => real_in(x),
-        kinds::LREAL => Loaded::Is(Entry::LReal(x)),
-        kinds::TEXT => text_in(x),
-        kinds::MEMBER => member_in(x),
+        kinds::SIGNED => Some(Entry::Signed(x)),
+        kinds::UNSIGNED => Some(Entry::Unsigned(x)),
+        kinds::REAL => u32::try_from(x).ok().map(Entry::Real),
+        kinds::LREAL => Some(Entry::LReal(x)),
+        kinds::TEXT => Some(Entry::Text((x % 0x1_0000_0000) as u32, (x / 0x1_0000_0000) as u32)),
+        kinds::MEMBER => u32::try_from(x).ok().map(Entry::Member),
         kinds::OPEN => bare_in(Entry::Open, x),
         kinds::CLOSE => bare_in(Entry::Close, x),
         kinds::ARRAY_OPEN => bare_in(Entry::ArrayOpen, x),
         kinds::ARRAY_CLOSE => bare_in(Entry::ArrayClose, x),
-        _ => Loaded::Malformed,
+        _ => None,
     }
 }
 
 // The entry in the twelve bytes at a place inside.
-fn load_entry(s: &[u8], at: usize) -> Loaded
+fn load_entry(s: &[u8], at: usize) -> Option<Entry>
     requires { at + 12 ≤ length s.now }
     ensures { result ≡ entry_in s.now at }
 {
-    if s[at + 1] != 0 {
-        return Loaded::Malformed;
+    if s[at + 1] != 0 || s[at + 2] != 0 || s[at + 3] != 0 {
+        return None;
     }
-    if s[at + 2] != 0 {
-        return Loaded::Malformed;
-    }
-    if s[at + 3] != 0 {
-        return Loaded::Malformed;
-    }
-    loaded_of(s[at], load64(s, at + 4))
+    loaded_of(s[at], u64::load(s, at + 4))
 }
 
 // The entry in the twelve bytes at a place; bytes that are not there are malformed.
-pub fn entry_at(s: &[u8], at: usize) -> Loaded
+pub fn entry_at(s: &[u8], at: usize) -> Option<Entry>
     ensures { said_by result ≡ entry_at s.now at }
 {
-    if is_inside(s.len(), at) {
-        return load_entry(s, at);
+    if !is_inside(s.len(), at) {
+        return None;
     }
-    Loaded::Malformed
+    load_entry(s, at)
 }
 
 // Stores an entry at a place; the bytes around it stay.
@@ -196,6 +145,6 @@ pub fn put_entry(out: &mut [u8], at: usize, kind: u8, payload: u64)
     requires { at + 12 ≤ length out.old }
     ensures { out.new ≡ sets out.old at (entry_bytes kind payload) }
 {
-    store32(out, at, wide8(kind));
-    store64(out, at + 4, payload);
+    u32::from(kind).store(out, at);
+    payload.store(out, at + 4);
 }

@@ -10,7 +10,6 @@ ghost use Rattle.values.specs.stream.Stream.{most_bytes};
 use crate::reading::rows::{capacity_at, is_nested, is_string, nested_in, struct_size};
 use crate::reading::texts::text_length;
 use types::{MemberTable, TypeTable, type_row};
-use words::wide;
 
 // Structure i.
 #[cycle(measuring)]
@@ -26,9 +25,8 @@ pub fn text_struct(
     ensures { Texts room (struct_out types.now members.now i image.now) result }
 {
     let d = type_row(types, i);
-    let kind = d.kind;
-    if is_string(kind) {
-        let capacity = capacity_at(members, wide(d.first));
+    if is_string(d.kind) {
+        let capacity = capacity_at(members, d.first as usize);
         return text_length(capacity, image);
     }
     text_members(types, members, i, image, room)
@@ -51,20 +49,16 @@ fn text_members(
         image.now) result }
 {
     let d = type_row(types, i);
-    let first = wide(d.first);
-    let n = wide(d.count);
-    let mut t: usize = 0;
-    let mut j: usize = 0;
-    while j < n {
+    let first = d.first as usize;
+    let n = d.count as usize;
+    let mut t = 0;
+    for j in 0..n {
         if room < t {
             return t;
         }
         let row = first + j;
         if is_nested(members, row) {
             t += text_nested(types, members, i, row, image, room - t);
-            j += 1;
-        } else {
-            j += 1;
         }
     }
     t
@@ -88,18 +82,22 @@ fn text_nested(
 {
     let m = nested_in(members, row);
     let size = struct_size(types, m.structure);
-    let start = m.start;
     if m.count == 0 {
-        let end = start + size;
-        return text_struct(types, members, m.structure, &image[start..end], room);
+        return text_struct(
+            types,
+            members,
+            m.structure,
+            &image[m.start..m.start + size],
+            room,
+        );
     }
-    let end = start + size * m.count;
+    let end = m.start + size * m.count;
     text_elements(
         types,
         members,
         m.structure,
         m.count,
-        &image[start..end],
+        &image[m.start..end],
         room,
     )
 }
@@ -121,16 +119,13 @@ pub fn text_elements(
         i n image.now) result }
 {
     let size = struct_size(types, i);
-    let mut t: usize = 0;
-    let mut k: usize = 0;
-    while k < n {
+    let mut t = 0;
+    for k in 0..n {
         if room < t {
             return t;
         }
         let start = size * k;
-        let end = start + size;
-        t += text_struct(types, members, i, &image[start..end], room - t);
-        k += 1;
+        t += text_struct(types, members, i, &image[start..start + size], room - t);
     }
     t
 }

@@ -14,10 +14,9 @@ ghost use Rattle.values.specs.writing.Writing.{write};
 
 use crate::reading::rows::{capacity_at, is_nested, is_string, nested_in, struct_size};
 use crate::stream::kinds;
-use crate::stream::tokens::{as_size, kind_of, payload_of};
+use crate::stream::tokens::{kind_of, payload_of};
 use crate::writing::sets::{set_leaf, set_text};
 use types::{MemberTable, TypeTable, type_row};
-use words::wide;
 
 // Structure i, from a byte of the image on.
 #[cycle(applying)]
@@ -38,9 +37,8 @@ pub fn apply_struct(
         (write (tree_in types.now members.now i) (8 * base) (left_at s.now k)) }
 {
     let d = type_row(types, i);
-    let kind = d.kind;
-    if is_string(kind) {
-        let capacity = capacity_at(members, wide(d.first));
+    if is_string(d.kind) {
+        let capacity = capacity_at(members, d.first as usize);
         return set_text(capacity, s, k, image, base);
     }
     apply_members(types, members, i, s, k, image, base)
@@ -65,25 +63,20 @@ fn apply_members(
         (write (struct (8 * sizes_in types.now i)
         (branches_in types.now members.now i)) (8 * base) (left_at s.now k)) }
 {
-    let start = kind_of(s, k);
-    if start == kinds::NULL {
+    if kind_of(s, k) == kinds::NULL {
         return k + 1;
     }
-    let d = type_row(types, i);
-    let first = wide(d.first);
+    let first = type_row(types, i).first as usize;
     let mut p = k + 1;
-    loop {
-        let kind = kind_of(s, p);
-        if kind == kinds::CLOSE {
-            return p + 1;
-        }
-        let row = first + as_size(payload_of(s, p));
-        if is_nested(members, row) {
-            p = apply_nested(types, members, i, row, s, p + 1, image, base);
+    while kind_of(s, p) != kinds::CLOSE {
+        let row = first + payload_of(s, p) as usize;
+        p = if is_nested(members, row) {
+            apply_nested(types, members, i, row, s, p + 1, image, base)
         } else {
-            p = set_leaf(members, row, s, p + 1, image, base);
-        }
+            set_leaf(members, row, s, p + 1, image, base)
+        };
     }
+    p + 1
 }
 
 // The structure, or the array of structures, in a row of structure i, which begins at `base`.
@@ -135,20 +128,16 @@ pub fn apply_elements(
         (write (array count (tree_in types.now members.now i)) (8 * base)
         (left_at s.now k)) }
 {
-    let start = kind_of(s, k);
-    if start == kinds::NULL {
+    if kind_of(s, k) == kinds::NULL {
         return k + 1;
     }
     let size = struct_size(types, i);
     let mut p = k + 1;
-    let mut e: usize = 0;
-    while e < count {
-        let kind = kind_of(s, p);
-        if kind == kinds::ARRAY_CLOSE {
+    for e in 0..count {
+        if kind_of(s, p) == kinds::ARRAY_CLOSE {
             return p + 1;
         }
         p = apply_struct(types, members, i, s, p, image, base + size * e);
-        e += 1;
     }
     p + 1
 }

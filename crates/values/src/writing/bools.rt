@@ -16,13 +16,10 @@ fn close_of(s: &[u8], k: usize) -> usize
     ensures { (m : ℕ) → BoolRun s.now k m → result ≡ k + m }
 {
     let mut p = k;
-    loop {
-        let kind = kind_of(s, p);
-        if kind == kinds::ARRAY_CLOSE {
-            return p;
-        }
+    while kind_of(s, p) != kinds::ARRAY_CLOSE {
         p += 1;
     }
+    p
 }
 
 // Eight bools from entry k on as a byte.
@@ -48,10 +45,8 @@ fn set_eights(n: usize, s: &[u8], k: usize, image: &mut [u8], base: usize)
     ensures { flat image.new
         ≡ stamp (8 * base) (8 * n) (truths s.now k) (flat image.old) }
 {
-    let mut b: usize = 0;
-    while b < n {
+    for b in 0..n {
         image[base + b] = eight(s, k + 8 * b);
-        b += 1;
     }
 }
 
@@ -72,10 +67,8 @@ fn set_few(n: usize, s: &[u8], k: usize, image: &mut [u8], at: usize)
     ensures { flat image.new
         ≡ stamp (8 * at) n (truths s.now k) (flat image.old) }
 {
-    let mut j: usize = 0;
-    while j < n {
+    for j in 0..n {
         put_bit(image, at, j as u8, s[8 + 12 * (k + j)] == 1);
-        j += 1;
     }
 }
 

@@ -1,5 +1,5 @@
 // The check of structures and their arrays (document 01, "Writing"): it touches no image. Structures call arrays and
-// arrays structures; a structure holds only earlier ones, so the number falls, and each loop consumes entries.
+// arrays structures; a structure holds only earlier ones, so the number falls, and the members' loop consumes entries.
 ghost use Rattle.std.specs.Prelude.{◌≡◌, ℕ, ◌+◌, ◌*◌, ◌<◌, ◌≤◌};
 ghost use Rattle.types.specs.tables.Lent.{member_at};
 ghost use Rattle.types.specs.tables.Limits.{most_types, most_members};
@@ -12,30 +12,23 @@ ghost use Rattle.values.specs.writing.Writing.{write};
 
 use crate::reading::rows::{capacity_at, is_nested, is_string, nested_in};
 use crate::stream::kinds;
-use crate::stream::tokens::{
-    MISFIT, PAST_LAST, REFUSED, as_size, kind_at, kind_of, payload_of, refused,
-};
-use crate::writing::fits::{check_leaf, check_text};
-use types::{MEMBERS, MemberTable, TypeTable, member_row, type_row};
-use words::wide;
-
-// No row: the table has 2,000.
-const NO_ROW: usize = MEMBERS;
+use crate::stream::tokens::{kind_at, kind_of, payload_of};
+use crate::writing::fits::{check_leaf, check_text, close_at};
+use types::{MemberTable, Refusal, TypeTable, member_row, type_row};
 
 // The row of the visible member of a number, among `count` from row `first` on.
-fn visible_row(members: &MemberTable, first: usize, count: usize, j: usize) -> usize
+fn visible_row(members: &MemberTable, first: usize, count: usize, j: usize) -> Option<usize>
     requires { first + count ≤ most_members }
     ensures { result ≡ visible_row members.now first count j }
 {
-    if j < count {
-        let m = member_row(members, first + j);
-        let hidden = m.hidden;
-        if hidden {
-            return NO_ROW;
-        }
-        return first + j;
+    if count <= j {
+        return None;
     }
-    NO_ROW
+    if member_row(members, first + j).hidden {
+        None
+    } else {
+        Some(first + j)
+    }
 }
 
 // Structure i.
@@ -47,16 +40,15 @@ pub fn check_struct(
     s: &[u8],
     n: usize,
     k: usize,
-) -> usize
+) -> Result<usize, Refusal>
     requires walkable { Walkable types.now members.now × (i < most_types) }
     requires well_formed { WellFormed s.now n × (k ≤ n) }
     ensures { (p : ℕ) → CheckedFrom s.now k result
         (write (tree_in types.now members.now i) p (left_at s.now k)) }
 {
     let d = type_row(types, i);
-    let kind = d.kind;
-    if is_string(kind) {
-        let capacity = capacity_at(members, wide(d.first));
+    if is_string(d.kind) {
+        let capacity = capacity_at(members, d.first as usize);
         return check_text(capacity, s, n, k);
     }
     check_members(types, members, i, s, n, k)
@@ -71,51 +63,37 @@ fn check_members(
     s: &[u8],
     n: usize,
     k: usize,
-) -> usize
+) -> Result<usize, Refusal>
     requires walkable { Walkable types.now members.now × (i < most_types) }
     requires well_formed { WellFormed s.now n × (k ≤ n) }
     ensures { (p : ℕ) → CheckedFrom s.now k result
         (write (struct (8 * sizes_in types.now i)
         (branches_in types.now members.now i)) p (left_at s.now k)) }
 {
-    let start = kind_at(s, n, k);
-    if start == kinds::NULL {
-        return k + 1;
-    }
-    if start != kinds::OPEN {
-        return refused(MISFIT, k);
+    match kind_at(s, n, k) {
+        kinds::NULL => return Ok(k + 1),
+        kinds::OPEN => {}
+        _ => return Err(Refusal::EntryMisfit(k as u32)),
     }
     let d = type_row(types, i);
-    let first = wide(d.first);
-    let count = wide(d.count);
     let mut p = k + 1;
     while p < n {
-        let kind = kind_of(s, p);
-        if kind == kinds::CLOSE {
-            return p + 1;
+        match kind_of(s, p) {
+            kinds::CLOSE => return Ok(p + 1),
+            kinds::MEMBER => {}
+            _ => return Err(Refusal::EntryMisfit(p as u32)),
         }
-        if kind != kinds::MEMBER {
-            return refused(MISFIT, p);
-        }
-        let row = visible_row(members, first, count, as_size(payload_of(s, p)));
-        if row == NO_ROW {
-            return refused(MISFIT, p);
-        }
-        if is_nested(members, row) {
-            let r = check_nested(types, members, i, row, s, n, p + 1);
-            if REFUSED <= r {
-                return r;
-            }
-            p = r;
+        let j = payload_of(s, p) as usize;
+        let Some(row) = visible_row(members, d.first as usize, d.count as usize, j) else {
+            return Err(Refusal::EntryMisfit(p as u32));
+        };
+        p = if is_nested(members, row) {
+            check_nested(types, members, i, row, s, n, p + 1)?
         } else {
-            let r = check_leaf(members, row, s, n, p + 1);
-            if REFUSED <= r {
-                return r;
-            }
-            p = r;
-        }
+            check_leaf(members, row, s, n, p + 1)?
+        };
     }
-    refused(MISFIT, p)
+    Err(Refusal::EntryMisfit(p as u32))
 }
 
 // The structure, or the array of structures, in a row of structure i.
@@ -128,7 +106,7 @@ fn check_nested(
     s: &[u8],
     n: usize,
     k: usize,
-) -> usize
+) -> Result<usize, Refusal>
     requires walkable { Walkable types.now members.now × NestedRow types.now members.now i row }
     requires well_formed { WellFormed s.now n × (k ≤ n) }
     ensures { (p : ℕ) → CheckedFrom s.now k result
@@ -152,35 +130,26 @@ pub fn check_elements(
     s: &[u8],
     n: usize,
     k: usize,
-) -> usize
+) -> Result<usize, Refusal>
     requires walkable { Walkable types.now members.now × (i < most_types) }
     requires well_formed { WellFormed s.now n × (k ≤ n) }
     ensures { (p : ℕ) → CheckedFrom s.now k result
         (write (array count (tree_in types.now members.now i)) p (left_at s.now k)) }
 {
-    let start = kind_at(s, n, k);
-    if start == kinds::NULL {
-        return k + 1;
-    }
-    if start != kinds::ARRAY_OPEN {
-        return refused(MISFIT, k);
+    match kind_at(s, n, k) {
+        kinds::NULL => return Ok(k + 1),
+        kinds::ARRAY_OPEN => {}
+        _ => return Err(Refusal::EntryMisfit(k as u32)),
     }
     let mut p = k + 1;
-    let mut e: usize = 0;
-    while p < n {
-        let kind = kind_of(s, p);
-        if kind == kinds::ARRAY_CLOSE {
-            return p + 1;
+    for _e in 0..count {
+        if n <= p {
+            return Err(Refusal::EntryMisfit(p as u32));
         }
-        if e == count {
-            return refused(PAST_LAST, p);
+        if kind_of(s, p) == kinds::ARRAY_CLOSE {
+            return Ok(p + 1);
         }
-        let r = check_struct(types, members, i, s, n, p);
-        if REFUSED <= r {
-            return r;
-        }
-        p = r;
-        e += 1;
+        p = check_struct(types, members, i, s, n, p)?;
     }
-    refused(MISFIT, p)
+    close_at(s, n, p)
 }

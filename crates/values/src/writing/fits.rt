@@ -14,218 +14,186 @@ ghost use Rattle.values.specs.writing.Effects.{as_text, or_null};
 ghost use Rattle.values.specs.writing.Writing.{Outcome, bools_in, elements, write, write_one};
 
 use crate::stream::kinds;
-use crate::stream::tokens::{MISFIT, PAST_LAST, TOO_LONG, kind_at, kind_of, payload_of, refused};
-use crate::writing::limits::{limits_of, misfit};
-use types::{Atomic, Bit, MemberTable, Ty, is_bits, member_row, size_of};
-use words::{high32, wide};
+use crate::stream::tokens::{kind_at, kind_of, payload_of};
+use crate::writing::limits::{judge, limits_of};
+use types::{Atomic, MemberTable, Refusal, Ty, member_row};
+use words::high32;
 
 // One atomic, or null.
-pub fn check_atomic(a: Atomic, s: &[u8], n: usize, k: usize) -> usize
+pub fn check_atomic(a: Atomic, s: &[u8], n: usize, k: usize) -> Result<usize, Refusal>
     requires { WellFormed s.now n × (k ≤ n) }
     ensures { (w p : ℕ) → CheckedFrom s.now k result
         (write_one (or_null (atomic_takes a)) w p (left_at s.now k)) }
 {
     if n <= k {
-        return refused(MISFIT, k);
+        return Err(Refusal::EntryMisfit(k as u32));
     }
-    let number = misfit(limits_of(a), kind_of(s, k), payload_of(s, k));
-    if number == 0 {
-        return k + 1;
+    match judge(limits_of(a), kind_of(s, k), payload_of(s, k)) {
+        None => Ok(k + 1),
+        Some(m) => Err(m.at(k)),
     }
-    refused(number, k)
 }
 
 // A text, or null.
-pub fn check_text(capacity: u32, s: &[u8], n: usize, k: usize) -> usize
+pub fn check_text(capacity: u32, s: &[u8], n: usize, k: usize) -> Result<usize, Refusal>
     requires { WellFormed s.now n × (k ≤ n) }
     ensures { (w p : ℕ) → CheckedFrom s.now k result
         (write_one (or_null (as_text capacity)) w p (left_at s.now k)) }
 {
-    let kind = kind_at(s, n, k);
-    if kind == kinds::NULL {
-        return k + 1;
-    }
-    if kind == kinds::TEXT {
-        let long = high32(payload_of(s, k));
-        if capacity < long {
-            return refused(TOO_LONG, k);
+    match kind_at(s, n, k) {
+        kinds::NULL => Ok(k + 1),
+        kinds::TEXT => {
+            if high32(payload_of(s, k)) <= capacity {
+                Ok(k + 1)
+            } else {
+                Err(Refusal::TextTooLong(k as u32))
+            }
         }
-        return k + 1;
+        _ => Err(Refusal::EntryMisfit(k as u32)),
     }
-    refused(MISFIT, k)
 }
 
 // After the last place of an array only the close fits.
-fn close_at(s: &[u8], n: usize, k: usize) -> usize
+pub fn close_at(s: &[u8], n: usize, k: usize) -> Result<usize, Refusal>
     requires { WellFormed s.now n × (k ≤ n) }
     ensures { (m : ℕ) (one : ℕ → List Token → Bits → Outcome) (w p : ℕ) → (k < n → m ≡ 0)
         → CheckedFrom s.now k result (elements m one w p (left_at s.now k)) }
 {
     if n <= k {
-        return refused(MISFIT, k);
+        return Err(Refusal::EntryMisfit(k as u32));
     }
-    let kind = kind_of(s, k);
-    if kind == kinds::ARRAY_CLOSE {
-        return k + 1;
+    if kind_of(s, k) == kinds::ARRAY_CLOSE {
+        return Ok(k + 1);
     }
-    refused(PAST_LAST, k)
+    Err(Refusal::PastLastPlace(k as u32))
 }
 
-// The entry after 8 places for each byte, or the end of the entries if it comes first.
-fn after_bytes(bytes: usize, n: usize, k: usize) -> usize
-    requires { k ≤ n }
-    ensures { result ≡ min n (k + 8 * bytes) }
-{
-    if (n - k) / 8 < bytes {
-        return n;
-    }
-    k + 8 * bytes
-}
-
-// The same after `count` places.
-fn after_count(count: usize, n: usize, k: usize) -> usize
+// The entry after `count` places, or the end of the entries if it comes first.
+fn after(count: usize, n: usize, k: usize) -> usize
     requires { k ≤ n }
     ensures { result ≡ min n (k + count) }
 {
-    if n - k < count {
-        return n;
-    }
-    k + count
+    k + count.min(n - k)
 }
 
 // Bools for so many bytes, and the close.
-fn check_bools(bytes: usize, s: &[u8], n: usize, k: usize) -> usize
+fn check_bools(bytes: usize, s: &[u8], n: usize, k: usize) -> Result<usize, Refusal>
     requires { WellFormed s.now n × (k ≤ n) }
     ensures { (p : ℕ) → CheckedFrom s.now k result
         (bools_in (8 * bytes) p (left_at s.now k)) }
 {
-    let last = after_bytes(bytes, n, k);
-    let mut p = k;
-    while p < last {
-        let kind = kind_of(s, p);
-        if kind != kinds::BOOL {
-            if kind == kinds::ARRAY_CLOSE {
-                return p + 1;
-            }
-            return refused(MISFIT, p);
+    let last = after(bytes.saturating_mul(8), n, k);
+    for p in k..last {
+        match kind_of(s, p) {
+            kinds::BOOL => {}
+            kinds::ARRAY_CLOSE => return Ok(p + 1),
+            _ => return Err(Refusal::EntryMisfit(p as u32)),
         }
-        p += 1;
     }
-    close_at(s, n, p)
+    close_at(s, n, last)
 }
 
 // Up to `count` atomics, nulls among them, and the close, which is no atomic.
-fn check_numbers(a: Atomic, count: usize, s: &[u8], n: usize, k: usize) -> usize
+fn check_numbers(a: Atomic, count: usize, s: &[u8], n: usize, k: usize) -> Result<usize, Refusal>
     requires { WellFormed s.now n × (k ≤ n) }
     ensures { (w p : ℕ) → CheckedFrom s.now k result
         (elements count (write_one (or_null (atomic_takes a)) w) w p (left_at s.now k)) }
 {
     let limits = limits_of(a);
-    let last = after_count(count, n, k);
-    let mut p = k;
-    while p < last {
+    let last = after(count, n, k);
+    for p in k..last {
         let kind = kind_of(s, p);
-        let number = misfit(limits, kind, payload_of(s, p));
-        if number != 0 {
+        if let Some(m) = judge(limits, kind, payload_of(s, p)) {
             if kind == kinds::ARRAY_CLOSE {
-                return p + 1;
+                return Ok(p + 1);
             }
-            return refused(number, p);
+            return Err(m.at(p));
         }
-        p += 1;
     }
-    close_at(s, n, p)
+    close_at(s, n, last)
 }
 
 // One bit string: a whole number, or an array of bools.
-fn check_bits(a: Atomic, s: &[u8], n: usize, k: usize) -> usize
+fn check_bits(a: Atomic, s: &[u8], n: usize, k: usize) -> Result<usize, Refusal>
     requires well_formed { WellFormed s.now n × (k ≤ n) }
     requires bits { bit_string a ≡ true }
     ensures { (p : ℕ) → CheckedFrom s.now k result
         (write (atomics_tree a 0) p (left_at s.now k)) }
 {
-    let kind = kind_at(s, n, k);
-    if kind == kinds::ARRAY_OPEN {
-        return check_bools(size_of(a), s, n, k + 1);
+    if kind_at(s, n, k) == kinds::ARRAY_OPEN {
+        return check_bools(a.size() as usize, s, n, k + 1);
     }
     check_atomic(a, s, n, k)
 }
 
 // What is inside an array of atomics. Bit strings take bools if the first entry is a bool.
-fn check_run(a: Atomic, count: usize, s: &[u8], n: usize, k: usize) -> usize
+fn check_run(a: Atomic, count: usize, s: &[u8], n: usize, k: usize) -> Result<usize, Refusal>
     requires well_formed { WellFormed s.now n × (k ≤ n) }
     requires count_bound { size_of a * count < 2 ^ 64 }
     ensures { (p : ℕ) → CheckedFrom s.now k result
         (run_in a count p (left_at s.now k)) }
 {
-    let bits = is_bits(a);
-    let kind = kind_at(s, n, k);
-    if bits {
-        if kind == kinds::BOOL {
-            return check_bools(size_of(a) * count, s, n, k);
-        }
-        return check_numbers(a, count, s, n, k);
+    if a.is_bit_string() && kind_at(s, n, k) == kinds::BOOL {
+        return check_bools(a.size() as usize * count, s, n, k);
     }
     check_numbers(a, count, s, n, k)
 }
 
 // An array of atomics, or null.
-fn check_array(a: Atomic, count: usize, s: &[u8], n: usize, k: usize) -> usize
+fn check_array(a: Atomic, count: usize, s: &[u8], n: usize, k: usize) -> Result<usize, Refusal>
     requires well_formed { WellFormed s.now n × (k ≤ n) }
     requires count_bound { (size_of a * count < 2 ^ 64) × (0 < count) }
     ensures { (p : ℕ) → CheckedFrom s.now k result
         (write (atomics_tree a count) p (left_at s.now k)) }
 {
-    let kind = kind_at(s, n, k);
-    if kind == kinds::NULL {
-        return k + 1;
+    match kind_at(s, n, k) {
+        kinds::NULL => Ok(k + 1),
+        kinds::ARRAY_OPEN => check_run(a, count, s, n, k + 1),
+        _ => Err(Refusal::EntryMisfit(k as u32)),
     }
-    if kind == kinds::ARRAY_OPEN {
-        return check_run(a, count, s, n, k + 1);
-    }
-    refused(MISFIT, k)
 }
 
 // An atomic, or an array of them where `count` is not 0.
-pub fn check_atomics(a: Atomic, count: usize, s: &[u8], n: usize, k: usize) -> usize
+pub fn check_atomics(
+    a: Atomic,
+    count: usize,
+    s: &[u8],
+    n: usize,
+    k: usize,
+) -> Result<usize, Refusal>
     requires well_formed { WellFormed s.now n × (k ≤ n) }
     requires count_bound { size_of a * count < 2 ^ 64 }
     ensures { (p : ℕ) → CheckedFrom s.now k result
         (write (atomics_tree a count) p (left_at s.now k)) }
 {
-    if count == 0 {
-        if is_bits(a) {
-            return check_bits(a, s, n, k);
-        }
-        return check_atomic(a, s, n, k);
+    if count != 0 {
+        return check_array(a, count, s, n, k);
     }
-    check_array(a, count, s, n, k)
+    if a.is_bit_string() {
+        return check_bits(a, s, n, k);
+    }
+    check_atomic(a, s, n, k)
 }
 
 // The member in a row, where it is no structure.
-pub fn check_leaf(members: &MemberTable, row: usize, s: &[u8], n: usize, k: usize) -> usize
+pub fn check_leaf(
+    members: &MemberTable,
+    row: usize,
+    s: &[u8],
+    n: usize,
+    k: usize,
+) -> Result<usize, Refusal>
     requires well_formed { WellFormed s.now n × (k ≤ n) }
     requires leaf_row { LeafRow members.now row }
     ensures { (trees : ℕ → Tree) (p : ℕ) → CheckedFrom s.now k result
         (write (member_tree trees (member_at members.now row)) p (left_at s.now k)) }
 {
     let m = member_row(members, row);
-    let bit = m.bit;
-    let ty = m.ty;
-    let count = wide(m.count);
-    match bit {
-        Bit::At(_) => {
-            return check_atomic(Atomic::Bool, s, n, k);
-        }
-        Bit::None => {
-            match ty {
-                Ty::Atomic(a) => {
-                    return check_atomics(a, count, s, n, k);
-                }
-                Ty::Struct(_) => {
-                    return refused(MISFIT, k);
-                }
-            }
-        }
+    match m.bit {
+        Some(_) => check_atomic(Atomic::Bool, s, n, k),
+        None => match m.ty {
+            Ty::Atomic(a) => check_atomics(a, m.count as usize, s, n, k),
+            Ty::Struct(_) => Err(Refusal::EntryMisfit(k as u32)),
+        },
     }
 }

@@ -1,20 +1,41 @@
 // Which entries an atomic takes (document 01, "Writing"): BOOL kind 1, REAL 4, LREAL 5; the others a whole number,
 // signed or unsigned, where its value is in range.
-ghost use Rattle.std.specs.Prelude.{◌≡◌};
-ghost use Rattle.values.specs.inside.writing.Limits.{above_misfit, limits_of, misfit as misfit_of, signed_misfit};
+ghost use Rattle.std.specs.Prelude.{◌≡◌, ◌^◌, ◌<◌};
+ghost use Rattle.types.specs.refusals.Refusal.{number_of, place_of};
+ghost use Rattle.values.specs.inside.writing.Effects.{number_in};
+ghost use Rattle.values.specs.inside.writing.Limits.{above_misfit, limits_of, misfit, signed_misfit};
 ghost use Rattle.values.specs.inside.writing.Limits.{whole_misfit};
 
 use crate::stream::kinds;
-use crate::stream::tokens::{MISFIT, OUT_OF_RANGE};
-use types::Atomic;
+use types::{Atomic, Refusal};
 
 // The one kind that is taken, or 2 for whole numbers: these have a greatest number, and a greatest that is too low, a
 // number below zero being 2^64 more.
-#[derive(Clone, Copy)]
+#[derive(Clone, Copy, Debug, PartialEq, Eq)]
 pub struct Limits {
     pub kind: u8,
     pub under: u64,
     pub most: u64,
+}
+
+// Why an entry is not taken: it does not fit here, or its number is out of range.
+#[derive(Clone, Copy, Debug, PartialEq, Eq)]
+pub enum Misfit {
+    Kind,
+    Range,
+}
+
+impl Misfit {
+    // The refusal of entry k.
+    pub fn at(self, k: usize) -> Refusal
+        requires { k < 2 ^ 32 }
+        ensures { (number_of result ≡ number_in self) × (place_of result ≡ k) }
+    {
+        match self {
+            Misfit::Kind => Refusal::EntryMisfit(k as u32),
+            Misfit::Range => Refusal::NumberOutOfRange(k as u32),
+        }
+    }
 }
 
 fn one_kind(kind: u8) -> Limits
@@ -59,54 +80,52 @@ pub fn limits_of(a: Atomic) -> Limits
     }
 }
 
-fn above_misfit(f: Limits, x: u64) -> usize
+fn above_misfit(f: Limits, x: u64) -> Option<Misfit>
     ensures { result ≡ above_misfit f x }
 {
-    let most = f.most;
-    if x <= most {
-        return 0;
+    if x <= f.most {
+        None
+    } else {
+        Some(Misfit::Range)
     }
-    OUT_OF_RANGE
 }
 
-fn signed_misfit(f: Limits, x: u64) -> usize
+fn signed_misfit(f: Limits, x: u64) -> Option<Misfit>
     ensures { result ≡ signed_misfit f x }
 {
-    if 0x8000_0000_0000_0000 <= x {
-        let under = f.under;
-        if under < x {
-            return 0;
-        }
-        return OUT_OF_RANGE;
-    }
-    above_misfit(f, x)
-}
-
-fn whole_misfit(f: Limits, kind: u8, x: u64) -> usize
-    ensures { result ≡ whole_misfit f kind x }
-{
-    if kind == kinds::SIGNED {
-        return signed_misfit(f, x);
-    }
-    if kind == kinds::UNSIGNED {
+    if x < 0x8000_0000_0000_0000 {
         return above_misfit(f, x);
     }
-    MISFIT
+    if f.under < x {
+        None
+    } else {
+        Some(Misfit::Range)
+    }
 }
 
-// 0 where an entry of a kind and a payload is taken, null among them; else the refusal's number.
-pub fn misfit(f: Limits, kind: u8, x: u64) -> usize
-    ensures { result ≡ misfit_of f kind x }
+fn whole_misfit(f: Limits, kind: u8, x: u64) -> Option<Misfit>
+    ensures { result ≡ whole_misfit f kind x }
+{
+    match kind {
+        kinds::SIGNED => signed_misfit(f, x),
+        kinds::UNSIGNED => above_misfit(f, x),
+        _ => Some(Misfit::Kind),
+    }
+}
+
+// Whether an entry of a kind and a payload is taken, null among them, or why not.
+pub fn judge(f: Limits, kind: u8, x: u64) -> Option<Misfit>
+    ensures { result ≡ misfit f kind x }
 {
     if kind == kinds::NULL {
-        return 0;
+        return None;
     }
-    let one = f.kind;
-    if one == kinds::SIGNED {
+    if f.kind == kinds::SIGNED {
         return whole_misfit(f, kind, x);
     }
-    if kind == one {
-        return 0;
+    if kind == f.kind {
+        None
+    } else {
+        Some(Misfit::Kind)
     }
-    MISFIT
 }

@@ -1,6 +1,6 @@
 // Atomics, arrays of them and texts set in an image (document 01, "Writing"), once the check has accepted every entry.
 // Each answers the number of the entry after its own.
-ghost use Rattle.std.specs.Prelude.{◌≡◌, ℕ, ◌+◌, ◌*◌, ◌%◌, ◌^◌, ◌<◌, ◌≤◌, true, length, replicate};
+ghost use Rattle.std.specs.Prelude.{◌≡◌, ℕ, ◌+◌, ◌*◌, ◌<◌, ◌≤◌, true, length, replicate};
 ghost use Rattle.std.proofs.lemmas.List.Edits.{sets};
 ghost use Rattle.words.specs.Bits.{flat};
 ghost use Rattle.words.specs.Words.{bytes_of};
@@ -21,39 +21,20 @@ ghost use Rattle.values.specs.writing.Writing.{elements, write, write_one};
 use crate::stream::kinds;
 use crate::stream::tokens::{kind_of, payload_of};
 use crate::writing::bools::{put_bit, set_bools};
-use types::{Atomic, Bit, MemberTable, Ty, is_bits, member_row, size_of};
-use words::{copy, high32, load32, low32, store8, store16, store32, store64, wide};
-
-fn low8(x: u64) -> u8
-    ensures { result ≡ x % 256 ^ 1 }
-{
-    (x % 0x100) as u8
-}
-
-fn low16(x: u64) -> u16
-    ensures { result ≡ x % 256 ^ 2 }
-{
-    (x % 0x1_0000) as u16
-}
+use types::{Atomic, MemberTable, Ty, member_row};
+use words::{Word, copy, high32, low32};
 
 // The low 1, 2, 4 or 8 bytes of a number.
 fn put_low(image: &mut [u8], at: usize, size: usize, x: u64)
     requires { (at + size ≤ length image.old) × Width size }
     ensures { image.new ≡ sets image.old at (bytes_of size x) }
 {
-    if size == 4 {
-        store32(image, at, low32(x));
-        return;
+    match size {
+        4 => low32(x).store(image, at),
+        2 => ((x % 0x1_0000) as u16).store(image, at),
+        1 => ((x % 0x100) as u8).store(image, at),
+        _ => x.store(image, at),
     }
-    if size == 2 {
-        store16(image, at, low16(x));
-        return;
-    }
-    if size == 1 {
-        store8(image, at, low8(x));
-        return;
-    }
-    store64(image, at, x);
 }
 
 // Zeros at n places.
@@ -61,10 +42,8 @@ pub fn clear(image: &mut [u8], at: usize, n: usize)
     requires { at + n ≤ length image.old }
     ensures { image.new ≡ sets image.old at (replicate n 0) }
 {
-    let mut i: usize = 0;
-    while i < n {
+    for i in 0..n {
         image[at + i] = 0;
-        i += 1;
     }
 }
 
@@ -76,11 +55,10 @@ pub fn set_atomic(a: Atomic, s: &[u8], k: usize, image: &mut [u8], base: usize) 
     ensures { Applied s.now k result image.old image.new
         (write_one (or_null (atomic_takes a)) (8 * size_of a) (8 * base) (left_at s.now k)) }
 {
-    let kind = kind_of(s, k);
-    if kind == kinds::NULL {
+    if kind_of(s, k) == kinds::NULL {
         return k + 1;
     }
-    put_low(image, base, size_of(a), payload_of(s, k));
+    put_low(image, base, a.size() as usize, payload_of(s, k));
     k + 1
 }
 
@@ -92,8 +70,7 @@ fn set_flag(s: &[u8], k: usize, image: &mut [u8], at: usize, bit: u8) -> usize
     ensures { Applied s.now k result image.old image.new
         (write_one (or_null (taken flag)) 1 (8 * at + bit) (left_at s.now k)) }
 {
-    let kind = kind_of(s, k);
-    if kind == kinds::NULL {
+    if kind_of(s, k) == kinds::NULL {
         return k + 1;
     }
     put_bit(image, at, bit, payload_of(s, k) == 1);
@@ -108,17 +85,15 @@ pub fn set_text(capacity: u32, s: &[u8], k: usize, image: &mut [u8], base: usize
     ensures { Applied s.now k result image.old image.new
         (write_one (or_null (as_text capacity)) (32 + 8 * capacity) (8 * base) (left_at s.now k)) }
 {
-    let kind = kind_of(s, k);
-    if kind == kinds::NULL {
+    if kind_of(s, k) == kinds::NULL {
         return k + 1;
     }
     let x = payload_of(s, k);
-    let long = wide(high32(x));
-    let start = 4 + 12 * wide(load32(s, 0)) + wide(low32(x));
-    let end = start + long;
-    store32(image, base, high32(x));
-    copy(image, base + 4, &s[start..end]);
-    clear(image, base + 4 + long, wide(capacity) - long);
+    let long = high32(x) as usize;
+    let start = 4 + 12 * u32::load(s, 0) as usize + low32(x) as usize;
+    high32(x).store(image, base);
+    copy(image, base + 4, &s[start..start + long]);
+    clear(image, base + 4 + long, capacity as usize - long);
     k + 1
 }
 
@@ -132,21 +107,18 @@ fn set_numbers(a: Atomic, count: usize, s: &[u8], k: usize, image: &mut [u8], ba
         (elements count (write_one (or_null (atomic_takes a)) (8 * size_of a)) (8 * size_of a) (8 * base)
         (left_at s.now k)) }
 {
-    let size = size_of(a);
-    let mut p = k;
-    while p - k < count {
+    let size = a.size() as usize;
+    for e in 0..count {
+        let p = k + e;
         let kind = kind_of(s, p);
         if kind == kinds::ARRAY_CLOSE {
             return p + 1;
         }
-        if kind == kinds::NULL {
-            p += 1;
-        } else {
-            put_low(image, base + size * (p - k), size, payload_of(s, p));
-            p += 1;
+        if kind != kinds::NULL {
+            put_low(image, base + size * e, size, payload_of(s, p));
         }
     }
-    p + 1
+    k + count + 1
 }
 
 // One bit string: a whole number, or an array of bools, missing ones zero.
@@ -157,9 +129,8 @@ fn set_bits(a: Atomic, s: &[u8], k: usize, image: &mut [u8], base: usize) -> usi
     ensures { Applied s.now k result image.old image.new
         (write (atomics_tree a 0) (8 * base) (left_at s.now k)) }
 {
-    let kind = kind_of(s, k);
-    if kind == kinds::ARRAY_OPEN {
-        put_low(image, base, size_of(a), 0);
+    if kind_of(s, k) == kinds::ARRAY_OPEN {
+        put_low(image, base, a.size() as usize, 0);
         return set_bools(s, k + 1, image, base);
     }
     set_atomic(a, s, k, image, base)
@@ -172,12 +143,8 @@ fn set_run(a: Atomic, count: usize, s: &[u8], k: usize, image: &mut [u8], base: 
     ensures { Applied s.now k result image.old image.new
         (run_in a count (8 * base) (left_at s.now k)) }
 {
-    if is_bits(a) {
-        let kind = kind_of(s, k);
-        if kind == kinds::BOOL {
-            return set_bools(s, k, image, base);
-        }
-        return set_numbers(a, count, s, k, image, base);
+    if a.is_bit_string() && kind_of(s, k) == kinds::BOOL {
+        return set_bools(s, k, image, base);
     }
     set_numbers(a, count, s, k, image, base)
 }
@@ -190,8 +157,7 @@ fn set_array(a: Atomic, count: usize, s: &[u8], k: usize, image: &mut [u8], base
     ensures { Applied s.now k result image.old image.new
         (write (atomics_tree a count) (8 * base) (left_at s.now k)) }
 {
-    let kind = kind_of(s, k);
-    if kind == kinds::NULL {
+    if kind_of(s, k) == kinds::NULL {
         return k + 1;
     }
     set_run(a, count, s, k + 1, image, base)
@@ -211,13 +177,13 @@ pub fn set_atomics(
     ensures { Applied s.now k result image.old image.new
         (write (atomics_tree a count) (8 * base) (left_at s.now k)) }
 {
-    if count == 0 {
-        if is_bits(a) {
-            return set_bits(a, s, k, image, base);
-        }
-        return set_atomic(a, s, k, image, base);
+    if count != 0 {
+        return set_array(a, count, s, k, image, base);
     }
-    set_array(a, count, s, k, image, base)
+    if a.is_bit_string() {
+        return set_bits(a, s, k, image, base);
+    }
+    set_atomic(a, s, k, image, base)
 }
 
 // The member in a row, where it is no structure; its structure begins at `base`.
@@ -238,23 +204,12 @@ pub fn set_leaf(
         (8 * base + first_bit (member_at members.now row)) (left_at s.now k)) }
 {
     let m = member_row(members, row);
-    let bit = m.bit;
-    let ty = m.ty;
-    let count = wide(m.count);
-    let start = base + wide(m.offset);
-    match bit {
-        Bit::At(b) => {
-            return set_flag(s, k, image, start, b);
-        }
-        Bit::None => {
-            match ty {
-                Ty::Atomic(a) => {
-                    return set_atomics(a, count, s, k, image, start);
-                }
-                Ty::Struct(_) => {
-                    return k + 1;
-                }
-            }
-        }
+    let start = base + m.offset as usize;
+    match m.bit {
+        Some(b) => set_flag(s, k, image, start, b),
+        None => match m.ty {
+            Ty::Atomic(a) => set_atomics(a, m.count as usize, s, k, image, start),
+            Ty::Struct(_) => k + 1,
+        },
     }
 }

@@ -1,10 +1,9 @@
 // Writing (document 01, "Writing"): the entries of a value stream set in a tag's bytes. Every entry is checked before
 // the first byte is set, so that a refusal leaves the image as it was.
-ghost use Rattle.std.specs.Prelude.{◌≡◌, ◌*◌, ◌%◌, ◌^◌, ◌<◌, ◌≤◌, true};
+ghost use Rattle.std.specs.Prelude.{◌≡◌, ◌*◌, ◌^◌, ◌<◌, true};
 ghost use Rattle.words.specs.Bits.{flat};
 ghost use Rattle.types.specs.inside.tables.Lent.{TyFits};
 ghost use Rattle.types.specs.layout.Placing.{times};
-ghost use Rattle.types.specs.refusals.Refusal.{number_of, place_of};
 ghost use Rattle.types.specs.tables.Kept.{KeptRows};
 ghost use Rattle.types.specs.tables.Sizes.{size_in, sizes_in};
 ghost use Rattle.values.specs.inside.reading.Walkable.{ValueImage, Walkable};
@@ -17,21 +16,12 @@ ghost use Rattle.values.specs.writing.Written.{Done};
 
 use crate::reading::images::image_fit;
 use crate::stream::form::stream_ok;
-use crate::stream::tokens;
-use crate::stream::tokens::{REFUSED, as_size};
 use crate::writing::apply::{apply_elements, apply_struct};
 use crate::writing::check::{check_elements, check_struct};
 use crate::writing::fits::check_atomics;
 use crate::writing::sets::set_atomics;
-use types::{Fit, MemberTable, Refusal, Ty, TypeTable};
-use words::{load32, wide};
-
-// All was done, or a refusal and nothing was.
-#[derive(Clone, Copy)]
-pub enum Taken {
-    Whole,
-    Refused(Refusal),
-}
+use types::{MemberTable, Refusal, Ty, TypeTable};
+use words::Word;
 
 // The check of a value of n elements, or of one where n is 0.
 fn check_value(
@@ -41,7 +31,7 @@ fn check_value(
     n: usize,
     s: &[u8],
     entries: usize,
-) -> usize
+) -> Result<usize, Refusal>
     requires walkable { Walkable types.now members.now × (TyFits ty
         × (size_in (sizes_in types.now) ty * times n < 2 ^ 64)) }
     requires well_formed { WellFormed s.now entries }
@@ -53,9 +43,10 @@ fn check_value(
         Ty::Atomic(a) => check_atomics(a, n, s, entries, 0),
         Ty::Struct(i) => {
             if n == 0 {
-                return check_struct(types, members, i, s, entries, 0);
+                check_struct(types, members, i, s, entries, 0)
+            } else {
+                check_elements(types, members, i, n, s, entries, 0)
             }
-            return check_elements(types, members, i, n, s, entries, 0);
         }
     }
 }
@@ -81,31 +72,12 @@ fn apply_value(
         Ty::Atomic(a) => set_atomics(a, n, s, 0, image, 0),
         Ty::Struct(i) => {
             if n == 0 {
-                return apply_struct(types, members, i, s, 0, image, 0);
+                apply_struct(types, members, i, s, 0, image, 0)
+            } else {
+                apply_elements(types, members, i, n, s, 0, image, 0)
             }
-            return apply_elements(types, members, i, n, s, 0, image, 0);
         }
     }
-}
-
-// The refusal that a number and a place stand for.
-fn entry_refusal(number: usize, k: u32) -> Refusal
-    requires { (18 ≤ number) × (number ≤ 21) }
-    ensures { (number_of result ≡ number) × (place_of result ≡ k) }
-{
-    match number {
-        tokens::OUT_OF_RANGE => Refusal::NumberOutOfRange(k),
-        tokens::PAST_LAST => Refusal::PastLastPlace(k),
-        tokens::TOO_LONG => Refusal::TextTooLong(k),
-        _ => Refusal::EntryMisfit(k),
-    }
-}
-
-// A place in 32 bits.
-fn place_of(r: usize) -> u32
-    ensures { result ≡ r % 2 ^ 32 }
-{
-    (r % 0x1_0000_0000) as u32
 }
 
 // The entries of a stream whose form is good.
@@ -116,22 +88,19 @@ fn write_entries(
     n: usize,
     s: &[u8],
     image: &mut [u8],
-) -> Taken
+) -> Result<(), Refusal>
     requires { Walkable types.now members.now × (ValueImage types.now ty n image.old
         × (stream_ok s.now ≡ true)) }
     ensures { Entered types.now members.now ty n s.now image.old result
         image.new }
 {
-    let entries = wide(load32(s, 0));
-    let r = check_value(types, members, ty, n, s, entries);
-    if REFUSED <= r {
-        return Taken::Refused(entry_refusal(r / REFUSED, place_of(r)));
-    }
-    if r < entries {
-        return Taken::Refused(Refusal::EntryMisfit(place_of(r)));
+    let entries = u32::load(s, 0) as usize;
+    let next = check_value(types, members, ty, n, s, entries)?;
+    if next < entries {
+        return Err(Refusal::EntryMisfit(next as u32));
     }
     apply_value(types, members, ty, n, s, image);
-    Taken::Whole
+    Ok(())
 }
 
 // Sets the values of a stream in an image of a type, of `count` elements where `count` is not 0; or refuses with 15, 14
@@ -143,18 +112,14 @@ pub fn write(
     count: u64,
     s: &[u8],
     image: &mut [u8],
-) -> Taken
+) -> Result<(), Refusal>
     requires { KeptRows types.now members.now }
     ensures { Done types.now members.now ty count s.now image.old result
         image.new }
 {
-    match image_fit(types, ty, count, image.len()) {
-        Fit::Refused(why) => Taken::Refused(why),
-        Fit::Fits => {
-            if !stream_ok(s) {
-                return Taken::Refused(Refusal::StreamMalformed);
-            }
-            return write_entries(types, members, ty, as_size(count), s, image);
-        }
+    image_fit(types, ty, count, image.len())?;
+    if !stream_ok(s) {
+        return Err(Refusal::StreamMalformed);
     }
+    write_entries(types, members, ty, count as usize, s, image)
 }

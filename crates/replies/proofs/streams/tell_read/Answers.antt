@@ -5,5 +5,5 @@ use Rattle.replies.proofs.streams.tell_read.Goals as goal
 
 pub overflow_add-result : goal.overflow_add-result
 overflow_add-result c =
-    let answered = rw c.in-Length.is at c.read-r.ensures in
+    let answered = rw c.in_ok-n.was at c.read.ensures in
     omega (arith, read_short answered)

@@ -1,5 +1,6 @@
 -- Laws of the checks of members (document 01, "Refusal numbers": per member 2, 8, 9): names that are the same have the
 -- same mark, so a name whose mark was not seen is new; and the members one after the other.
+use Rattle.std.specs.Prelude.{Result, Ok, Err}
 use Prim.Native.Nat.{ℕ, zero, suc, ◌+◌, ◌-◌, ◌*◌, ◌%◌, ◌≤◌, ◌<◌}
 use native.Mathlib.Nat.{mod-lt, sub-zero}
 use native.Mathlib.Numerals.{add-one}
@@ -18,8 +19,8 @@ use Rattle.types.specs.book.Names.{lower_of, same_name, good_name}
 use Rattle.types.specs.inside.adding.Checks.{member_name, EntriesInside, names_before, mark_from, mark_of, Marked}
 use Rattle.types.specs.inside.adding.Checks.{Marks, Looked, CheckedOne}
 use Rattle.types.specs.tables.Defs.{name_in}
-use Rattle.types.specs.declared.adding.checks.Checked.{Checked}
-use Rattle.types.specs.declared.adding.checks.Checked.TheVariants.{Good, NameWrong, Twice, LocalOutside}
+use Rattle.types.specs.declared.adding.checks.MemberFault.{MemberFault}
+use Rattle.types.specs.declared.adding.checks.MemberFault.TheVariants.{NameWrong, Twice, LocalOutside}
 use Rattle.types.specs.declared.book.contents.MemberEntry.{MemberEntry}
 use Rattle.types.proofs.book.BookLaws.{from_cons, from_none}
 use Rattle.types.proofs.book.NameLaws.{same_lower}
@@ -153,42 +154,29 @@ module _ (book : List ℕ) (at j : ℕ) {seen s : List ℕ} {m : ℕ} (e : s ≡
 
 -- ---- one member
 
--- a member that is not good is the last
-abbrev pub stops : Checked → Bool
-stops Good = false
-stops NameWrong = true
-stops Twice = true
-stops LocalOutside = true
-
-stopped : {x : Checked} → stops x ≡ true → x ≡ Good → ⊥
-stopped s e =
-    let z : false ≡ true = rw e at s in
-    let y : ◌≡◌ {A = ℕ} 0 1 = cc in
-    omega arith
-
 module _ (book : List ℕ) (aoi : Bool) (at j : ℕ) where
   one_is : {g a l : Bool} → good_name (member_name book at j) ≡ g
       → among (member_name book at j) (names_before (member_name book at) j) ≡ a
       → (eqb (entry_of book at j).local 1 && not aoi) ≡ l
-      → cond g (cond a Twice (cond l LocalOutside Good)) NameWrong
+      → cond g (cond a (Err Twice) (cond l (Err LocalOutside) (Ok tt))) (Err NameWrong)
       ≡ checked book aoi (names_before (member_name book at) j) (entry_of book at j ∷ [])
   unfolding checked
   one_is p q r = rw (p, q, r)
 
   module _ {good : Bool} (e : good ≡ good_name (member_name book at j)) where
     -- a member whose name is outside the rule is answered as wrongly named
-    pub one_misnamed : good ≡ false → (seen : List ℕ) → CheckedOne book aoi at j seen NameWrong
-    one_misnamed q seen = record { is = one_is (sym e ∙ q) refl refl; marks = λ h. absurd (stopped refl h) }
+    pub one_misnamed : good ≡ false → (seen : List ℕ) → CheckedOne book aoi at j seen (Err NameWrong)
+    one_misnamed q seen = record { is = one_is (sym e ∙ q) refl refl; marks = λ h. cc }
 
     module _ (q : good ≡ true) {seen : List ℕ} {known : Bool} (w : Looked book at j seen known) where
       -- a member with a good name that stands among those before is answered as there twice
-      pub one_twice : known ≡ true → CheckedOne book aoi at j seen Twice
+      pub one_twice : known ≡ true → CheckedOne book aoi at j seen (Err Twice)
       one_twice r =
-          record { is = one_is (sym e ∙ q) (sym w.is ∙ r) refl; marks = λ h. absurd (stopped refl h) }
+          record { is = one_is (sym e ∙ q) (sym w.is ∙ r) refl; marks = λ h. cc }
 
       module _ (r : known ≡ false) {local : ℕ} (p : local ≡ (entry_of book at j).local) where
         -- a member with a good, new name that is no local is good
-        pub one_shown : (local ≡ 1 → ⊥) → CheckedOne book aoi at j seen Good
+        pub one_shown : (local ≡ 1 → ⊥) → CheckedOne book aoi at j seen (Ok tt)
         one_shown n =
             let i : eqb (entry_of book at j).local 1 ≡ false = rw (← p) (ne_eqb local 1 n) in
             record { is = one_is {l = false} (sym e ∙ q) (sym w.is ∙ r) (rw i); marks = λ h. w.marks }
@@ -198,7 +186,7 @@ module _ (book : List ℕ) (aoi : Bool) (at j : ℕ) where
           is_local = rw (← p) (eq-eqb local 1 l)
 
           -- a local with a good, new name is good in an AOI
-          pub one_inside : aoi ≡ true → CheckedOne book aoi at j seen Good
+          pub one_inside : aoi ≡ true → CheckedOne book aoi at j seen (Ok tt)
           one_inside a =
               record {
                 is = one_is {l = false} (sym e ∙ q) (sym w.is ∙ r) (rw (is_local, a));
@@ -206,11 +194,11 @@ module _ (book : List ℕ) (aoi : Bool) (at j : ℕ) where
               }
 
           -- a local with a good, new name outside an AOI is answered as that
-          pub one_outside : aoi ≡ false → CheckedOne book aoi at j seen LocalOutside
+          pub one_outside : aoi ≡ false → CheckedOne book aoi at j seen (Err LocalOutside)
           one_outside a =
               record {
                 is = one_is {l = true} (sym e ∙ q) (sym w.is ∙ r) (rw (is_local, a));
-                marks = λ h. absurd (stopped refl h);
+                marks = λ h. cc;
               }
 
 -- ---- the members one after the other
@@ -220,20 +208,13 @@ pub inside_less : {book : List ℕ} {at n : ℕ} (m : ℕ) → EntriesInside boo
 inside_less m w l = record { inside = omega (arith, w.inside); names = λ k h. w.names k (omega arith) }
 
 -- what a member gives, and what those after it give where it is good
-abbrev pub onward : Checked → Checked → Checked
-onward Good r = r
-onward NameWrong r = NameWrong
-onward Twice r = Twice
-onward LocalOutside r = LocalOutside
+abbrev pub onward : Result (Unit {0}) MemberFault → Result (Unit {0}) MemberFault → Result (Unit {0}) MemberFault
+onward (Ok tt) r = r
+onward (Err f) r = Err f
 
-onward_stops : (x r : Checked) → stops x ≡ true → onward x r ≡ x
-onward_stops Good r e = cc
-onward_stops NameWrong r e = refl
-onward_stops Twice r e = refl
-onward_stops LocalOutside r e = refl
-
-onward_pick : (g a l : Bool) (r : Checked) → cond g (cond a Twice (cond l LocalOutside r)) NameWrong
-    ≡ onward (cond g (cond a Twice (cond l LocalOutside Good)) NameWrong) r
+onward_pick : (g a l : Bool) (r : Result (Unit {0}) MemberFault)
+    → cond g (cond a (Err Twice) (cond l (Err LocalOutside) r)) (Err NameWrong)
+    ≡ onward (cond g (cond a (Err Twice) (cond l (Err LocalOutside) (Ok tt))) (Err NameWrong)) r
 onward_pick true true l r = refl
 onward_pick true false true r = refl
 onward_pick true false false r = refl
@@ -266,7 +247,8 @@ checking_start book aoi at n l =
     }
 
 module _ {book : List ℕ} {aoi : Bool} {at n : ℕ} {seen : List ℕ} {j : ℕ} (w : Checking book aoi at n seen j) where
-  module _ (l : j < n) {left : List ℕ} {r : Checked} (o : CheckedOne book aoi at j left r) where
+  module _ (l : j < n) {left : List ℕ} {r : Result (Unit {0}) MemberFault}
+      (o : CheckedOne book aoi at j left r) where
     one_then : checked book aoi [] (entries_from book at 0 n)
         ≡ onward r (checked book aoi (names_before (member_name book at) (j + 1))
         (entries_from book at (j + 1) (n - (j + 1))))
@@ -275,14 +257,14 @@ module _ {book : List ℕ} {aoi : Bool} {at n : ℕ} {seen : List ℕ} {j : ℕ}
         w.rest ∙ rw (from_cons (entry_of book at) n j l, b, o.is) (checked_cons book aoi _ _ _)
 
     -- after a good member, the answer for all is that for the members after it
-    pub checking_on : r ≡ Good → Checking book aoi at n left (j + 1)
+    pub checking_on : r ≡ Ok tt → Checking book aoi at n left (j + 1)
     checking_on q = record { inside = omega arith; marks = o.marks q; rest = one_then ∙ rw q }
 
     -- the answer for a member that is not good is the answer for all
-    pub checking_off : {x : Checked} → r ≡ x → stops x ≡ true → x ≡ checked book aoi [] (entries_from book at 0 n)
-    checking_off {x} q s = sym (one_then ∙ rw q (onward_stops x _ s))
+    pub checking_off : {f : MemberFault} → r ≡ Err f → Err f ≡ checked book aoi [] (entries_from book at 0 n)
+    checking_off q = sym (one_then ∙ rw q)
 
   -- where no member is left, all are good
-  pub checking_done : n ≤ j → Good ≡ checked book aoi [] (entries_from book at 0 n)
+  pub checking_done : n ≤ j → Ok tt ≡ checked book aoi [] (entries_from book at 0 n)
   unfolding checked
   checking_done l = sym (w.rest ∙ rw (from_none (entry_of book at) n j l))

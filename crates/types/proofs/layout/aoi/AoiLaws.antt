@@ -1,14 +1,14 @@
 -- Laws of AOIs: counting the BOOLs of the members that are left, and storing the hosts that are left.
 use Prim.Native.Nat.{ℕ, suc, ◌+◌, ◌-◌, ◌*◌, ◌<◌, ◌≤◌}
-use native.Mathlib.Nat.{sub-zero, zero-add, add-zero}
+use native.Mathlib.Nat.{add-zero}
 use native.Mathlib.Omega.{arith}
 use mathlib.Core.Path.{◌≡◌, sym, ap, ◌∙◌}
-use mathlib.Core.Bool.{Bool, cond}
+use mathlib.Core.Bool.{Bool, true, false, cond}
 use mathlib.Core.List.{List, [], ◌∷◌}
 use lib.ListN.{length, length-append}
 use lib.Seq.{sets}
 use Rattle.types.specs.inside.book.Decls.{decl_at, decls_from, Found}
-use Rattle.types.specs.inside.layout.Passes.{BoolsCounted, OneIf, HostPut, PartsPut, BitHostLong, HostsLong}
+use Rattle.types.specs.inside.layout.Passes.{BoolsCounted, HostPut, PartsPut, BitHostLong, HostsLong}
 use Rattle.types.specs.layout.HostNames.{bit_host_name}
 use Rattle.types.specs.layout.Placing.{is_bool}
 use Rattle.types.specs.layout.Structs.{named, names_of, rows_of, bools, bit_host_at, host_parts}
@@ -26,11 +26,13 @@ pub record CountingBools (types book tys : List ℕ) (at n count j : ℕ) : Type
   pub most : count ≤ j
   pub same : bools (decls_from types book tys at 0 n) ≡ count + bools (decls_from types book tys at j (n - j))
 
--- before the first member the count is 0
-pub counts : (types book tys : List ℕ) (at n : ℕ) → Found book tys at n → n ≤ 131072
-    → CountingBools types book tys at n 0 0
-counts types book tys at n f l =
-    record { found = f; few = l; done = omega arith; most = omega arith; same = rw (sub-zero, zero-add) }
+-- what a member adds to the count
+abbrev pub one_if : Bool → ℕ
+one_if b = cond b 1 0
+
+one_most : (b : Bool) → one_if b ≤ 1
+one_most true = omega arith
+one_most false = omega arith
 
 module _ {types book tys : List ℕ} {at n count j : ℕ} (c : CountingBools types book tys at n count j) where
   -- after the last member the count is that of all BOOLs
@@ -44,18 +46,17 @@ module _ {types book tys : List ℕ} {at n count j : ℕ} (c : CountingBools typ
 
   -- the j-th member adds one to the count where it is a BOOL, else nothing
   pub count_on : j < n → {d : Decl} {b : Bool} → d ≡ decl_at types book tys at j → b ≡ is_bool d.ty → {r : ℕ}
-      → OneIf b r
-      → CountingBools types book tys at n (count + r) (j + 1)
+      → r ≡ count + one_if b → CountingBools types book tys at n r (j + 1)
   unfolding bools
-  count_on l {d} {b} e f {r} o =
-      let g : r ≡ cond (is_bool (decl_at types book tys at j).ty) 1 0 =
-      o.is ∙ ap (λ (x : Bool). cond x 1 0) (f ∙ ap (λ (x : Decl). is_bool x.ty) e) in
+  count_on l {d} {b} e f {r} q =
+      let g : one_if b ≡ one_if (is_bool (decl_at types book tys at j).ty) =
+      ap one_if (f ∙ ap (λ (x : Decl). is_bool x.ty) e) in
       record {
         found = c.found;
         few = c.few;
         done = omega arith;
-        most = omega (arith, c.most, o.most);
-        same = omega (arith, g, rw (decls_cons types book tys at n j l) at c.same);
+        most = omega (arith, q, c.most, one_most b);
+        same = omega (arith, q, g, rw (decls_cons types book tys at n j l) at c.same);
       }
 
 -- ---- hosts
@@ -82,20 +83,6 @@ pub record Hosting (h row place : ℕ) (m₀ t₀ m t : List ℕ) (at i : ℕ) :
   pub rows : sets m₀ (8 * row) (rows_of place (host_parts 0 h)) ≡ sets m (8 * (row + i))
       (rows_of at (host_parts i (h - i)))
   pub names : sets t₀ place (names_of (host_parts 0 h)) ≡ sets t at (names_of (host_parts i (h - i)))
-
--- before the first host the tables are as they were, with room for all hosts
-pub hosts_start : (h row place : ℕ) (m t : List ℕ) → row + h ≤ most_members
-    → place + length (names_of (host_parts 0 h)) ≤ most_names
-    → Hosting h row place m t m t place 0
-hosts_start h row place m t r b =
-    record {
-      done = omega arith;
-      room = r;
-      bytes = rw sub-zero b;
-      next = rw sub-zero;
-      rows = rw (sub-zero, add-zero);
-      names = rw sub-zero;
-    }
 
 module _ {h row place at i : ℕ} {m₀ t₀ m t : List ℕ} (s : Hosting h row place m₀ t₀ m t at i) where
   -- after the last host all of them are stored
@@ -161,10 +148,6 @@ pub record Adding (h long i : ℕ) : Type 0 where
   pub few : h ≤ 131072
   pub most : long ≤ 15 * i
   pub same : length (names_of (host_parts 0 h)) ≡ long + length (names_of (host_parts i (h - i)))
-
--- before the first host the sum is 0
-pub adding_start : (h : ℕ) → h ≤ 131072 → Adding h 0 0
-adding_start h l = record { done = omega arith; few = l; most = omega arith; same = rw (sub-zero, zero-add) }
 
 module _ {h long i : ℕ} (s : Adding h long i) where
   -- after the last host the sum is the length of all hosts' names

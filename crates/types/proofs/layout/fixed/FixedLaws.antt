@@ -1,12 +1,11 @@
 -- Laws of the layouts that no book declares (document 01, "Layout", String and Predefined): a string's parts, status
 -- bits and a control type's parts stored one after the other.
 use Prim.Native.Nat.{ℕ, suc, ◌+◌, ◌-◌, ◌*◌, ◌<◌, ◌≤◌}
-use native.Mathlib.Nat.{add-zero, sub-zero}
 use native.Mathlib.Omega.{arith}
 use mathlib.Core.Path.{◌≡◌, refl, sym, ap, ◌∙◌}
-use mathlib.Core.List.{List, [], ◌∷◌}
-use lib.ListN.{length, take, drop}
-use lib.Seq.{sets}
+use mathlib.Core.List.{List, [], ◌∷◌, ◌++◌}
+use lib.ListN.{length, take, drop, length-append, length-drop}
+use lib.Seq.{sets, drop-drop, drop-append_seam, take-append_seam}
 use Rattle.words.specs.Words.{part}
 use Rattle.words.proofs.Lists.{length_part, length_between}
 use Rattle.types.specs.inside.layout.Structs.{pairs}
@@ -68,6 +67,23 @@ pairs_none s n i l =
     let e : n - i ≡ 0 = omega arith in
     rw e
 
+-- the next name of two bytes, and those after it
+module _ (bits name rest : List ℕ) (i : ℕ) (e : drop (2 * i) bits ≡ name ++ rest) (l : length name ≡ 2) where
+  -- it lies inside the names
+  pub next_inside : 2 * i + 2 ≤ length bits
+  next_inside = omega (arith, length-drop (2 * i) bits, ap length e, length-append name rest, l)
+
+  -- it is the i-th
+  pub next_name : name ≡ part bits (2 * i) 2
+  unfolding part
+  next_name = sym (rw (e, ← l) (take-append_seam name rest))
+
+  -- those after it are those from the next on
+  pub next_rest : rest ≡ drop (2 * (i + 1)) bits
+  next_rest =
+      let f : 2 * (i + 1) ≡ 2 * i + length name = omega (arith, l) in
+      sym (rw f (sym (drop-drop (length name) (2 * i) bits) ∙ rw e (drop-append_seam name rest)))
+
 -- what is kept from one status bit to the next: all stand once those that are left are stored after the others
 pub record PuttingBits (bits m₀ t₀ : List ℕ) (row place n : ℕ) (m t : List ℕ) (i : ℕ) : Type 0 where
   pub done : i ≤ n
@@ -75,15 +91,6 @@ pub record PuttingBits (bits m₀ t₀ : List ℕ) (row place n : ℕ) (m t : Li
       ≡ sets m (8 * (row + i)) (rows_of (place + 2 * i) (status_parts i (pairs bits i (n - i))))
   pub names : sets t₀ place (names_of (status_parts 0 (pairs bits 0 n)))
       ≡ sets t (place + 2 * i) (names_of (status_parts i (pairs bits i (n - i))))
-
--- it is so before the first status bit
-pub bits_start : (bits m t : List ℕ) (row place : ℕ) {n : ℕ} → PuttingBits bits m t row place n m t 0
-bits_start bits m t row place {n} =
-    record {
-      done = omega arith;
-      rows = rw (add-zero, add-zero, sub-zero);
-      names = rw (add-zero, sub-zero);
-    }
 
 module _ {bits m₀ t₀ m t : List ℕ} {row place n i : ℕ} (s : PuttingBits bits m₀ t₀ row place n m t i) where
   -- after the last status bit the rows of all are stored

@@ -1,9 +1,10 @@
 -- What the second pass of a layout keeps from one member to the next: all rows and names stand once those that are
 -- left are stored after the others.
+use Rattle.std.specs.Prelude.{Option, Some, None, Result, Ok, Err}
 use Prim.Native.Nat.{ℕ, ◌+◌, ◌-◌, ◌*◌, ◌<◌, ◌≤◌}
 use native.Mathlib.Nat.{add-zero, sub-zero}
 use native.Mathlib.Omega.{arith}
-use mathlib.Core.Path.{◌≡◌, refl, sym, ◌∙◌}
+use mathlib.Core.Path.{◌≡◌, refl, sym, ap, ◌∙◌}
 use mathlib.Core.Bool.{true, false, true≢false}
 use mathlib.Core.List.{List, [], ◌++◌}
 use lib.ListN.{length, length-append}
@@ -12,19 +13,19 @@ use Rattle.words.specs.Words.{Bytes}
 use Rattle.words.proofs.Lists.{length_part}
 use Rattle.types.specs.inside.book.Decls.{decl_at, decls_from, Found}
 use Rattle.types.specs.inside.layout.Passes.{then_parts, then_measure, then_next, parts_from, measure_one, one_parts}
+use Rattle.types.specs.inside.layout.Passes.{came}
 use Rattle.types.specs.inside.layout.Passes.{stored_one, Far, StepFits, Storable}
 use Rattle.types.specs.layout.HostNames.{host_name}
 use Rattle.types.specs.layout.Placing.{placed}
 use Rattle.types.specs.layout.Structs.{names_of, rows_of, named_in}
 use Rattle.types.specs.tables.Defs.{Part}
 use Rattle.types.specs.tables.Limits.{most_members, most_names}
-use Rattle.types.specs.declared.layout.measure.Measured.TheVariants.{Came}
 use Rattle.types.specs.declared.layout.placing.Cursor.{Cursor}
 use Rattle.types.specs.declared.layout.placing.Decl.{Decl}
+use Rattle.types.specs.declared.layout.placing.LayoutFault.{LayoutFault}
 use Rattle.types.specs.declared.layout.placing.Placed.{Placed}
-use Rattle.types.specs.declared.layout.placing.Placed.TheVariants.{Hosted, One, AccessWrong, TooFar}
+use Rattle.types.specs.declared.layout.placing.Placed.TheVariants.{Hosted, One}
 use Rattle.types.specs.declared.layout.store.StoreNext.{StoreNext}
-use Rattle.types.specs.declared.layout.store.StoreNext.TheVariants.{Next, Stop}
 use Rattle.types.proofs.book.DeclLaws.{decls_cons, decls_none, found_first, decl_fair, decl_ty}
 use Rattle.types.proofs.layout.DigitLaws.{host_most}
 use Rattle.types.proofs.layout.MeasureLaws.{far_on, near}
@@ -32,51 +33,62 @@ use Rattle.types.proofs.layout.StoreLaws.{names_append, rows_then, names_then}
 
 -- ---- one step, by the ways that placing can go
 
+-- what the next member's place consists of
+module _ {x s : StoreNext} (q : Some x ≡ Some s) where
+  next_is : x ≡ s
+  next_is = cc
+
+  next_cursor : x.cursor ≡ s.cursor
+  next_cursor = ap (λ (z : StoreNext). z.cursor) next_is
+
+  next_row : x.row ≡ s.row
+  next_row = ap (λ (z : StoreNext). z.row) next_is
+
+  next_place : x.place ≡ s.place
+  next_place = ap (λ (z : StoreNext). z.place) next_is
+
 -- how many rows and bytes a step takes, and what is left after it
 pub record StoreMoved (row at row' at' : ℕ) (one all rest : List Part) : Type 0 where
   pub rows : row' ≡ row + length one
   pub place : at' ≡ at + length (names_of one)
   pub parts : all ≡ one ++ rest
 
-moves : (p : Placed) (host name : List ℕ) (k : ℕ) → k ≡ length name → (rest : Cursor → List Part) (row at : ℕ)
-    {c' : Cursor} {row' at' : ℕ} → then_next p (length host) k row at ≡ Next c' row' at'
-    → StoreMoved row at row' at' (then_parts p host name (λ c. [])) (then_parts p host name rest) (rest c')
+moves : (p : Result Placed LayoutFault) (host name : List ℕ) (k : ℕ) → k ≡ length name
+    → (rest : Cursor → List Part) (row at : ℕ) {s : StoreNext} → then_next p (length host) k row at ≡ Some s
+    → StoreMoved row at s.row s.place (then_parts p host name (λ c. [])) (then_parts p host name rest) (rest s.cursor)
 unfolding names_of
-moves (Hosted h m c) host name k l rest row at {c'} {row'} {at'} q =
-    let e : c ≡ c' = cc in
-    let f : row + 2 ≡ row' = cc in
-    let g : at + length host + k ≡ at' = cc in
+moves (Ok (Hosted h m c)) host name k l rest row at {s} q =
+    let e : c ≡ s.cursor = next_cursor q in
+    let f : row + 2 ≡ s.row = next_row q in
+    let g : at + length host + k ≡ s.place = next_place q in
     record {
       rows = sym f;
       place = sym g ∙ simp (length-append, length-append) (omega arith);
       parts = rw e;
     }
-moves (One m c) host name k l rest row at {c'} {row'} {at'} q =
-    let e : c ≡ c' = cc in
-    let f : row + 1 ≡ row' = cc in
-    let g : at + k ≡ at' = cc in
+moves (Ok (One m c)) host name k l rest row at {s} q =
+    let e : c ≡ s.cursor = next_cursor q in
+    let f : row + 1 ≡ s.row = next_row q in
+    let g : at + k ≡ s.place = next_place q in
     record {
       rows = sym f;
       place = sym g ∙ simp length-append (omega arith);
       parts = rw e;
     }
-moves AccessWrong host name k l rest row at q = let z : true ≡ false = cc in absurd (true≢false z)
-moves TooFar host name k l rest row at q = let z : true ≡ false = cc in absurd (true≢false z)
+moves (Err f) host name k l rest row at q = let z : true ≡ false = cc in absurd (true≢false z)
 
-stops : (p : Placed) (a b : ℕ) (host name : List ℕ) (rest : Cursor → List Part) (row at : ℕ)
-    → then_next p a b row at ≡ Stop → then_parts p host name rest ≡ []
-stops (Hosted h m c) a b host name rest row at q = cc
-stops (One m c) a b host name rest row at q = cc
-stops AccessWrong a b host name rest row at q = refl
-stops TooFar a b host name rest row at q = refl
+stops : (p : Result Placed LayoutFault) (a b : ℕ) (host name : List ℕ) (rest : Cursor → List Part) (row at : ℕ)
+    → then_next p a b row at ≡ None → then_parts p host name rest ≡ []
+stops (Ok (Hosted h m c)) a b host name rest row at q = cc
+stops (Ok (One m c)) a b host name rest row at q = cc
+stops (Err f) a b host name rest row at q = refl
 
 -- where a step goes on, measuring goes on too
-goes : (p : Placed) (a b row at : ℕ) {c' : Cursor} {row' at' : ℕ} → then_next p a b row at ≡ Next c' row' at'
-    → (n : ℕ) × (then_measure p a b 0 (λ x y. Came x y) ≡ Came c' n)
-goes (Hosted h m c) a b row at {c'} q = let e : c ≡ c' = cc in (0 + a + b, rw e)
-goes (One m c) a b row at {c'} q = let e : c ≡ c' = cc in (0 + b, rw e)
-goes AccessWrong a b row at q = let z : true ≡ false = cc in absurd (true≢false z)
-goes TooFar a b row at q = let z : true ≡ false = cc in absurd (true≢false z)
+goes : (p : Result Placed LayoutFault) (a b row at : ℕ) {s : StoreNext} → then_next p a b row at ≡ Some s
+    → (n : ℕ) × (then_measure p a b 0 (λ x y. came x y) ≡ came s.cursor n)
+goes (Ok (Hosted h m c)) a b row at {s} q = let e : c ≡ s.cursor = next_cursor q in (0 + a + b, rw e)
+goes (Ok (One m c)) a b row at {s} q = let e : c ≡ s.cursor = next_cursor q in (0 + b, rw e)
+goes (Err f) a b row at q = let z : true ≡ false = cc in absurd (true≢false z)
 
 -- ---- the loop
 
@@ -157,20 +169,18 @@ module _ {types book tys type m₀ t₀ m t : List ℕ} {at n row₀ place₀ ro
     long = length_part book d.name.at d.name.long (s.inside j l)
 
     -- this member's parts are among those that are left
-    least : (p : Placed) (host name : List ℕ) (next : Cursor → List Part)
+    least : (p : Result Placed LayoutFault) (host name : List ℕ) (next : Cursor → List Part)
         → length (then_parts p host name (λ x. [])) ≤ length (then_parts p host name next)
-    least (Hosted h k x) host name next = omega arith
-    least (One k x) host name next = omega arith
-    least AccessWrong host name next = omega arith
-    least TooFar host name next = omega arith
+    least (Ok (Hosted h k x)) host name next = omega arith
+    least (Ok (One k x)) host name next = omega arith
+    least (Err f) host name next = omega arith
 
-    least_names : (p : Placed) (host name : List ℕ) (next : Cursor → List Part)
+    least_names : (p : Result Placed LayoutFault) (host name : List ℕ) (next : Cursor → List Part)
         → length (names_of (then_parts p host name (λ x. []))) ≤ length (names_of (then_parts p host name next))
     unfolding names_of
-    least_names (Hosted h k x) host name next = simp (length-append, length-append) (omega arith)
-    least_names (One k x) host name next = simp (length-append, length-append) (omega arith)
-    least_names AccessWrong host name next = omega arith
-    least_names TooFar host name next = omega arith
+    least_names (Ok (Hosted h k x)) host name next = simp (length-append, length-append) (omega arith)
+    least_names (Ok (One k x)) host name next = simp (length-append, length-append) (omega arith)
+    least_names (Err f) host name next = omega arith
 
     -- the book and the tables have what the parts of the j-th member ask
     pub one_fits : StepFits book type c d row place
@@ -194,37 +204,37 @@ module _ {types book tys type m₀ t₀ m t : List ℕ} {at n row₀ place₀ ro
           );
         }
 
-    module _ (one : StoreNext) (e : one ≡ stored_one type c d row place) where
-      stopped : one ≡ Stop → parts_from (named_in book) (host_name type) c (decls_from types book tys at j (n - j)) ≡ []
+    module _ (one : Option StoreNext) (e : one ≡ stored_one type c d row place) where
+      stopped : one ≡ None → parts_from (named_in book) (host_name type) c (decls_from types book tys at j (n - j)) ≡ []
       unfolding stored_one
       stopped q = split ∙ stops (placed c d) _ _ _ _ rest row place (sym e ∙ q)
 
-      nothing : one ≡ Stop → one_parts book type c d ≡ []
+      nothing : one ≡ None → one_parts book type c d ≡ []
       unfolding stored_one one_parts
       nothing q = stops (placed c d) _ _ _ _ (λ x. []) row place (sym e ∙ q)
 
       -- where storing stops at the j-th member, the rows of all parts are stored
-      pub rows_stopped : {m' : List ℕ} → one ≡ Stop → m' ≡ sets m (8 * row) (rows_of place (one_parts book type c d))
+      pub rows_stopped : {m' : List ℕ} → one ≡ None → m' ≡ sets m (8 * row) (rows_of place (one_parts book type c d))
           → m' ≡ sets m₀ (8 * row₀) (rows_of place₀ all)
       unfolding rows_of
       rows_stopped q v = rw (nothing q) at v ∙ sym (rw (stopped q) at s.rows)
 
       -- where storing stops at the j-th member, the names of all parts are stored
-      pub names_stopped : {t' : List ℕ} → one ≡ Stop → t' ≡ sets t place (names_of (one_parts book type c d))
+      pub names_stopped : {t' : List ℕ} → one ≡ None → t' ≡ sets t place (names_of (one_parts book type c d))
           → t' ≡ sets t₀ place₀ (names_of all)
       unfolding names_of
       names_stopped q w = rw (nothing q) at w ∙ sym (rw (stopped q) at s.names)
 
-      moved : {c' : Cursor} {row' place' : ℕ} → one ≡ Next c' row' place'
-          → StoreMoved row place row' place' (one_parts book type c d)
-          (parts_from (named_in book) (host_name type) c (decls_from types book tys at j (n - j))) (rest c')
+      moved : {x : StoreNext} → one ≡ Some x
+          → StoreMoved row place x.row x.place (one_parts book type c d)
+          (parts_from (named_in book) (host_name type) c (decls_from types book tys at j (n - j))) (rest x.cursor)
       unfolding stored_one one_parts
       moved q =
           rw split
           (moves (placed c d) (host_name type c.members) (named_in book d) d.name.long (sym long) rest row place
           (sym e ∙ q))
 
-      farther : {c' : Cursor} {row' place' : ℕ} → one ≡ Next c' row' place' → Far (s.passed + (j + 1)) c' 0
+      farther : {x : StoreNext} → one ≡ Some x → Far (s.passed + (j + 1)) x.cursor 0
       unfolding stored_one measure_one
       farther q =
           let g = goes (placed c d) _ _ row place (sym e ∙ q) in
@@ -234,11 +244,11 @@ module _ {types book tys type m₀ t₀ m t : List ℕ} {at n row₀ place₀ ro
           rw (← h) (record { offset = f.offset; members = f.members; bits = f.bits; names = omega arith })
 
       -- where the parts of the j-th member were stored, it is so at the next
-      pub goes_on : {c' : Cursor} {row' place' : ℕ} {m' t' : List ℕ} → one ≡ Next c' row' place'
+      pub goes_on : {x : StoreNext} {m' t' : List ℕ} → one ≡ Some x
           → m' ≡ sets m (8 * row) (rows_of place (one_parts book type c d))
           → t' ≡ sets t place (names_of (one_parts book type c d))
-          → Storing types book tys type at n c₀ m₀ t₀ row₀ place₀ c' m' t' row' place' (j + 1)
-      goes_on {c'} {row'} {place'} q v w =
+          → Storing types book tys type at n c₀ m₀ t₀ row₀ place₀ x.cursor m' t' x.row x.place (j + 1)
+      goes_on {x} q v w =
           let o = moved q in
           let one = one_parts book type c d in
           record {
@@ -250,6 +260,6 @@ module _ {types book tys type m₀ t₀ m t : List ℕ} {at n row₀ place₀ ro
             inside = s.inside;
             room = omega (arith, o.rows, simp length-append at (rw o.parts at s.room));
             bytes = omega (arith, o.place, simp (names_append, length-append) at (rw o.parts at s.bytes));
-            rows = s.rows ∙ rw (o.parts, o.rows, o.place, v) (rows_then m row place one (rest c'));
-            names = s.names ∙ rw (o.parts, o.place, w) (names_then t place one (rest c'));
+            rows = s.rows ∙ rw (o.parts, o.rows, o.place, v) (rows_then m row place one (rest x.cursor));
+            names = s.names ∙ rw (o.parts, o.place, w) (names_then t place one (rest x.cursor));
           }

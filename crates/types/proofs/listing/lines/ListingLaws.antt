@@ -1,5 +1,6 @@
 -- Laws of the lines that the program `layout` prints (document 01, end of "Reference cases"): fields put one after
 -- the other, and how long a line can be.
+use Rattle.std.specs.Prelude.{Option, Some, None}
 use Prim.Native.Nat.{ℕ, ◌+◌, ◌≤◌, ◌<◌}
 use native.Mathlib.Omega.{arith}
 use mathlib.Core.Path.{◌≡◌, refl, sym, ap, ◌∙◌}
@@ -19,8 +20,6 @@ use Rattle.types.specs.declared.atomics.atomic.Atomic.{Atomic as AtomicType}
 use Rattle.types.specs.declared.atomics.atomic.Atomic.TheVariants.{Bool as BOOL, SInt, Int, DInt, LInt, USInt}
 use Rattle.types.specs.declared.atomics.atomic.Atomic.TheVariants.{UInt, UDInt, ULInt, Real, LReal, Byte, Word}
 use Rattle.types.specs.declared.atomics.atomic.Atomic.TheVariants.{DWord, LWord}
-use Rattle.types.specs.declared.tables.member.Bit.{Bit}
-use Rattle.types.specs.declared.tables.member.Bit.TheVariants.{None, At}
 use Rattle.types.specs.declared.tables.member.Member.{Member}
 use Rattle.types.specs.declared.tables.member.Span.{Span}
 use Rattle.types.specs.declared.tables.member.StructDef.{StructDef}
@@ -66,6 +65,7 @@ pub record FieldsLeft (whole : List ℕ) (start : ℕ) (first : List ℕ) (fs : 
   pub fits : FieldFits (line fs) at now
   pub then : (r : ℕ) (last : List ℕ) → FieldPut (line fs) at now r last → FieldPut whole start first r last
 
+-- before the first field the whole line is left
 pub left_all : {at : ℕ} {out : List ℕ} (fs : List (List ℕ)) → FieldFits (line fs) at out
     → FieldsLeft (line fs) at out fs at out
 left_all fs h = record { fits = h; then = λ r last a. a }
@@ -95,27 +95,11 @@ module _ {whole : List ℕ} {start : ℕ} {first f : List ℕ} {at : ℕ} {now :
     unfolding line
     left_done {r} {last} a = l.then r last a
 
--- all of a line's end is left, as the code has its fields
-pub numbers_left : (d : StructDef) (bits : ℕ) {id size count long bytes at : ℕ} {out : List ℕ} → id ≡ d.id
-    → size ≡ d.size → count ≡ d.count → long ≡ bytes
-    → FieldFits (line (type_numbers d.id d.size d.count bytes bits)) at out
-    → FieldsLeft (line (type_numbers d.id d.size d.count bytes bits)) at out
-    (type_numbers id size count long bits)
-    at out
-numbers_left d bits {bytes = bytes} p q r s h =
-    rw (p, q, r, s) (left_all (type_numbers d.id d.size d.count bytes bits) h)
-
--- all of a member's count, offset, bit and name is left, as the code has the count and the offset
-pub place_left : (m : Member) (name : List ℕ) {count offset at : ℕ} {out : List ℕ} → count ≡ m.count
-    → offset ≡ m.offset → FieldFits (line (member_place m name)) at out
-    → FieldsLeft (line (member_place m name)) at out (digits count ∷ digits offset ∷ bit_text m.bit ∷ name ∷ []) at out
-place_left m name p q h = rw (p, q) (left_all (member_place m name) h)
-
 -- ---- lines of 512 bytes
 
-bit_20 : (b : Bit) → length (bit_text b) ≤ 20
+bit_20 : (b : Option ℕ) → length (bit_text b) ≤ 20
 bit_20 None = omega arith
-bit_20 (At k) = digits_20 k
+bit_20 (Some k) = digits_20 k
 
 seen_1 : (b : Bool) → length (seen_letter b) ≡ 1
 seen_1 true = refl

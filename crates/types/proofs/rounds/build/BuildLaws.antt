@@ -1,5 +1,6 @@
 -- Laws of building (document 01, "Order of building"): what the loop over the rounds keeps, the way on and the ways out
 -- of it, and the ways out before the rounds.
+use Rattle.std.specs.Prelude.{Result, Ok, Err}
 use Prim.Native.Nat.{ℕ, ◌<◌, ◌≤◌}
 use native.Mathlib.Omega.{arith}
 use mathlib.Core.Path.{◌≡◌, refl, sym, ◌∙◌}
@@ -25,10 +26,6 @@ use Rattle.types.specs.declared.layout.predefined.PredefinedIds.{PredefinedIds}
 use Rattle.types.specs.declared.refusals.refusal.Refusal.{Refusal}
 use Rattle.types.specs.declared.refusals.refusal.Refusal.TheVariants.{TypesUnknown, BookMalformed}
 use Rattle.types.specs.declared.refusals.refusal.Refusal.TheVariants.{PredefinedIds as ids_wrong}
-use Rattle.types.specs.declared.rounds.build.Built.{Built}
-use Rattle.types.specs.declared.rounds.build.Built.TheVariants.{Types, Refused}
-use Rattle.types.specs.declared.rounds.round.Round.{Round}
-use Rattle.types.specs.declared.rounds.round.Round.TheVariants.{Refused as Stopped, Went}
 use Rattle.types.proofs.rounds.OneRoundLaws.{Const, const_kept, reached_shown, reached_round}
 use Rattle.types.proofs.rounds.RoundLaws.{round_fewer}
 use Rattle.types.proofs.rounds.RunLaws.{Outer, outer_start, outer_end, outer_stop, outer_stuck, outer_next}
@@ -67,7 +64,7 @@ going_start p bytes reached s =
 -- ---- the ways out
 
 ended_refused : {t m n : List ℕ} (a : Answer (List Def) Why) (x : Refusal) → a ≡ refused (why_of x) → Cleared t m n
-    → Ended a t m n (Refused x)
+    → Ended a t m n (Err x)
 ended_refused a x e c =
     record { is = rw e; types = rw e c.types; members = rw e c.members; names = rw e c.names }
 
@@ -79,7 +76,7 @@ going_few g = rw g.outer.stands.used (reached_shown g.const.bytes g.outer.reache
 -- where no type is left, the rounds end with so many types, and the tables are theirs
 pub ended_all : {book tys₀ f₀ k₀ r₀ t m n tys f k r : List ℕ} {start : List Def} {T left : ℕ} {u : Used}
     → Going book start T tys₀ f₀ k₀ r₀ t m n tys f k r u left → left ≡ 0
-    → Ended (rounds_from book start) t m n (Types u.types)
+    → Ended (rounds_from book start) t m n (Ok u.types)
 ended_all g l =
     let o = g.outer in
     let e = outer_end o l in
@@ -106,18 +103,18 @@ module _ {book tys₀ f₀ k₀ r₀ t m n tys f k r : List ℕ} {start : List D
         tries = g.tries;
       }
 
-  module _ {t' m' n' f' k' r' : List ℕ} {x : Round}
+  module _ {t' m' n' f' k' r' : List ℕ} {x : Result (Used × ℕ) Refusal}
       (h : RoundMade book T u t m n f t' m' n' f' k' r' x) (l : 0 < left) where
     -- where a round refused a type, the rounds end with its refusal and tables of zeros
-    pub ended_no : {a b c : List ℕ} (y : Refusal) → x ≡ Stopped y → Cleared a b c
-        → Ended (rounds_from book start) a b c (Refused y)
+    pub ended_no : {a b c : List ℕ} (y : Refusal) → x ≡ Err y → Cleared a b c
+        → Ended (rounds_from book start) a b c (Err y)
     ended_no y e =
         let o = g.outer in
         ended_refused (rounds_from book start) y
         (outer_stop o l (why_of y) ((rw e at h).each o.ds o.reached o.stands))
 
     -- a round that refused no type
-    module _ (u' : Used) (left' : ℕ) (e : x ≡ Went u' left') where
+    module _ (u' : Used) (left' : ℕ) (e : x ≡ Ok (u', left')) where
       goes : RoundGoes book T (round_in book g.outer.ds (waits f 0 T)) t' m' n' f' k' r' u' left'
       goes =
           let o = g.outer in
@@ -125,7 +122,7 @@ module _ {book tys₀ f₀ k₀ r₀ t m n tys f k r : List ℕ} {start : List D
 
       -- where a round left as many as before, the rounds end with refusal 10 at the first that waits, tables zero
       pub ended_stuck : {a b c : List ℕ} (p : ℕ) → left' ≡ left → FirstWaits f' T p → Cleared a b c
-          → Ended (rounds_from book start) a b c (Refused (TypesUnknown p))
+          → Ended (rounds_from book start) a b c (Err (TypesUnknown p))
       ended_stuck p q w =
           ended_refused (rounds_from book start) (TypesUnknown p)
           (outer_stuck g.outer l goes.is (sym goes.count ∙ q) ∙ rw w.is)
@@ -164,19 +161,19 @@ module _ {book tys₀ f₀ k₀ r₀ t m n tys f k r : List ℕ} {start : List D
 module _ (ids : PredefinedIds) (book : List ℕ) where
   -- where the predefined ids are wrong, the build ends with 22 and tables of zeros
   pub ended_ids : {t m n : List ℕ} → predefined_ids ids ≡ false → Cleared t m n
-      → Ended (build_of ids book) t m n (Refused ids_wrong)
+      → Ended (build_of ids book) t m n (Err ids_wrong)
   unfolding build_of
   ended_ids q = ended_refused _ ids_wrong (rw q)
 
   module _ (q : predefined_ids ids ≡ true) where
     -- where the ids are right but the book is malformed, the build ends with 1 and tables of zeros
     pub ended_book : {t m n : List ℕ} → book_ok book ≡ false → Cleared t m n
-        → Ended (build_of ids book) t m n (Refused BookMalformed)
+        → Ended (build_of ids book) t m n (Err BookMalformed)
     unfolding build_of
     ended_book p = ended_refused _ BookMalformed (rw (q, p))
 
     -- where ids and book are right, the build ends as the rounds after the predefined types do
-    pub ended_run : {t m n : List ℕ} {r : Built} → book_ok book ≡ true
+    pub ended_run : {t m n : List ℕ} {r : Result ℕ Refusal} → book_ok book ≡ true
         → Ended (rounds_from book (predefined ids)) t m n r → Ended (build_of ids book) t m n r
     unfolding build_of
     ended_run p h = rw (q, p) h

@@ -1,5 +1,7 @@
 -- Laws of a turn: where as many member types were found as there are members, all are known, and the layout reads from
 -- the scratch the declared members of the definition.
+use Rattle.std.specs.Prelude.{Option, Some, None, Result, Ok, Err, MatchResult}
+use Rattle.std.specs.Result.{IsOkAnd}
 use Prim.Native.Nat.{ℕ, zero, suc, ◌+◌, ◌<◌, ◌≤◌}
 use native.Mathlib.Omega.{arith}
 use native.Mathlib.Nat.{zero-add}
@@ -18,7 +20,7 @@ use Rattle.types.specs.inside.adding.Add.{Took, Declared}
 use Rattle.types.specs.inside.adding.Checks.{EntriesInside}
 use Rattle.types.specs.inside.book.Decls.{decl_at, decls_from}
 use Rattle.types.specs.inside.rounds.Resolve.{then_word, found_words, Resolves, StillIn, Still}
-use Rattle.types.specs.inside.rounds.Turns.{TurnIn, Turned, Missed, Tries}
+use Rattle.types.specs.inside.rounds.Turns.{TurnIn, Turned, Missed, Tries, at_once}
 use Rattle.types.specs.inside.tables.Registry.{view_in}
 use Rattle.types.specs.layout.Laid.{Earlier}
 use Rattle.types.specs.rounds.Order.{all_known}
@@ -28,12 +30,9 @@ use Rattle.types.specs.tables.Defs.{name_in}
 use Rattle.types.specs.tables.Lent.{ty_word, ty_of_word}
 use Rattle.types.specs.tables.Registry.{View, size_at}
 use Rattle.types.specs.tables.Sizes.{sizes_in}
-use Rattle.types.specs.declared.adding.progress.Progress.{Progress}
-use Rattle.types.specs.declared.adding.progress.Progress.TheVariants.{Waits}
 use Rattle.types.specs.declared.adding.used.Used.{Used}
-use Rattle.types.specs.declared.atomics.lookup.FoundTy.{FoundTy}
-use Rattle.types.specs.declared.atomics.lookup.FoundTy.TheVariants.{Is, Nothing}
 use Rattle.types.specs.declared.layout.placing.Decl.{Decl}
+use Rattle.types.specs.declared.refusals.refusal.Refusal.{Refusal}
 use Rattle.types.specs.declared.tables.member.Ty.{Ty}
 use Rattle.types.proofs.adding.AddStoreLaws.{took_so}
 use Rattle.types.proofs.rounds.ResolveLaws.{found_earlier}
@@ -49,27 +48,27 @@ unfolding found_words every
 all_found known [] l = refl
 all_found known (s ∷ ss) l = go (type_among known s) l (all_found known ss)
   where
-    go : (f : FoundTy) → suc (length ss) ≤ length (then_word f (found_words known ss))
+    go : (f : Option Ty) → suc (length ss) ≤ length (then_word f (found_words known ss))
         → (length ss ≤ length (found_words known ss) → all_known has_name known ss ≡ true)
         → (is_found f && all_known has_name known ss) ≡ true
-    go (Is ty) h rest = rest (omega arith)
-    go Nothing h rest = absurd (let z : ⊥ = omega arith in z)
+    go (Some ty) h rest = rest (omega arith)
+    go None h rest = absurd (let z : ⊥ = omega arith in z)
 
 -- ---- each word is that of the type that was found
 
 -- the type of a name that is known
 pub record KnownName (known : List (List ℕ)) (s : List ℕ) : Type 0 where
   pub ty : Ty
-  pub is : type_among known s ≡ Is ty
+  pub is : type_among known s ≡ Some ty
 
-known_one : (known : List (List ℕ)) (s : List ℕ) (f : FoundTy) (b : Bool) → type_among known s ≡ f
+known_one : (known : List (List ℕ)) (s : List ℕ) (f : Option Ty) (b : Bool) → type_among known s ≡ f
     → (is_found f && b) ≡ true → KnownName known s
-known_one known s (Is ty) b e q = record { ty = ty; is = e }
-known_one known s Nothing b e q = absurd (true≢false (sym q))
+known_one known s (Some ty) b e q = record { ty = ty; is = e }
+known_one known s None b e q = absurd (true≢false (sym q))
 
-known_rest : (f : FoundTy) {b : Bool} → (is_found f && b) ≡ true → b ≡ true
-known_rest (Is ty) {b} q = q
-known_rest Nothing {b} q = absurd (true≢false (sym q))
+known_rest : (f : Option Ty) {b : Bool} → (is_found f && b) ≡ true → b ≡ true
+known_rest (Some ty) {b} q = q
+known_rest None {b} q = absurd (true≢false (sym q))
 
 module _ (known : List (List ℕ)) (f : ℕ → List ℕ) where
   -- the first word, and a later one
@@ -176,6 +175,14 @@ module _ (types names book tys : List ℕ) (u : Used) (at n : ℕ) where
 
 -- ---- the ways out of a turn
 
+-- what is made of adding's answer by making `Some` of how much is used is the answer of a turn that does not wait
+pub once_mapped : (a : Result Used Refusal) (b : Result (Option Used) Refusal) (P : Used → Option Used → Type 0)
+    → ((x : Used) (y : Option Used) → P x y → y ≡ Some x)
+    → MatchResult a (λ x. IsOkAnd b (P x)) (λ e. b ≡ Err e) → b ≡ at_once a
+once_mapped (Ok x) (Ok y) P f m = ap Ok (f x y m)
+once_mapped (Ok x) (Err e) P f m = absurd m
+once_mapped (Err e) b P f m = m
+
 module _ (types members names book : List ℕ) (u : Used) (i at n : ℕ) (e : n ≡ count_of book i) where
   abbrev known : Bool
   known = all_known has_name (row_names types names u.types) (type_names book at 0 (count_of book i))
@@ -192,8 +199,8 @@ module _ (types members names book : List ℕ) (u : Used) (i at n : ℕ) (e : n 
   rows_long = length_list (row_name types names) 0 u.types
 
   -- one member's type is not known
-  turn_idle : (k : ℕ) → k < count_of book i → type_among (row_names types names u.types) (type_name book at k) ≡ Nothing
-      → Turned known verdict u types members names types members names Waits
+  turn_idle : (k : ℕ) → k < count_of book i → type_among (row_names types names u.types) (type_name book at k) ≡ None
+      → Turned known verdict u types members names types members names (Ok None)
   turn_idle k l o =
       let c = count_of book i in
       let f : known ≡ false
@@ -219,7 +226,7 @@ module _ (types members names book : List ℕ) (u : Used) (i at n : ℕ) (e : n 
 
       -- the same member's type is still not known
       pub turn_still : Still types names book at k from u.types
-          → Turned known verdict u types members names types members names Waits
+          → Turned known verdict u types members names types members names (Ok None)
           × Tries book (row_names types names u.types) stuck (set tried i u.types)
       turn_still s =
           let l = (missed s.past).below in (
@@ -230,7 +237,7 @@ module _ (types members names book : List ℕ) (u : Used) (i at n : ℕ) (e : n 
   module _ {tys tys' : List ℕ} (r : ℕ)
       (w : Resolves (row_names types names u.types) (type_names book at 0 n) tys tys' r) where
     -- the member after those that were found is not known
-    stops : r < n → type_among (row_names types names u.types) (type_name book at r) ≡ Nothing
+    stops : r < n → type_among (row_names types names u.types) (type_name book at r) ≡ None
     stops l =
         let f = first_unknown (row_names types names u.types) (type_names book at 0 n)
         (omega (arith, w.is, uses_long)) in
@@ -238,7 +245,7 @@ module _ (types members names book : List ℕ) (u : Used) (i at n : ℕ) (e : n 
 
     -- where a member's type is not found, the type waits, and it is remembered which and among how many types
     pub turn_waits : {ws stuck tried : List ℕ} → TurnIn types members names book ws stuck tried i at u → r < n
-        → Turned known verdict u types members names types members names Waits
+        → Turned known verdict u types members names types members names (Ok None)
         × Tries book (row_names types names u.types) (set stuck i r) (set tried i u.types)
     turn_waits p l = (
       turn_idle r (omega (arith, e)) (stops l),
@@ -255,13 +262,13 @@ module _ (types members names book : List ℕ) (u : Used) (i at n : ℕ) (e : n 
       turn_ready k h f = rw w.words (turn_declared types names book tys u at n found_all k h f)
 
       -- where all member types are found, the turn was taken once the verdict on the entry is carried out
-      pub turn_takes : n ≤ length tys → {t' m' n' : List ℕ} {x : Progress}
+      pub turn_takes : n ≤ length tys → {t' m' n' : List ℕ} {x : Result Used Refusal}
           → Took (add_entry (view_in types names u) book i at (type_entry book i)
           (name_in book (type_entry book i).name)
           (decls_from types book tys' at 0 n)) u types members names t' m' n' x
-          → Turned known verdict u types members names t' m' n' x
+          → {y : Result (Option Used) Refusal} → y ≡ at_once x → Turned known verdict u types members names t' m' n' y
       unfolding view_in
-      turn_takes k t =
+      turn_takes k {x} t o =
           let f : known ≡ true = rw (← e) found_all in
           let d : decls_from types book tys' at 0 n
           ≡ decls_of (view_in types names u) book (entries_from book at 0 (count_of book i))
@@ -270,5 +277,6 @@ module _ (types members names book : List ℕ) (u : Used) (i at n : ℕ) (e : n 
           ∙ ap (λ (m : ℕ). decls_of (view_in types names u) book (entries_from book at 0 m)) e in
           record {
             waits = λ q. absurd (true≢false (sym f ∙ q));
-            takes = λ q. took_so (ap (λ (z : List Decl). add_to (view_in types names u) book i at z) (sym d)) t;
+            takes = λ q.
+                (x, o, took_so (ap (λ (z : List Decl). add_to (view_in types names u) book i at z) (sym d)) t);
           }

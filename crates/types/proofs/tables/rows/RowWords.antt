@@ -1,5 +1,6 @@
 -- What a row of the tables says, in words (document 01, "What promises shut out"): a structure or a member that was
 -- read says its row's words, and no other one does.
+use Rattle.std.specs.Prelude.{Option, Some, None}
 use Prim.Native.Nat.{ℕ, zero, suc, ◌+◌, ◌-◌, ◌/◌, ◌%◌, ◌<◌, ◌≤◌}
 use native.Mathlib.Decide.{dec_lt}
 use native.Mathlib.Nat.{add-zero}
@@ -17,8 +18,6 @@ use Rattle.types.specs.tables.Lent.{member_at, member_said, member_says, ty_of_w
 use Rattle.types.specs.tables.Lent.{type_row}
 use Rattle.types.specs.tables.Lent.{type_said}
 use Rattle.types.specs.declared.atomics.atomic.Atomic.TheVariants.{Bool as BOOL}
-use Rattle.types.specs.declared.tables.member.Bit.{Bit}
-use Rattle.types.specs.declared.tables.member.Bit.TheVariants.{None, At}
 use Rattle.types.specs.declared.tables.member.Member.{Member}
 use Rattle.types.specs.declared.tables.member.StructDef.{StructDef}
 use Rattle.types.specs.declared.tables.member.StructKind.{StructKind}
@@ -62,7 +61,7 @@ bit_said : (w : ℕ) → bit_word (bit_of_word w) ≡ bit_read w
 unfolding bit_of_word bit_read
 bit_said w = go (eqb w 0)
   where
-    go : (b : Bool) → bit_word (cond b None (At ((w - 1) % 8))) ≡ cond b 0 ((w - 1) % 8 + 1)
+    go : (b : Bool) → bit_word (cond b None (Some ((w - 1) % 8))) ≡ cond b 0 ((w - 1) % 8 + 1)
     go true = refl
     go false = refl
 
@@ -110,13 +109,13 @@ type_said_lem t i = rw kind_said
 
 -- ---- what is said tells the row
 
-bit_same : (a b : Bit) → bit_word a ≡ bit_word b → a ≡ b
+bit_same : (a b : Option ℕ) → bit_word a ≡ bit_word b → a ≡ b
 bit_same None None e = refl
-bit_same None (At k) e = absurd (let z : ⊥ = omega arith in z)
-bit_same (At k) None e = absurd (let z : ⊥ = omega arith in z)
-bit_same (At k) (At l) e = ap At (omega arith)
+bit_same None (Some k) e = absurd (let z : ⊥ = omega arith in z)
+bit_same (Some k) None e = absurd (let z : ⊥ = omega arith in z)
+bit_same (Some k) (Some l) e = ap Some (omega arith)
 
-member_of : Ty → ℕ → ℕ → Bit → Bool → Bool → ℕ → Member
+member_of : Ty → ℕ → ℕ → Option ℕ → Bool → Bool → ℕ → Member
 member_of ty count offset bit hidden local access =
     record {
       ty = ty;

@@ -1,6 +1,6 @@
 -- Adding a type in the tables (document 01, "Refusal numbers"): what it asks of them, what it answers, and what they
 -- hold afterwards.
-use Rattle.std.specs.Prelude.{ℕ, ◌+◌, ◌*◌, ◌≤◌, ◌<◌, List, ◌≡◌, length, get_or}
+use Rattle.std.specs.Prelude.{ℕ, ◌+◌, ◌*◌, ◌≤◌, ◌<◌, List, ◌≡◌, length, get_or, Result}
 use Rattle.std.proofs.lemmas.List.Edits.{sets}
 use Rattle.types.specs.adding.Add.{Verdict, no, yes}
 use Rattle.types.specs.adding.Ids.{id_word}
@@ -9,33 +9,19 @@ use Rattle.types.specs.inside.atomics.Lookup.{NamesInside}
 use Rattle.types.specs.inside.tables.Registry.{used_more}
 use Rattle.types.specs.layout.Laid.{Earlier}
 use Rattle.types.specs.layout.Structs.{rows_of}
-use Rattle.types.specs.refusals.Said.{Why, why_of}
+use Rattle.types.specs.refusals.Said.{Said, done, refused, said_by}
 use Rattle.types.specs.tables.Lent.{type_row, ty_of_word}
 use Rattle.types.specs.tables.Limits.{most_types, most_members, most_names, member_words}
 use Rattle.types.specs.tables.Registry.{own_names, head_of}
-use Rattle.types.specs.declared.adding.progress.Progress.{Progress}
-use Rattle.types.specs.declared.adding.progress.Progress.TheVariants.{Waits, Refused, Added}
 use Rattle.types.specs.declared.adding.used.Used.{Used}
+use Rattle.types.specs.declared.refusals.refusal.Refusal.{Refusal}
 
 -- ---- what the tables hold afterwards
 
--- what a turn says of its type
-pub data ProgressSaid : Type 0 where
-  -- it waits
-  waiting : ProgressSaid
-  -- it is refused
-  refused : Why → ProgressSaid
-  -- it was added, and so much is used then
-  added : Used → ProgressSaid
-
-abbrev pub said_by : Progress → ProgressSaid
-said_by Waits = waiting
-said_by (Refused r) = refused (why_of r)
-said_by (Added u) = added u
-
-abbrev pub turn_after : Verdict → Used → ProgressSaid
-turn_after (no r) u = refused r
-turn_after (yes d) u = added (used_more u d)
+-- a type is refused, or was added, and so much is used then
+abbrev pub said_after : Verdict → Used → Said Used
+said_after (no r) u = refused r.0 r.1
+said_after (yes d) u = done (used_more u d)
 
 abbrev pub types_after : Verdict → Used → List ℕ → List ℕ
 types_after (no r) u t = t
@@ -50,8 +36,8 @@ names_after (no r) u t = t
 names_after (yes d) u t = sets t u.bytes (own_names d)
 
 -- a verdict was carried out: the answer, and the three tables
-pub record Took (s : Verdict) (u : Used) (t₀ m₀ n₀ t m n : List ℕ) (r : Progress) : Type 0 where
-  pub is : said_by r ≡ turn_after s u
+pub record Took (s : Verdict) (u : Used) (t₀ m₀ n₀ t m n : List ℕ) (r : Result Used Refusal) : Type 0 where
+  pub is : said_by r ≡ said_after s u
   pub types : t ≡ types_after s u t₀
   pub members : m ≡ members_after s u m₀
   pub names : n ≡ names_after s u n₀

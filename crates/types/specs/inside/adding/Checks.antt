@@ -1,11 +1,11 @@
 -- The check of members as the code makes it (document 01, "Refusal numbers": per member 2, 8, 9): each name that came
 -- before has left its mark, so that only names with a mark that was seen are compared.
 use Rattle.std.specs.Prelude.{ℕ, zero, suc, ◌+◌, ◌*◌, ◌%◌, ◌<◌, ◌≤◌, Bool, List, [], ◌∷◌, ◌≡◌, length, get_or}
+use Rattle.std.specs.Prelude.{Result, Ok}
+use Rattle.types.specs.declared.adding.checks.MemberFault.{MemberFault}
 use Rattle.types.specs.adding.Checks.{entry_of, among, checked}
 use Rattle.types.specs.book.Names.{lower_of}
 use Rattle.types.specs.tables.Defs.{name_in}
-use Rattle.types.specs.declared.adding.checks.Checked.{Checked}
-use Rattle.types.specs.declared.adding.checks.Checked.TheVariants.{Good}
 
 -- .. its name ..
 abbrev pub member_name : List ℕ → ℕ → ℕ → List ℕ
@@ -46,6 +46,7 @@ pub record Looked (book : List ℕ) (at j : ℕ) (seen : List ℕ) (r : Bool) : 
   pub marks : Marks seen (member_name book at) (j + 1)
 
 -- the j-th member was checked, and its mark is set where it is good
-pub record CheckedOne (book : List ℕ) (aoi : Bool) (at j : ℕ) (seen : List ℕ) (r : Checked) : Type 0 where
+pub record CheckedOne (book : List ℕ) (aoi : Bool) (at j : ℕ) (seen : List ℕ)
+    (r : Result (Unit {0}) MemberFault) : Type 0 where
   pub is : r ≡ checked book aoi (names_before (member_name book at) j) (entry_of book at j ∷ [])
-  pub marks : r ≡ Good → Marks seen (member_name book at) (j + 1)
+  pub marks : r ≡ Ok tt → Marks seen (member_name book at) (j + 1)

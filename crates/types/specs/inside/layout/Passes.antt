@@ -1,6 +1,7 @@
 -- The code's two passes over a layout (document 01, "Layout"): what is measured, then what is stored; together they are
 -- what is laid out. And what each step asks of the book and the tables.
-use Rattle.std.specs.Prelude.{ℕ, ◌+◌, ◌*◌, ◌^◌, ◌<◌, ◌≤◌, Bool, true, false, cond, List, [], ◌∷◌, ◌++◌, ◌≡◌, length}
+use Rattle.std.specs.Prelude.{ℕ, ◌+◌, ◌*◌, ◌^◌, ◌<◌, ◌≤◌, Bool, true, false, List, [], ◌∷◌, ◌++◌, ◌≡◌, length}
+use Rattle.std.specs.Prelude.{Option, Some, None, Result, Ok, Err}
 use Rattle.std.proofs.lemmas.List.Edits.{sets}
 use Rattle.types.specs.inside.book.Decls.{decl_at, decls_from, Found}
 use Rattle.types.specs.inside.layout.Placing.{shared_bits, Able}
@@ -12,39 +13,43 @@ use Rattle.types.specs.layout.Structs.{enable_parts, aoi_start, bit_host_at, boo
 use Rattle.types.specs.tables.Defs.{Part, name_in}
 use Rattle.types.specs.tables.Limits.{most_members, most_names}
 use Rattle.types.specs.declared.adding.new_types.NewType.{NewType}
-use Rattle.types.specs.declared.layout.measure.Measured.{Measured}
-use Rattle.types.specs.declared.layout.measure.Measured.TheVariants.{Came, AccessWrong as access_wrong}
-use Rattle.types.specs.declared.layout.measure.Measured.TheVariants.{TooFar as too_far}
 use Rattle.types.specs.declared.layout.placing.Cursor.{Cursor}
 use Rattle.types.specs.declared.layout.placing.Decl.{Decl}
+use Rattle.types.specs.declared.layout.placing.LayoutFault.{LayoutFault}
+use Rattle.types.specs.declared.layout.placing.LayoutFault.TheVariants.{AccessWrong, TooFar}
 use Rattle.types.specs.declared.layout.placing.Placed.{Placed}
-use Rattle.types.specs.declared.layout.placing.Placed.TheVariants.{Hosted, One, AccessWrong, TooFar}
+use Rattle.types.specs.declared.layout.placing.Placed.TheVariants.{Hosted, One}
 use Rattle.types.specs.declared.layout.store.StoreNext.{StoreNext}
-use Rattle.types.specs.declared.layout.store.StoreNext.TheVariants.{Next, Stop}
 
 -- ---- the parts, and how far they come
 
 -- what a step adds: a host and the member, or the member alone
-abbrev pub then_parts : Placed → List ℕ → List ℕ → (Cursor → List Part) → List Part
-then_parts (Hosted h m c) host name rest = named host h ∷ named name m ∷ rest c
-then_parts (One m c) host name rest = named name m ∷ rest c
-then_parts AccessWrong host name rest = []
-then_parts TooFar host name rest = []
+abbrev pub then_parts : Result Placed LayoutFault → List ℕ → List ℕ → (Cursor → List Part) → List Part
+then_parts (Ok (Hosted h m c)) host name rest = named host h ∷ named name m ∷ rest c
+then_parts (Ok (One m c)) host name rest = named name m ∷ rest c
+then_parts (Err f) host name rest = []
 
 -- the parts of the declared members from a cursor on: `name` gives a declared member's name, `host` a host's
 unfoldable pub parts_from : (Decl → List ℕ) → (ℕ → List ℕ) → Cursor → List Decl → List Part
 parts_from name host c [] = []
 parts_from name host c (d ∷ ds) = then_parts (placed c d) (host c.members) (name d) (λ c'. parts_from name host c' ds)
 
+-- how far a layout came, and how many bytes its names have; or the fault that it meets first
+abbrev pub Measured : Type 0
+Measured = Result (Cursor × ℕ) LayoutFault
+
+abbrev pub came : Cursor → ℕ → Measured
+came c n = Ok (c, n)
+
 -- how far they come, after n bytes of names; or the first refusal
-abbrev pub then_measure : Placed → ℕ → ℕ → ℕ → (Cursor → ℕ → Measured) → Measured
-then_measure (Hosted h m c) host name n rest = rest c (n + host + name)
-then_measure (One m c) host name n rest = rest c (n + name)
-then_measure AccessWrong host name n rest = access_wrong
-then_measure TooFar host name n rest = too_far
+abbrev pub then_measure : Result Placed LayoutFault → ℕ → ℕ → ℕ → (Cursor → ℕ → Measured) → Measured
+then_measure (Ok (Hosted h m c)) host name n rest = rest c (n + host + name)
+then_measure (Ok (One m c)) host name n rest = rest c (n + name)
+then_measure (Err AccessWrong) host name n rest = Err AccessWrong
+then_measure (Err TooFar) host name n rest = Err TooFar
 
 unfoldable pub measured : (ℕ → List ℕ) → Cursor → ℕ → List Decl → Measured
-measured host c n [] = Came c n
+measured host c n [] = came c n
 measured host c n (d ∷ ds) =
     then_measure (placed c d) (length (host c.members)) d.name.long n (λ c' n'. measured host c' n' ds)
 
@@ -71,7 +76,7 @@ measured_of false type ds = measured (host_name type) udt_start 0 ds
 -- ---- one member of a measured layout
 
 unfoldable pub measure_one : (ℕ → List ℕ) → Cursor → ℕ → Decl → Measured
-measure_one host c n d = then_measure (placed c d) (length (host c.members)) d.name.long n (λ c' n'. Came c' n')
+measure_one host c n d = then_measure (placed c d) (length (host c.members)) d.name.long n (λ c' n'. came c' n')
 
 -- what keeps the sums of one step inside 32 bits
 pub record Near (c : Cursor) (n : ℕ) (d : Decl) : Type 0 where
@@ -106,14 +111,14 @@ pub record Measurable (book tys : List ℕ) (at n : ℕ) (c : Cursor) (names : �
 unfoldable pub one_parts : List ℕ → List ℕ → Cursor → Decl → List Part
 one_parts book type c d = then_parts (placed c d) (host_name type c.members) (name_in book d.name) (λ c'. [])
 
--- where the next member goes: the cursor, the row, and the place of its name
-abbrev pub then_next : Placed → ℕ → ℕ → ℕ → ℕ → StoreNext
-then_next (Hosted h m c) host name row at = Next c (row + 2) (at + host + name)
-then_next (One m c) host name row at = Next c (row + 1) (at + name)
-then_next AccessWrong host name row at = Stop
-then_next TooFar host name row at = Stop
+-- where the next member goes: the cursor, the row, and the place of its name; nothing is left where it was refused
+abbrev pub then_next : Result Placed LayoutFault → ℕ → ℕ → ℕ → ℕ → Option StoreNext
+then_next (Ok (Hosted h m c)) host name row at =
+    Some (record { cursor = c; row = row + 2; place = at + host + name })
+then_next (Ok (One m c)) host name row at = Some (record { cursor = c; row = row + 1; place = at + name })
+then_next (Err f) host name row at = None
 
-unfoldable pub stored_one : List ℕ → Cursor → Decl → ℕ → ℕ → StoreNext
+unfoldable pub stored_one : List ℕ → Cursor → Decl → ℕ → ℕ → Option StoreNext
 stored_one type c d row at = then_next (placed c d) (length (host_name type c.members)) d.name.long row at
 
 -- what one declared member's parts ask of the book and the tables
@@ -139,10 +144,6 @@ pub record Storable (types book tys type : List ℕ) (at n : ℕ) (c : Cursor) (
       ≤ most_names
 
 -- ---- what an AOI's functions answer
-
-pub record OneIf (b : Bool) (r : ℕ) : Type 0 where
-  pub is : r ≡ cond b 1 0
-  pub most : r ≤ 1
 
 pub record BoolsCounted (n : ℕ) (ds : List Decl) (r : ℕ) : Type 0 where
   pub is : r ≡ bools ds

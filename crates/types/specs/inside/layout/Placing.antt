@@ -1,6 +1,6 @@
 -- What one step of a layout counts on (document 01, "Layout"): alignments, how far a cursor has come, and which hosts
 -- are open.
-use Rattle.std.specs.Prelude.{ℕ, ◌^◌, ◌<◌, ◌≤◌, true, ◌≡◌}
+use Rattle.std.specs.Prelude.{ℕ, ◌^◌, ◌<◌, ◌≤◌, true, ◌≡◌, Ok}
 use Rattle.types.specs.layout.Placing.{times, access_ok, is_bool, placed, opened}
 use Rattle.types.specs.declared.layout.placing.Cursor.{Cursor}
 use Rattle.types.specs.declared.layout.placing.Decl.{Decl}
@@ -37,4 +37,4 @@ InUdt (Shared i) = ⊥
 -- no host is open: the next BOOL opens a new one at the current offset
 pub record Shut (c : Cursor) : Type 0 where
   pub host : c.host ≡ Closed
-  pub opens : (e : Decl) → access_ok e.access ≡ true → is_bool e.ty ≡ true → placed c e ≡ opened c e
+  pub opens : (e : Decl) → access_ok e.access ≡ true → is_bool e.ty ≡ true → placed c e ≡ Ok (opened c e)

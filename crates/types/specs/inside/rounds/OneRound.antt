@@ -1,6 +1,6 @@
 -- One round in code (document 01, "Order of building"): what it asks of the tables and of the scratch, and what it
 -- leaves in them.
-use Rattle.std.specs.Prelude.{ℕ, ◌≤◌, true, List, ◌≡◌, length}
+use Rattle.std.specs.Prelude.{ℕ, ◌≤◌, true, List, ◌≡◌, length, Result, Ok, Err}
 use Rattle.types.specs.atomics.Lookup.{row_names}
 use Rattle.types.specs.book.Contents.{types_in, members_in, book_ok}
 use Rattle.types.specs.inside.rounds.Build.{waits}
@@ -13,8 +13,7 @@ use Rattle.types.specs.rounds.Turns.{ready_in, add_in, stuck_at}
 use Rattle.types.specs.tables.Defs.{Def}
 use Rattle.types.specs.declared.adding.used.Used.{Used}
 use Rattle.types.specs.declared.layout.predefined.PredefinedIds.{PredefinedIds}
-use Rattle.types.specs.declared.rounds.round.Round.{Round}
-use Rattle.types.specs.declared.rounds.round.Round.TheVariants.{Refused, Went}
+use Rattle.types.specs.declared.refusals.refusal.Refusal.{Refusal}
 
 -- one round over the types of a book that wait
 abbrev pub round_in : List ℕ → List Def → List ℕ → Out (List Def) Why
@@ -52,12 +51,12 @@ pub record RoundGoes (book : List ℕ) (t : ℕ) (o : Out (List Def) Why) (types
 
 -- a round was made: the refusal of the definition, or its registry
 module _ (book : List ℕ) (t : ℕ) (o : Out (List Def) Why) (types members names done stuck tried : List ℕ) where
-  abbrev pub Leaves : Round → Type 0
-  Leaves (Refused x) = o ≡ stop (why_of x)
-  Leaves (Went u left) = RoundGoes book t o types members names done stuck tried u left
+  abbrev pub Leaves : Result (Used × ℕ) Refusal → Type 0
+  Leaves (Err x) = o ≡ stop (why_of x)
+  Leaves (Ok p) = RoundGoes book t o types members names done stuck tried p.0 p.1
 
 -- so for any registry that stood in the tables before, and the flags of that time
 pub record RoundMade (book : List ℕ) (t : ℕ) (u : Used) (types₀ members₀ names₀ done₀ : List ℕ)
-    (types members names done stuck tried : List ℕ) (r : Round) : Type 0 where
+    (types members names done stuck tried : List ℕ) (r : Result (Used × ℕ) Refusal) : Type 0 where
   pub each : (ds : List Def) → Reached book ds → Stands ds types₀ members₀ names₀ u
       → Leaves book t (round_in book ds (waits done₀ 0 t)) types members names done stuck tried r

@@ -1,19 +1,18 @@
 -- Member types looked up in the tables (document 01, "Order of building"): the word of each that was found, and which
 -- types a search may pass over.
-use Rattle.std.specs.Prelude.{ℕ, ◌+◌, ◌*◌, ◌<◌, ◌≤◌, List, [], ◌∷◌, ◌≡◌, length}
+use Rattle.types.specs.declared.tables.member.Ty.{Ty}
+use Rattle.std.specs.Prelude.{ℕ, ◌+◌, ◌*◌, ◌<◌, ◌≤◌, List, [], ◌∷◌, ◌≡◌, length, Option, Some, None}
 use Rattle.std.proofs.lemmas.List.Edits.{sets}
 use Rattle.types.specs.adding.Checks.{entry_of}
 use Rattle.types.specs.atomics.Lookup.{type_among, row_names}
 use Rattle.types.specs.inside.atomics.Lookup.{NamesInside, Unseen}
 use Rattle.types.specs.rounds.Resolve.{type_name}
 use Rattle.types.specs.tables.Lent.{ty_word}
-use Rattle.types.specs.declared.atomics.lookup.FoundTy.{FoundTy}
-use Rattle.types.specs.declared.atomics.lookup.FoundTy.TheVariants.{Is, Nothing}
 
 -- the words of the types with these names, up to the first that is not known
-abbrev pub then_word : FoundTy → List ℕ → List ℕ
-then_word (Is ty) rest = ty_word ty ∷ rest
-then_word Nothing rest = []
+abbrev pub then_word : Option Ty → List ℕ → List ℕ
+then_word (Some ty) rest = ty_word ty ∷ rest
+then_word None rest = []
 
 unfoldable pub found_words : List (List ℕ) → List (List ℕ) → List ℕ
 found_words known [] = []
@@ -44,4 +43,4 @@ pub record StillIn (types names book : List ℕ) (at k from n : ℕ) : Type 0 wh
 -- it is not among the first n either
 pub record Still (types names book : List ℕ) (at k from n : ℕ) : Type 0 where
   pub past : from ≡ 0 → ⊥
-  pub missing : type_among (row_names types names n) (type_name book at k) ≡ Nothing
+  pub missing : type_among (row_names types names n) (type_name book at k) ≡ None

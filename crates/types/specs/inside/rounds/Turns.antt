@@ -1,6 +1,7 @@
 -- A turn in the tables (document 01, "Order of building"): what it asks of them and of the book, what it leaves, and
 -- what is remembered of a type that waits.
 use Rattle.std.specs.Prelude.{ℕ, ◌+◌, ◌*◌, ◌<◌, ◌≤◌, Bool, true, false, List, ◌≡◌, length, get_or}
+use Rattle.std.specs.Prelude.{Option, Some, None, Result, Ok, Err}
 use Rattle.types.specs.adding.Add.{Verdict}
 use Rattle.types.specs.adding.Checks.{entry_of}
 use Rattle.types.specs.atomics.Lookup.{row_names}
@@ -11,9 +12,8 @@ use Rattle.types.specs.inside.atomics.Lookup.{Unseen}
 use Rattle.types.specs.rounds.Resolve.{type_name}
 use Rattle.types.specs.rounds.Turns.{count_of, entries_at}
 use Rattle.types.specs.tables.Limits.{most_names, member_words}
-use Rattle.types.specs.declared.adding.progress.Progress.{Progress}
-use Rattle.types.specs.declared.adding.progress.Progress.TheVariants.{Waits}
 use Rattle.types.specs.declared.adding.used.Used.{Used}
+use Rattle.types.specs.declared.refusals.refusal.Refusal.{Refusal}
 
 -- the type of the k-th member of type i is not among the first n
 pub record Missed (book : List ℕ) (known : List (List ℕ)) (i k n : ℕ) : Type 0 where
@@ -43,7 +43,13 @@ pub record TurnIn (types members names book tys stuck tried : List ℕ) (i at : 
   pub place : at ≡ entries_at book i
   pub tries : Tries book (row_names types names u.types) stuck tried
 
+-- what a turn answers of a type that does not wait
+abbrev pub at_once : Result Used Refusal → Result (Option Used) Refusal
+at_once (Ok u) = Ok (Some u)
+at_once (Err x) = Err x
+
 -- a turn was taken: a type that is not ready waits and nothing is stored, else the verdict is carried out
-pub record Turned (ready : Bool) (s : Verdict) (u : Used) (t₀ m₀ n₀ t m n : List ℕ) (r : Progress) : Type 0 where
-  pub waits : ready ≡ false → (r ≡ Waits) × ((t ≡ t₀) × ((m ≡ m₀) × (n ≡ n₀)))
-  pub takes : ready ≡ true → Took s u t₀ m₀ n₀ t m n r
+pub record Turned (ready : Bool) (s : Verdict) (u : Used) (t₀ m₀ n₀ t m n : List ℕ)
+    (r : Result (Option Used) Refusal) : Type 0 where
+  pub waits : ready ≡ false → (r ≡ Ok None) × ((t ≡ t₀) × ((m ≡ m₀) × (n ≡ n₀)))
+  pub takes : ready ≡ true → (a : Result Used Refusal) × (r ≡ at_once a) × Took s u t₀ m₀ n₀ t m n a

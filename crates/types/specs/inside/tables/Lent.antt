@@ -1,9 +1,8 @@
 -- Rows of the lent tables that hold nothing, and types whose word has 16 bits (document 01, "Declaration book": the
 -- tables).
-use Rattle.std.specs.Prelude.{◌<◌, false}
+use Rattle.std.specs.Prelude.{◌<◌, false, None}
 use Rattle.types.specs.tables.Limits.{most_types}
 use Rattle.types.specs.declared.atomics.atomic.Atomic.TheVariants.{Bool as BOOL}
-use Rattle.types.specs.declared.tables.member.Bit.TheVariants.{None}
 use Rattle.types.specs.declared.tables.member.Member.{Member}
 use Rattle.types.specs.declared.tables.member.Span.{Span}
 use Rattle.types.specs.declared.tables.member.StructDef.{StructDef}

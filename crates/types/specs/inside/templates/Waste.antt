@@ -1,12 +1,11 @@
 -- What counting a structure's waste asks of its rows (document 01, "Template and handle", Waste), so that no sum is too
 -- large.
-use Rattle.std.specs.Prelude.{ℕ, ◌+◌, ◌*◌, ◌^◌, ◌≤◌, ◌<◌, cond, List, ◌≡◌}
+use Rattle.std.specs.Prelude.{ℕ, ◌+◌, ◌*◌, ◌^◌, ◌≤◌, ◌<◌, cond, List, ◌≡◌, None}
 use Rattle.types.specs.inside.tables.Defs.{Readable}
 use Rattle.types.specs.inside.tables.Lent.{TyFits}
 use Rattle.types.specs.layout.Placing.{times}
 use Rattle.types.specs.tables.Lent.{member_at}
 use Rattle.types.specs.tables.Sizes.{size_in, sizes_in, bits_of}
-use Rattle.types.specs.declared.tables.member.Bit.TheVariants.{None}
 use Rattle.types.specs.declared.tables.member.Member.{Member}
 use Rattle.types.specs.declared.tables.member.StructDef.{StructDef}
 

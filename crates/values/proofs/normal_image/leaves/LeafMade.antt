@@ -21,7 +21,6 @@ use Rattle.types.specs.declared.atomics.atomic.Atomic.{Atomic}
 use Rattle.types.specs.declared.atomics.atomic.Atomic.TheVariants as atomic
 use Rattle.values.specs.inside.normal_image.InPlace.{cleared, each_made, made}
 use Rattle.values.specs.inside.normal_image.Placed.{TreePlaced}
-use Rattle.values.specs.inside.reading.Numbers.{form_of}
 use Rattle.values.specs.normal_image.Normal.{norm, normal}
 use Rattle.values.specs.reading.Leaf.{Leaf, flag, byte, str, width, is_true, clipped, leaf_of}
 use Rattle.values.specs.reading.Tree.{Tree, leaf, bits, array, at, all_bits, each, items, one_flag, room, span}
@@ -105,7 +104,7 @@ full_leaf atomic.Word = refl
 full_leaf atomic.DWord = refl
 full_leaf atomic.LWord = refl
 
-same_leaf : (a : Atomic) → ((form_of a).kind ≡ 1 → ⊥) → (b : Bits) (k : ℕ) → norm (leaf_of a) b k ≡ b k
+same_leaf : (a : Atomic) → (a ≡ atomic.Bool → ⊥) → (b : Bits) (k : ℕ) → norm (leaf_of a) b k ≡ b k
 same_leaf atomic.Bool other b k = absurd (other refl)
 same_leaf atomic.SInt other b k = refl
 same_leaf atomic.Int other b k = refl
@@ -123,7 +122,7 @@ same_leaf atomic.DWord other b k = refl
 same_leaf atomic.LWord other b k = refl
 
 -- any but a BOOL is as it is
-pub atomics_kept : (a : Atomic) → ((form_of a).kind ≡ 1 → ⊥) → (n p : ℕ) (x : Bits) → made (atomics_tree a n) p x ≡ x
+pub atomics_kept : (a : Atomic) → (a ≡ atomic.Bool → ⊥) → (n p : ℕ) (x : Bits) → made (atomics_tree a n) p x ≡ x
 unfolding atomics_tree
 atomics_kept a other n p x = go (bit_string a) (eqb n 0)
   where
@@ -190,35 +189,17 @@ bools_done {first} {image} {base} {n} {k} w h =
     let e : n - k ≡ 0 = omega arith in
     sym (w.left ∙ ap (λ m. each_made m (made (leaf byte)) 8 (8 * (base + k)) (flat image)) e)
 
--- BOOL is the one of kind 1
-kind_one : (a : Atomic) → (form_of a).kind ≡ 1 → a ≡ atomic.Bool
-kind_one atomic.Bool e = refl
-kind_one atomic.SInt e = absurd (let z : ⊥ = omega (arith, e) in z)
-kind_one atomic.Int e = absurd (let z : ⊥ = omega (arith, e) in z)
-kind_one atomic.DInt e = absurd (let z : ⊥ = omega (arith, e) in z)
-kind_one atomic.LInt e = absurd (let z : ⊥ = omega (arith, e) in z)
-kind_one atomic.USInt e = absurd (let z : ⊥ = omega (arith, e) in z)
-kind_one atomic.UInt e = absurd (let z : ⊥ = omega (arith, e) in z)
-kind_one atomic.UDInt e = absurd (let z : ⊥ = omega (arith, e) in z)
-kind_one atomic.ULInt e = absurd (let z : ⊥ = omega (arith, e) in z)
-kind_one atomic.Real e = absurd (let z : ⊥ = omega (arith, e) in z)
-kind_one atomic.LReal e = absurd (let z : ⊥ = omega (arith, e) in z)
-kind_one atomic.Byte e = absurd (let z : ⊥ = omega (arith, e) in z)
-kind_one atomic.Word e = absurd (let z : ⊥ = omega (arith, e) in z)
-kind_one atomic.DWord e = absurd (let z : ⊥ = omega (arith, e) in z)
-kind_one atomic.LWord e = absurd (let z : ⊥ = omega (arith, e) in z)
-
--- so that n of them have n bytes
-pub bools_room : (a : Atomic) → (form_of a).kind ≡ 1 → (n m base long : ℕ) → m ≡ times n
+-- n BOOLs have n bytes
+pub bools_room : {a : Atomic} → a ≡ atomic.Bool → (n m base long : ℕ) → m ≡ times n
     → base + size_of a * times n ≤ long → base + m ≤ long
 unfolding size_of
-bools_room a e n m base long d l = omega (arith, ap (λ b. size_of b * times n) (kind_one a e))
+bools_room e n m base long d l = omega (arith, ap (λ b. size_of b * times n) e)
 
 -- BOOLs made normal byte after byte are their tree made normal
-pub bools_made : (a : Atomic) → (form_of a).kind ≡ 1 → (n m p : ℕ) (x : Bits) → m ≡ times n
+pub bools_made : {a : Atomic} → a ≡ atomic.Bool → (n m p : ℕ) (x : Bits) → m ≡ times n
     → each_made m (made (leaf byte)) 8 p x ≡ made (atomics_tree a n) p x
 unfolding atomics_tree each_made bit_string
-bools_made a e n m p x d = rw (kind_one a e, d) (go (many n))
+bools_made e n m p x d = rw (e, d) (go (many n))
   where
     go : Many n
         → each_made (times n) (made (leaf byte)) 8 p x ≡ made (cond (eqb n 0) (leaf byte) (array n (leaf byte))) p x

@@ -1,5 +1,6 @@
 -- The whole of making an image normal (document 01, "Normal image", "Refusal numbers"): 15 and 14 leave the image as it
 -- was; else the bits of its value's tree made normal are all its bits, and it is the normal image.
+use Rattle.std.specs.Prelude.{Ok, Err}
 use Prim.Native.Nat.{ℕ, ◌*◌, ◌<◌}
 use native.Mathlib.Omega.{arith}
 use borrow.Author.Tests.{eq-eqb, ne_eqb}
@@ -28,7 +29,6 @@ use Rattle.values.specs.reading.Leaf.{chars}
 use Rattle.values.specs.reading.Read.{image_fits}
 use Rattle.values.specs.reading.Tree.{Tree, array, items, span}
 use Rattle.values.specs.reading.Trees.{atomics_tree, known_in, structs_tree, tree_of_value}
-use Rattle.values.specs.declared.writing.write.Taken.TheVariants.{Refused, Whole}
 use Rattle.values.proofs.normal_image.CharLaws.{chars_ext}
 use Rattle.values.proofs.normal_image.MadeLaws.{made_inside}
 use Rattle.values.proofs.normal_image.SweepableLaws.{sweepable_walkable}
@@ -80,24 +80,24 @@ module _ {types members : List ℕ} (s : Sweepable types members) {t : Ty} {n : 
 -- ---- the call
 
 module _ (types members : List ℕ) (t : Ty) (n : ℕ) (image : List ℕ) where
-  no_type : is_there types t ≡ false → MadeNormal types members t n image (Refused NoSuchType) image
+  no_type : is_there types t ≡ false → MadeNormal types members t n image (Err NoSuchType) image
   unfolding normal_result
   no_type e = record { answer = rw e refl; leaves = rw e refl }
 
   no_image : is_there types t ≡ true → image_fits types t n image ≡ false
-      → MadeNormal types members t n image (Refused ImageLength) image
+      → MadeNormal types members t n image (Err ImageLength) image
   unfolding normal_result
   no_image e f = record { answer = rw (e, f) refl; leaves = rw (e, f) refl }
 
   -- the ways out with 15 and 14: the image is not one of the type, and it is as it was
   pub unfit_normal : {w : Refusal} → why w ≡ said_of_image types t n (length image)
-      → MadeNormal types members t n image (Refused w) image
+      → MadeNormal types members t n image (Err w) image
   unfit_normal {w} e =
-      unfit types t n image (λ w. MadeNormal types members t n image (Refused w) image) no_type no_image w e
+      unfit types t n image (λ w. MadeNormal types members t n image (Err w) image) no_type no_image w e
 
   -- the answer where the image is one of the type: nothing is refused, and the normal image is left
   pub whole_normal : {new : List ℕ} → done tt ≡ said_of_image types t n (length image)
-      → new ≡ value_normal types members t n image → MadeNormal types members t n image Whole new
+      → new ≡ value_normal types members t n image → MadeNormal types members t n image (Ok tt) new
   unfolding normal_result
   whole_normal e w =
       let f = fit_there types t n image e in

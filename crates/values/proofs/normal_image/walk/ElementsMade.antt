@@ -1,9 +1,9 @@
 -- Elements of an array of structures made normal one after another (document 01, "Normal image"): each has its bytes
 -- after those of the one before it, and what is left to do is what was to be done at first.
 use Prim.Native.Nat.{ℕ, zero, suc, ◌+◌, ◌*◌, ◌<◌, ◌≤◌}
-use native.Mathlib.Nat.{mul-add, mul-le-mul_left, mul-one, mul-suc, mul-zero}
+use native.Mathlib.Nat.{mul-add, mul-one, mul-zero}
 use native.Mathlib.Omega.{arith}
-use mathlib.Core.Path.{◌≡◌, refl, sym, ap, ◌∙◌, fun_ext, subst}
+use mathlib.Core.Path.{◌≡◌, refl, sym, ap, ◌∙◌, fun_ext}
 use mathlib.Core.List.{List}
 use lib.ListN.{length}
 use Rattle.words.specs.Bits.{Bits, flat}
@@ -12,7 +12,7 @@ use Rattle.types.specs.tables.Limits.{most_types}
 use Rattle.types.specs.tables.Sizes.{sizes_in}
 use Rattle.values.specs.inside.normal_image.InPlace.{each_made, made}
 use Rattle.values.specs.inside.normal_image.Placed.{Sweepable}
-use Rattle.values.specs.inside.writing.Rows.{AllHere, Here, tree_in}
+use Rattle.values.specs.inside.writing.Rows.{AllHere, tree_in}
 use Rattle.values.specs.reading.Tree.{Tree, array, span}
 use Rattle.values.proofs.normal_image.ArrayMade.{array_made}
 use Rattle.values.proofs.normal_image.MadeLaws.{made_beside}
@@ -84,17 +84,6 @@ module _ {types members : List ℕ} {i count : ℕ} {image : List ℕ} {base siz
       go (suc left) a b = absurd (let x : ⊥ = omega arith in x)
 
   module _ (l : e < count) where
-    -- its bytes lie in the image
-    pub element_inside : base + size * e + size ≤ length image
-    element_inside =
-        let h : size * e + size ≤ size * count = subst (◌≤ size * count) (mul-suc size e) (mul-le-mul_left size l) in
-        let q : size * count ≡ sizes_in types i * count = ap (λ (z : ℕ). z * count) v.long in
-        omega (arith, here.inside)
-
-    -- the element's structure lies in the image as it stands
-    pub element_here : Here types i (base + size * e) now
-    element_here = record { low = here.low; inside = omega (arith, element_inside, v.whole, v.long) }
-
     next_place : place + span tree ≡ 8 * (base + size * (e + 1))
     next_place =
         let a : size * (e + 1) ≡ size * e + size = mul-add size e 1 ∙ ap (size * e +◌) (mul-one size) in

@@ -1,5 +1,6 @@
 -- A plain member made normal in place (document 01, "Normal image"): what its row says of where it lies, and of what is
 -- between it and the byte from which on its structure is still to be swept.
+use Rattle.std.specs.Prelude.{None}
 use Prim.Native.Nat.{ℕ, ◌+◌, ◌-◌, ◌*◌, ◌<◌, ◌≤◌}
 use native.Mathlib.Nat.{mul-one}
 use native.Mathlib.Omega.{arith}
@@ -8,6 +9,7 @@ use mathlib.Core.Path.{◌≡◌, refl, sym, ap, ap₂, ◌∙◌}
 use mathlib.Core.List.{List}
 use lib.ListN.{length, replicate}
 use lib.Seq.{sets, length-sets}
+use borrow.Rule.Slice.PartMut.{mid_of, put_mid}
 use Rattle.words.specs.Bits.{flat}
 use Rattle.types.specs.atomics.Atomic.{size_of}
 use Rattle.types.specs.layout.Laid.{first_bit}
@@ -16,7 +18,6 @@ use Rattle.types.specs.tables.Lent.{member_at}
 use Rattle.types.specs.tables.Limits.{most_types}
 use Rattle.types.specs.tables.Sizes.{sizes_in}
 use Rattle.types.specs.declared.atomics.atomic.Atomic.{Atomic}
-use Rattle.types.specs.declared.tables.member.Bit.TheVariants.{None}
 use Rattle.types.specs.declared.tables.member.Member.{Member}
 use Rattle.types.specs.declared.tables.member.Ty.TheVariants as ty
 use Rattle.types.proofs.Face.{times_one, times_same}
@@ -25,6 +26,7 @@ use Rattle.values.specs.inside.normal_image.Placed.{Sweepable}
 use Rattle.values.specs.inside.writing.Rows.{AllHere, Here, member_tree, tree_in}
 use Rattle.values.specs.reading.Tree.{Tree, array, span}
 use Rattle.values.specs.reading.Trees.{atomics_tree, structs_tree}
+use Rattle.values.proofs.normal_image.FilledLaws.{zeros_filled}
 use Rattle.values.proofs.normal_image.SweepableLaws.{plain_is, sweepable_walkable}
 use Rattle.values.proofs.reading.SpanLaws.{atomics_span, sound_all, value_span}
 use Rattle.values.proofs.writing.ClearLaws.{zeros_cleared}
@@ -57,16 +59,23 @@ module _ {types members : List ℕ} {i row base c : ℕ} {image : List ℕ} {m :
   plain_after = omega (arith, first_row_is, w.row_of.after)
 
   -- a plain member begins in the image
-  pub plain_start : base + start ≤ length image
+  plain_start : base + start ≤ length image
   plain_start = omega (arith, first_row_is, w.row_of.row_of.within.inside, w.here.inside)
 
   -- and so does what is before it
-  pub plain_gap : base + c + (start - c) ≤ length image
+  plain_gap : base + c + (start - c) ≤ length image
   plain_gap = omega (arith, plain_start, plain_after)
 
   -- that is cleared
   abbrev Gap : List ℕ → Type 0
   Gap mid = mid ≡ sets image (base + c) (replicate (start - c) 0)
+
+  -- where it is filled with zeros
+  pub gap_filled : {part : List ℕ}
+      → part ≡ replicate (length (mid_of (base + c) (base + start - (base + c)) image)) 0
+      → Gap (put_mid (base + c) (base + start - (base + c)) image part)
+  gap_filled f =
+      zeros_filled image (base + c) (base + start) (start - c) (omega (arith, plain_after)) plain_start f
 
   module _ {mid : List ℕ} (e : Gap mid) where
     gap_long : length mid ≡ length image
@@ -134,7 +143,7 @@ module _ {types members : List ℕ} {i row base c : ℕ} {image : List ℕ} {m :
     struct_below = rw (← w.is, type) at w.row_of.row_of.within.earlier
 
     -- and the number of that structure is below 200
-    pub struct_low : t < most_types
+    struct_low : t < most_types
     struct_low = omega (arith, struct_below, w.here.low)
 
     structs_inside : base + start + sizes_in types t * times n ≤ length image
@@ -165,10 +174,6 @@ module _ {types members : List ℕ} {i row base c : ℕ} {image : List ℕ} {m :
       one_here e = record { low = struct_low; inside = omega (arith, structs_inside, one_bytes, gap_long e) }
 
       module _ {size : ℕ} (s : size ≡ sizes_in types t) where
-        -- the end of one structure in the outer one is at most the image's length
-        pub one_end : start + size ≤ length image
-        one_end = omega (arith, structs_inside, one_bytes, s)
-
         -- the gap cleared and one structure made normal: the sweep is on to the byte after it
         pub one_onward : {mid new : List ℕ} → Gap mid → flat new ≡ made (trees t) (8 * (base + start)) (flat mid)
             → OnwardTo trees base c (member_at members row) image new (start + size)
@@ -191,10 +196,6 @@ module _ {types members : List ℕ} {i row base c : ℕ} {image : List ℕ} {m :
       module _ {size : ℕ} (s : size ≡ sizes_in types t) where
         elements_bytes : size * n ≡ sizes_in types t * n
         elements_bytes = ap (λ (k : ℕ). k * n) s
-
-        -- the end of an array of structures in the outer one is at most the image's length
-        pub all_end : start + size * n ≤ length image
-        all_end = omega (arith, structs_inside, all_bytes, elements_bytes)
 
         -- the gap cleared and an array of structures made normal: the sweep is on to the byte after it
         pub all_onward : {mid new : List ℕ} → Gap mid

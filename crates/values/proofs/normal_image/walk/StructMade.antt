@@ -1,5 +1,6 @@
 -- A structure made normal (document 01, "Normal image"): its plain members swept and its BOOLs put back, zero but for
 -- each visible member's normal place.
+use Rattle.std.specs.Prelude.{Option, Some, None}
 use Prim.Native.Nat.{ℕ, suc, ◌+◌, ◌-◌}
 use native.Mathlib.Omega.{arith}
 use mathlib.Core.Path.{◌≡◌, refl, sym, ap, ◌∙◌, fun_ext}
@@ -9,8 +10,6 @@ use Rattle.words.specs.Bits.{Bits, inside}
 use Rattle.words.proofs.BitLaws.{BitLies, among, beside, lies}
 use Rattle.words.proofs.TestLaws.{not-true, or_first, or_none, or_second, cond_same}
 use Rattle.types.specs.layout.Laid.{first_in, has_bit}
-use Rattle.types.specs.declared.tables.member.Bit.{Bit}
-use Rattle.types.specs.declared.tables.member.Bit.TheVariants.{None, At}
 use Rattle.types.specs.declared.tables.member.Member.{Member}
 use Rattle.values.specs.inside.normal_image.InPlace.{flagged, is_flag, is_plain, made, swept}
 use Rattle.values.specs.inside.normal_image.Placed.{BranchesPlaced, ClearOfBranches, TreePlaced, Stairs}
@@ -44,7 +43,7 @@ module _ (trees : ℕ → Tree) (p : ℕ) where
       rest : Branches
       rest = branches_from trees (suc j) ms
 
-      go : (h : Bool) (b : Bit)
+      go : (h : Bool) (b : Option ℕ)
           → (held (branch_items rest p) k ≡ false → HeldByNone (flag_items p ms) (plain_items trees p ms) k)
           → held (branch_items (seen h j (first_in b m.offset) (bit_tree b value) rest) p) k ≡ false
           → HeldByNone
@@ -62,8 +61,8 @@ module _ (trees : ℕ → Tree) (p : ℕ) where
                 ∙ or_none (held own k) (held (plain_items trees p ms) k) (held_first own (branch_items rest p) k e)
                 r.plain;
           }
-      go false (At i) ih e =
-          let bit : Bool = inside (p + first_in (At i) m.offset) 1 k in
+      go false (Some i) ih e =
+          let bit : Bool = inside (p + first_in (Some i) m.offset) 1 k in
           let r : HeldByNone (flag_items p ms) (plain_items trees p ms) k =
           ih (or_second bit (held (branch_items rest p) k) e) in
           record {
@@ -124,7 +123,7 @@ merged trees p size (m ∷ ms) j a x k = go m.hidden m.bit a (λ r. merged trees
     rest : Branches
     rest = branches_from trees (suc j) ms
 
-    go : (h : Bool) (b : Bit) → BranchesPlaced size (seen h j (first_in b m.offset) (bit_tree b value) rest)
+    go : (h : Bool) (b : Option ℕ) → BranchesPlaced size (seen h j (first_in b m.offset) (bit_tree b value) rest)
         → (BranchesPlaced size rest → Merged (flag_items p ms) (plain_items trees p ms) (branch_items rest p) x k)
         → Merged
         (cond (has_bit (cond h None b)) (at (p + first_in b m.offset) flag ∷ flag_items p ms) (flag_items p ms))
@@ -135,9 +134,9 @@ merged trees p size (m ∷ ms) j a x k = go m.hidden m.bit a (λ r. merged trees
     go false None (placed, (_, (clear, all))) ih =
         plain_merged value size p (first_in None m.offset) (flag_items p ms) (plain_items trees p ms) rest x k placed
         clear all (unheld trees p ms (suc j) k) (ih all)
-    go false (At i) (placed, (_, (clear, all))) ih =
-        bool_merged (p + first_in (At i) m.offset) (flag_items p ms) (plain_items trees p ms) (branch_items rest p) x k
-        (ih all)
+    go false (Some i) (placed, (_, (clear, all))) ih =
+        bool_merged (p + first_in (Some i) m.offset) (flag_items p ms) (plain_items trees p ms) (branch_items rest p) x
+        k (ih all)
 
 -- ---- the whole
 

@@ -1,6 +1,7 @@
 -- The plain members of a structure swept row by row (document 01, "Normal image"): what is left to sweep after some
 -- rows, over the image as it then stands, gives what there was to sweep at the start.
 use Prim.Native.Nat.{ℕ, suc, ◌+◌, ◌-◌, ◌*◌, ◌<◌, ◌≤◌}
+use native.Mathlib.Nat.{add-zero}
 use native.Mathlib.Omega.{arith}
 use mathlib.Core.Path.{◌≡◌, refl, sym, ap, ap₂, ◌∙◌, subst}
 use mathlib.Core.Bool.{true, false}
@@ -70,24 +71,21 @@ pub record Sweeping (types members : List ℕ) (i : ℕ) (image : List ℕ) (bas
       ≡ swept (tree_in types members) (8 * base) (8 * sizes_in types i)
       (members_at members (type_at types i).first (type_at types i).count) 0 (flat image)
 
--- before the first row the whole structure is still to be swept
-pub sweep_start : {types members : List ℕ} {i : ℕ} {image : List ℕ} {base first count : ℕ} {d : StructDef}
-    → Sweepable types members → Here types i base image → d ≡ type_at types i → first ≡ d.first → count ≡ d.count
-    → Sweeping types members i image base first count image 0 0
-sweep_start {types} {members} {i} {image} {base} {first} {count} s h is f n =
-    let a : first ≡ (type_at types i).first = f ∙ ap (λ (x : StructDef). x.first) is in
-    let b : count ≡ (type_at types i).count = n ∙ ap (λ (x : StructDef). x.count) is in
-    let e : first + 0 ≡ (type_at types i).first = omega arith in
+-- before the first row all are left
+pub sweep_start : {types members : List ℕ} {i : ℕ} {image : List ℕ} {base : ℕ} {d : StructDef}
+    → Sweepable types members → Here types i base image → d ≡ type_at types i
+    → Sweeping types members i image base d.first d.count image 0 0
+sweep_start {types} {members} {i} {image} {base} {d} s h is =
     record {
       sweepable = s;
       here = h;
-      first_row_is = a;
-      count_is = b;
-      left = count;
+      first_row_is = ap (λ (x : StructDef). x.first) is;
+      count_is = ap (λ (x : StructDef). x.count) is;
+      left = d.count;
       all = omega arith;
       long = refl;
-      stairs = rw (e, b) (s.stairs i h.low);
-      same = rw (e, b) refl;
+      stairs = rw (add-zero, is) (s.stairs i h.low);
+      same = rw (add-zero, is) refl;
     }
 
 module _ {types members : List ℕ} {i : ℕ} {image : List ℕ} {base first count : ℕ} {now : List ℕ} {c k : ℕ}
@@ -103,7 +101,7 @@ module _ {types members : List ℕ} {i : ℕ} {image : List ℕ} {base first cou
 
   module _ (l : k < count) where
     -- the next row is a row of the table
-    pub sweep_row : first + k < most_members
+    sweep_row : first + k < most_members
     sweep_row = omega (arith, type_is.rows, v.first_row_is, v.count_is)
 
     abbrev more : ℕ

@@ -1,7 +1,7 @@
 -- Runs of bits (document 01, "Reading": all bits, lowest first): the digit of a byte's bit, the eight bits of a byte,
 -- and the bits of some bytes, one byte after the other.
 use Prim.Native.Nat.{ℕ, suc, ◌+◌, ◌*◌, ◌<◌, ◌≤◌}
-use native.Mathlib.Nat.{add-zero}
+use native.Mathlib.Numerals.{add-one}
 use native.Mathlib.Omega.{arith}
 use mathlib.Core.Path.{◌≡◌, refl, sym, ap, ◌∙◌}
 use mathlib.Core.Bool.{Bool}
@@ -30,30 +30,25 @@ bits_length : (s : List ℕ) (n : ℕ) → length (up_to (bit_token s) n) ≡ n
 bits_length s n = up_ones (bit_token s) n (λ k. refl)
 
 -- where the entry of the next bit is put behind the others, one bit more is put
-pub next_bit : (d : ℕ) {x : ℕ} {out new last : List ℕ} {at k r : ℕ} → LowBits x out at k new → k < 8 → d ≡ 12 * k
-    → r ≡ digit (bit_of x k) → last ≡ sets new (at + d) (entry_bytes 1 r) → LowBits x out at (suc k) last
+pub next_bit : {x : ℕ} {out new last : List ℕ} {at k d r : ℕ} → LowBits x out at k new → k < 8 → d ≡ 12 * k
+    → r ≡ digit (bit_of x k) → last ≡ sets new (at + d) (entry_bytes 1 r) → LowBits x out at (k + 1) last
 unfolding up_to
-next_bit d {x} {out} {new} {last} {at} {k} {r} l h n b e =
+next_bit {x} {out} {new} {last} {at} {k} {d} {r} l h n b e =
     let f : r ≡ digit (flat (x ∷ []) k) = b ∙ ap digit (sym (one_byte x k h)) in
     let g : last ≡ sets new (at + 12 * k) (entry_bytes 1 (digit (flat (x ∷ []) k))) = e ∙ rw (n, f) in
     let q : at + 12 * suc k ≡ at + 12 * k + 12 = omega arith in
-    record {
+    rw add-one
+    (record {
       put = rw q (put_then (bits_plain (x ∷ []) k) l.put (put_one (bool (flat (x ∷ []) k)) refl refl g));
       long = ap length e ∙ length-sets new (at + d) (entry_bytes 1 r) ∙ l.long;
-    }
+    })
 
-no_bit : (x : ℕ) (out : List ℕ) (at : ℕ) → LowBits x out at 0 out
+-- before the first bit nothing is put
+pub no_bit : {x : ℕ} {out : List ℕ} {at : ℕ} → LowBits x out at 0 out
 unfolding up_to
-no_bit x out at =
+no_bit {x} {out} {at} =
     let e : at + 12 * 0 ≡ at = omega arith in
     record { put = rw e (put_none out at); long = refl }
-
--- the lowest bit of a byte is put
-pub first_bit : {x : ℕ} {out last : List ℕ} {at r : ℕ} → r ≡ digit (bit_of x 0) → last ≡ sets out at (entry_bytes 1 r)
-    → LowBits x out at 1 last
-first_bit {x} {out} {last} {at} {r} b e =
-    next_bit 0 (no_bit x out at) (omega arith) refl b
-    (e ∙ ap (λ (p : ℕ). sets out p (entry_bytes 1 r)) (sym (add-zero at)))
 
 -- ---- the bits of some bytes
 

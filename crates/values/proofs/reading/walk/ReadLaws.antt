@@ -13,7 +13,7 @@ use Rattle.types.specs.declared.tables.member.Member.{Member}
 use Rattle.types.specs.declared.tables.member.StructDef.{StructDef}
 use Rattle.values.specs.inside.reading.Walk.{up_to, wrap, text_out, is_nested, leaf_out, element_by, elements_by}
 use Rattle.values.specs.inside.reading.Walk.{member_by, row_by, members_by, struct_by, struct_out}
-use Rattle.values.specs.inside.reading.Walkable.{IsString, Walkable, RowOf, NestedRow, ImageOf, ImagesOf}
+use Rattle.values.specs.inside.reading.Walkable.{IsString, HeldIn, Walkable, RowOf, NestedRow, ImageOf, ImagesOf}
 use Rattle.values.specs.inside.stream.Laying.{EntriesPut, StreamRoom, TokensLaid}
 use Rattle.values.specs.reading.Texts.{capacity_at}
 use Rattle.values.specs.reading.Trees.{is_string_kind}
@@ -22,7 +22,7 @@ use Rattle.values.specs.declared.reading.rows.Nested.{Nested}
 use Rattle.values.specs.declared.stream.place.Place.{Place}
 use Rattle.values.proofs.reading.LeafLaws.{textless_leaf}
 use Rattle.values.proofs.reading.MemberLaws.{nested_shown, member_leaf, row_of}
-use Rattle.values.proofs.reading.PartLaws.{lent, element_fits, element_image, element_is, HeldRow, one_image}
+use Rattle.values.proofs.reading.PartLaws.{lent, element_image, element_is, HeldRow, one_image}
 use Rattle.values.proofs.reading.PartLaws.{one_is, some_images, some_is}
 use Rattle.values.proofs.reading.WalkLaws.{struct_out_lem}
 use Rattle.values.proofs.stream.LayingLaws.{room_one, room_all, room_as, wrote_as, value_room, value_wrote}
@@ -51,10 +51,6 @@ module _ {types members : List ℕ} (w : Walkable types members) {i : ℕ} {imag
 
     first_row_is : first ≡ (type_at types i).first
     first_row_is = p ∙ ap (λ (x : StructDef). x.first) is
-
-    -- its second row is in the table
-    pub string_rows : first < 1999
-    string_rows = omega (arith, first_row_is, (w.each i whole.low).rows, type_string.rows)
 
     module _ {capacity : ℕ} (q : capacity ≡ capacity_at members first) where
       -- LEN and a string's capacity lie in its image
@@ -178,6 +174,20 @@ pub record Nesting (types members : List ℕ) (i row j : ℕ) (image out : List 
       (member_by types members (struct_out types members) j (member_at members row) image)
   pub put : mid ≡ sets out at (entry_bytes 7 j)
 
+-- a row that holds a structure of that size, and the image that it is read from
+pub held_row : {types members image : List ℕ} {i row size : ℕ} {r : Nested}
+    → NestedRow types members i row × ImageOf types i image → HeldIn (member_at members row) r
+    → size ≡ sizes_in types r.structure → HeldRow types members i row image r size
+held_row w held long = record { nested = w.0; whole = w.1; held = held; long = long }
+
+-- a row that holds a structure has room, and its number is put
+pub nesting : {types members image : List ℕ} (out : List ℕ) {mid : List ℕ} {i row j base at text size : ℕ} {r : Nested}
+    → Walkable types members → HeldRow types members i row image r size
+    → StreamRoom (length out) base at text
+    (member_by types members (struct_out types members) j (member_at members row) image)
+    → mid ≡ sets out at (entry_bytes 7 j) → Nesting types members i row j image out base at text mid r size
+nesting out walk held room put = record { held = held; walk = walk; room = room; put = put }
+
 module _ {types members : List ℕ} {i row j : ℕ} {image out : List ℕ} {base at text : ℕ} {mid : List ℕ}
     {r : Nested} {size : ℕ} (w : Nesting types members i row j image out base at text mid r size) where
   -- the bytes of one structure, and of so many
@@ -262,10 +272,6 @@ module _ {types members image : List ℕ} {i n : ℕ} (out : List ℕ) {mid : Li
 
 module _ {types members image out new : List ℕ} {i n size base at text k p t : ℕ}
     (w : ElementsRead types members i n image size out base at text k new p t) (h : k < n) where
-  -- the next element lies in the image
-  pub element_inside : size * k + size ≤ length image
-  element_inside = element_fits w.whole w.long k h
-
   element : element_by types members (struct_out types members) i image k
       ≡ struct_out types members i (lent image (size * k) (size * k + size))
   element = sym (element_is w.whole w.long members (struct_out types members) k)

@@ -15,11 +15,11 @@ use Rattle.types.specs.tables.Sizes.{sizes_in}
 use Rattle.values.specs.inside.reading.Walk.{is_nested, up_to, wrap, leaf_out, structs_by, member_by, row_by}
 use Rattle.values.specs.inside.reading.Walk.{members_by}
 use Rattle.values.specs.inside.reading.Walk.{struct_out}
-use Rattle.values.specs.inside.reading.Walkable.{HeldIn, Walkable, RowOf, NestedRow}
+use Rattle.values.specs.inside.reading.Walkable.{HeldIn, Walkable, NestedRow}
 use Rattle.values.specs.inside.stream.Counting.{Counted, TextFree}
 use Rattle.values.specs.stream.Stream.{most_bytes, Token, bodies}
 use Rattle.values.specs.declared.reading.rows.Nested.{Nested}
-use Rattle.values.proofs.reading.MemberLaws.{member_leaf, member_nested, row_of}
+use Rattle.values.proofs.reading.MemberLaws.{member_leaf, member_nested}
 use Rattle.values.proofs.reading.UpLaws.{up_grows, wrap_length, wrap_bodies}
 use Rattle.values.proofs.stream.CountLaws.{counted_same, member_counted, plain_counted, plain_same}
 use Rattle.values.proofs.stream.HeadLaws.{bodies_append}
@@ -102,10 +102,6 @@ rows_none w l m p q =
 
 module _ {types members : List ℕ} {i from most first n : ℕ} {b t : Bool} {sum j : ℕ}
     (w : RowsCounted types members i from most first n b t sum j) where
-  -- the next row is one of the structure's
-  pub next_row : j < n → RowOf types members i (first + j)
-  next_row h = row_of w.walk w.low w.first_row_is w.count_is h
-
   abbrev Row : List ℕ → ℕ → List Token
   Row = row_by types members (struct_out types members) first
 

@@ -34,6 +34,13 @@ pub record ElementsAsked (types members : List ℕ) (i count : ℕ) (s : List �
   pub form : stream_ok s ≡ true
   pub set : accepted (write (array count (tree_in types members i)) (8 * base) (left_at s k) (flat image)) ≡ true
 
+-- what the contract asks of an array is what its elements are asked
+pub elements_asked : {types members : List ℕ} {i count : ℕ} {s : List ℕ} {k : ℕ} {image : List ℕ} {base : ℕ}
+    → Walkable types members × (AllHere types i count base image × (stream_ok s ≡ true))
+    → accepted (write (array count (tree_in types members i)) (8 * base) (left_at s k) (flat image)) ≡ true
+    → ElementsAsked types members i count s k image base
+elements_asked p set = record { walk = p.0; here = p.1.0; form = p.1.1; set = set }
+
 module _ {types members : List ℕ} {i count : ℕ} {s : List ℕ} {k : ℕ} {image : List ℕ} {base : ℕ}
     (w : ElementsAsked types members i count s k image base) where
   abbrev inner : List Token → Bits → Outcome

@@ -50,6 +50,15 @@ pub record MembersAsked (types members : List ℕ) (i : ℕ) (s : List ℕ) (k :
       (write (struct (8 * sizes_in types i) (branches_in types members i)) (8 * base) (left_at s k) (flat image))
       ≡ true
 
+-- what the contract asks of a structure is what its members are asked
+pub members_asked : {types members : List ℕ} {i : ℕ} {s : List ℕ} {k : ℕ} {image : List ℕ} {base : ℕ}
+    → Walkable types members × (Here types i base image × (stream_ok s ≡ true))
+    → accepted
+    (write (struct (8 * sizes_in types i) (branches_in types members i)) (8 * base) (left_at s k) (flat image))
+    ≡ true
+    → MembersAsked types members i s k image base
+members_asked p set = record { walk = p.0; here = p.1.0; form = p.1.1; set = set }
+
 module _ {types members : List ℕ} {i : ℕ} {s : List ℕ} {k : ℕ} {image : List ℕ} {base : ℕ}
     (w : MembersAsked types members i s k image base) where
   abbrev inner : List Token → Bits → Outcome

@@ -1,5 +1,6 @@
 -- The check of structures and their arrays (document 01, "Writing"): what is left of the members and of the elements at
 -- an entry, and what each way out of the two loops answers for every image and every place.
+use Rattle.std.specs.Prelude.{Result, Ok, Err}
 use Prim.Native.Nat.{ℕ, zero, suc, ◌+◌, ◌*◌, ◌^◌, ◌<◌, ◌≤◌}
 use native.Mathlib.Omega.{arith}
 use mathlib.Core.Path.{◌≡◌, refl, sym, ap, ◌∙◌}
@@ -9,8 +10,10 @@ use Rattle.words.specs.Bits.{Bits}
 use Rattle.types.specs.tables.Lent.{member_at, type_at}
 use Rattle.types.specs.tables.Limits.{most_types}
 use Rattle.types.specs.tables.Sizes.{sizes_in}
+use Rattle.types.specs.declared.refusals.refusal.Refusal.{Refusal}
+use Rattle.types.specs.declared.refusals.refusal.Refusal.TheVariants.{EntryMisfit}
 use Rattle.types.specs.declared.tables.member.StructDef.{StructDef}
-use Rattle.values.specs.inside.reading.Walkable.{HeldIn, IsString, NestedRow, Walkable}
+use Rattle.values.specs.inside.reading.Walkable.{HeldIn, NestedRow, Walkable}
 use Rattle.values.specs.inside.writing.Passes.{CheckedFrom, WellFormed, first_kind, left_at}
 use Rattle.values.specs.inside.writing.Rows.{branches_in, member_tree, tree_in}
 use Rattle.values.specs.reading.Leaf.{str, width}
@@ -27,23 +30,25 @@ use Rattle.values.proofs.writing.BranchLaws.{members_tree, one_tree, some_tree, 
 use Rattle.values.proofs.writing.OutcomeLaws.{in_struct, in_array, struct_opens, array_opens}
 use Rattle.values.proofs.writing.StepLaws.{Onward, checked_as, onward_on, onward_then, refused_then}
 use Rattle.values.proofs.writing.StepLaws.{opened_keeps, opened_goes, opened_refuses, elements_missing}
-use Rattle.values.proofs.writing.StepLaws.{elements_closes, elements_refuse, elements_go}
+use Rattle.values.proofs.writing.StepLaws.{elements_closes, elements_go}
+use Rattle.values.proofs.writing.fits.FitRunLaws.{AtEnd}
 
 -- a stream has fewer than 2^28 entries
 pub entry_small : {s : List ℕ} {n k : ℕ} → WellFormed s n → k ≤ n → k < 2 ^ 28
 entry_small {s} told l = omega (arith, told.count, few_entries s told.form)
 
 -- an answer of the check from a later entry on is one from an earlier entry on
-pub checked_earlier : {s : List ℕ} {k p r : ℕ} {f : Bits → Outcome} → k ≤ p → CheckedFrom s p r f → CheckedFrom s k r f
-checked_earlier l c =
+pub checked_earlier : {s : List ℕ} {k p : ℕ} {f : Bits → Outcome} (r : Result ℕ Refusal) → k ≤ p
+    → CheckedFrom s p r f → CheckedFrom s k r f
+checked_earlier (Ok r) l c =
     record {
-      goes = λ h. record {
-        further = let w = (c.goes h).further in omega arith;
-        inside = (c.goes h).inside;
-        gives = (c.goes h).gives;
+      says = record {
+        further = let w = c.says.further in omega arith;
+        inside = c.says.inside;
+        gives = c.says.gives;
       };
-      refuses = c.refuses;
     }
+checked_earlier (Err why) l c = record { says = record { inside = c.says.inside; gives = c.says.gives } }
 
 -- ---- a structure, where d was read from its row
 
@@ -53,7 +58,7 @@ module _ {types members : List ℕ} (w : Walkable types members) {i : ℕ} (low 
   kind_is = ap (λ (x : StructDef). is_string_kind x.kind) (sym is) ∙ sym test
 
   -- no string: what the check answers of the members it answers of the structure
-  pub struct_checked : {s : List ℕ} {k r : ℕ} → b ≡ false
+  pub struct_checked : {s : List ℕ} {k : ℕ} {r : Result ℕ Refusal} → b ≡ false
       → ((p : ℕ) → CheckedFrom s k r (write (struct (8 * sizes_in types i) (branches_in types members i)) p
       (left_at s k)))
       → (p : ℕ) → CheckedFrom s k r (write (tree_in types members i) p (left_at s k))
@@ -62,15 +67,8 @@ module _ {types members : List ℕ} (w : Walkable types members) {i : ℕ} (low 
       (λ z. ap (λ (t : Tree). write t p (left_at s k) z) (members_tree types members w i low (kind_is ∙ e))) (h p)
 
   module _ (string : b ≡ true) {first : ℕ} (p : first ≡ d.first) where
-    type_string : IsString members (type_at types i)
-    type_string = (w.each i low).string (kind_is ∙ string)
-
     first_row_is : first ≡ (type_at types i).first
     first_row_is = p ∙ ap (λ (x : StructDef). x.first) is
-
-    -- its second row is in the table
-    pub string_inside : first < 1999
-    string_inside = omega (arith, first_row_is, (w.each i low).rows, type_string.rows)
 
     text_is : (capacity q : ℕ) (ts : List Token) (z : Bits)
         → write (leaf (str capacity)) q ts z ≡ write_one (or_null (as_text capacity)) (width (str capacity)) q ts z
@@ -78,7 +76,7 @@ module _ {types members : List ℕ} (w : Walkable types members) {i : ℕ} (low 
     text_is capacity q ts z = refl
 
     -- a string: what the check answers of one text or null it answers of the structure
-    pub text_checked : {capacity : ℕ} {s : List ℕ} {k r : ℕ} → capacity ≡ capacity_at members first
+    pub text_checked : {capacity : ℕ} {s : List ℕ} {k : ℕ} {r : Result ℕ Refusal} → capacity ≡ capacity_at members first
         → ((v q : ℕ) → CheckedFrom s k r (write_one (or_null (as_text capacity)) v q (left_at s k)))
         → (q : ℕ) → CheckedFrom s k r (write (tree_in types members i) q (left_at s k))
     text_checked {capacity} {s} {k} c h q =
@@ -96,7 +94,7 @@ module _ {types members : List ℕ} (w : Walkable types members) {i : ℕ} (low 
 module _ {types members : List ℕ} {i row : ℕ} {h : Nested} (nested : NestedRow types members i row)
     (held : HeldIn (member_at members row) h) where
   -- count 0: what the check answers of the structure it answers of the member
-  pub one_checked : {s : List ℕ} {k r : ℕ} → h.count ≡ 0
+  pub one_checked : {s : List ℕ} {k : ℕ} {r : Result ℕ Refusal} → h.count ≡ 0
       → ((p : ℕ) → CheckedFrom s k r (write (tree_in types members h.structure) p (left_at s k)))
       → (p : ℕ)
       → CheckedFrom s k r (write (member_tree (tree_in types members) (member_at members row)) p (left_at s k))
@@ -104,7 +102,7 @@ module _ {types members : List ℕ} {i row : ℕ} {h : Nested} (nested : NestedR
       checked_as (λ x. ap (λ (u : Tree). write u p (left_at s k) x) (one_tree nested held e)) (f p)
 
   -- any other count: what the check answers of the array it answers of the member
-  pub some_checked : {s : List ℕ} {k r : ℕ} → (h.count ≡ 0 → ⊥)
+  pub some_checked : {s : List ℕ} {k : ℕ} {r : Result ℕ Refusal} → (h.count ≡ 0 → ⊥)
       → ((p : ℕ) → CheckedFrom s k r (write (array h.count (tree_in types members h.structure)) p (left_at s k)))
       → (p : ℕ)
       → CheckedFrom s k r (write (member_tree (tree_in types members) (member_at members row)) p (left_at s k))
@@ -128,34 +126,34 @@ opened_left {s} {k} start inner form a b e same =
 module _ {s : List ℕ} {n k start : ℕ} (told : WellFormed s n) (is : start ≡ first_kind (left_at s k)) where
   -- null for a structure: the check goes on to the next entry
   pub struct_null : (size : ℕ) (bs : Branches) → start ≡ 0 → (q : ℕ)
-      → CheckedFrom s k (k + 1) (write (struct size bs) q (left_at s k))
+      → CheckedFrom s k (Ok (k + 1)) (write (struct size bs) q (left_at s k))
   struct_null size bs e q =
       checked_as (λ z. struct_opens size bs q (left_at s k) z)
       (opened_keeps told.form 8 (in_struct bs q) (sym is ∙ e))
 
   -- null for an array: the check goes on to the next entry
   pub array_null : (m : ℕ) (tree : Tree) → start ≡ 0 → (q : ℕ)
-      → CheckedFrom s k (k + 1) (write (array m tree) q (left_at s k))
+      → CheckedFrom s k (Ok (k + 1)) (write (array m tree) q (left_at s k))
   array_null m tree e q =
       checked_as (λ z. array_opens m tree q (left_at s k) z)
       (opened_keeps told.form 10 (in_array m tree q) (sym is ∙ e))
 
-  module _ (l : k ≤ n) {r : ℕ} (a : start ≡ 0 → ⊥) (e : r ≡ 2 ^ 32 * 18 + k) where
+  module _ (l : k ≤ n) (a : start ≡ 0 → ⊥) where
     -- neither null nor an opening for a structure: the check answers 18 here
     pub struct_other : (size : ℕ) (bs : Branches) → (start ≡ 8 → ⊥) → (q : ℕ)
-        → CheckedFrom s k r (write (struct size bs) q (left_at s k))
+        → CheckedFrom s k (Err (EntryMisfit k)) (write (struct size bs) q (left_at s k))
     struct_other size bs b q =
         checked_as (λ z. struct_opens size bs q (left_at s k) z)
         (opened_refuses told.form 8 (in_struct bs q) (omega (arith, told.count)) (λ h. a (is ∙ h))
-        (λ h. b (is ∙ h)) e)
+        (λ h. b (is ∙ h)))
 
     -- neither null nor an opening for an array: the check answers 18 here
     pub array_other : (m : ℕ) (tree : Tree) → (start ≡ 10 → ⊥) → (q : ℕ)
-        → CheckedFrom s k r (write (array m tree) q (left_at s k))
+        → CheckedFrom s k (Err (EntryMisfit k)) (write (array m tree) q (left_at s k))
     array_other m tree b q =
         checked_as (λ z. array_opens m tree q (left_at s k) z)
         (opened_refuses told.form 10 (in_array m tree q) (omega (arith, told.count)) (λ h. a (is ∙ h))
-        (λ h. b (is ∙ h)) e)
+        (λ h. b (is ∙ h)))
 
 -- ---- the elements of an array of structures: e of them are checked, up to entry p
 
@@ -192,7 +190,7 @@ module _ {types members : List ℕ} {i count : ℕ} {s : List ℕ} {n k p e : �
   tree = tree_in types members i
 
   -- what the whole check answers
-  abbrev ArrayAnswer : ℕ → Type 0
+  abbrev ArrayAnswer : Result ℕ Refusal → Type 0
   ArrayAnswer r = (q : ℕ) → CheckedFrom s k r (write (array count tree) q (left_at s k))
 
   -- the elements are checked up to an entry, or to the end of the entries
@@ -200,54 +198,54 @@ module _ {types members : List ℕ} {i count : ℕ} {s : List ℕ} {n k p e : �
   elements_inside = let l = (w.left 0).inside in omega (arith, w.told.count)
 
   -- the way out with 18: no entry is left
-  pub elements_short : {r : ℕ} → n ≤ p → r ≡ 2 ^ 32 * 18 + p → ArrayAnswer r
-  elements_short {r} h e q =
-      (w.left q).onward r
+  pub elements_short : n ≤ p → ArrayAnswer (Err (EntryMisfit p))
+  elements_short h q =
+      (w.left q).onward _
       (elements_missing w.told.form (write tree) (span tree) w.rest (w.place q)
-      (omega (arith, elements_inside, w.told.count)) e)
+      (omega (arith, elements_inside, w.told.count)))
+
+  -- after the last place: what the check answers of the array's end it answers of the array
+  pub elements_end : {r : Result ℕ Refusal} → e ≡ count → AtEnd s n p r → ArrayAnswer r
+  elements_end full c q =
+      let none : w.rest ≡ 0 = omega (arith, w.all) in
+      (w.left q).onward _ (c w.rest (write tree) (span tree) (w.place q) (λ l. none))
 
   module _ (l : p < n) {kind : ℕ} (is : kind ≡ first_kind (left_at s p)) where
     here : EntryThere s p
     here = there s p w.told.form (omega (arith, w.told.count))
 
     -- the way out at the close: the next entry is answered
-    pub elements_done : kind ≡ 11 → ArrayAnswer (p + 1)
+    pub elements_done : kind ≡ 11 → ArrayAnswer (Ok (p + 1))
     elements_done h q =
-        (w.left q).onward (p + 1)
+        (w.left q).onward _
         (elements_closes w.told.form (write tree) (span tree) w.rest (w.place q) (sym is ∙ h))
 
-    module _ (more_left : kind ≡ 11 → ⊥) {r : ℕ} where
-      -- the way out with 20: an entry past the last place
-      pub elements_past : e ≡ count → r ≡ 2 ^ 32 * 20 + p → ArrayAnswer r
-      elements_past full h q =
-          let none : w.rest ≡ 0 = omega (arith, w.all) in
-          (w.left q).onward r
-          (rw none
-          (elements_refuse w.told.form (write tree) (span tree) (w.place q) here (λ x. more_left (is ∙ x)) h))
-
-      module _ (more : e ≡ count → ⊥) (c : (q : ℕ) → CheckedFrom s p r (write tree q (left_at s p))) where
+    module _ (more_left : kind ≡ 11 → ⊥) where
+      module _ (more : e ≡ count → ⊥) where
         step : (rest q : ℕ) (z : Bits) → elements (suc rest) (write tree) (span tree) q (left_at s p) z
             ≡ and_then (write tree q (left_at s p) z) (elements rest (write tree) (span tree) (q + span tree))
         step rest q z =
             elements_go w.told.form (write tree) (span tree) rest q here (λ x. more_left (is ∙ x)) z
 
         -- one element that is refused
-        pub elements_refused : 2 ^ 32 ≤ r → ArrayAnswer r
-        elements_refused h q = go w.rest w.all (w.left q)
+        pub elements_refused : {why : Refusal} → ((q : ℕ) → CheckedFrom s p (Err why) (write tree q (left_at s p)))
+            → ArrayAnswer (Err why)
+        elements_refused {why} c q = go w.rest w.all (w.left q)
           where
             go : (rest : ℕ) → e + rest ≡ count
                 → Onward s k (write (array count tree) q (left_at s k)) p
                 (elements rest (write tree) (span tree) (w.place q) (left_at s p))
-                → CheckedFrom s k r (write (array count tree) q (left_at s k))
+                → CheckedFrom s k (Err why) (write (array count tree) q (left_at s k))
             go zero a o = absurd (more (omega arith))
             go (suc rest) a o =
-                o.onward r
+                o.onward (Err why)
                 (refused_then (elements rest (write tree) (span tree) (w.place q + span tree))
-                (λ z. step rest (w.place q) z) h (c (w.place q)))
+                (λ z. step rest (w.place q) z) (c (w.place q)))
 
         -- where an element is taken, one element more is checked
-        pub elements_on : r < 2 ^ 32 → ElementsChecked types members i count s n k r (e + 1)
-        elements_on h = go w.rest w.all w.left
+        pub elements_on : {r : ℕ} → ((q : ℕ) → CheckedFrom s p (Ok r) (write tree q (left_at s p)))
+            → ElementsChecked types members i count s n k r (e + 1)
+        elements_on {r} c = go w.rest w.all w.left
           where
             go : (rest : ℕ) → e + rest ≡ count
                 → ((q : ℕ) → Onward s k (write (array count tree) q (left_at s k)) p
@@ -264,5 +262,5 @@ module _ {types members : List ℕ} {i count : ℕ} {s : List ℕ} {n k p e : �
                   place = λ q. w.place q + span tree;
                   left = λ q. onward_on (o q)
                       (onward_then (elements rest (write tree) (span tree) (w.place q + span tree))
-                      (λ z. step rest (w.place q) z) ((c (w.place q)).goes h));
+                      (λ z. step rest (w.place q) z) (c (w.place q)).says);
                 }

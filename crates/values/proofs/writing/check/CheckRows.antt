@@ -1,6 +1,7 @@
 -- The check of a structure's members (document 01, "Writing"): the row that an entry names, and what is left at an
 -- entry of the members, which come in any order.
-use Prim.Native.Nat.{ℕ, zero, suc, ◌+◌, ◌-◌, ◌*◌, ◌^◌, ◌<◌, ◌≤◌}
+use Rattle.std.specs.Prelude.{Option, None, Some, Result, Ok, Err}
+use Prim.Native.Nat.{ℕ, zero, suc, ◌+◌, ◌-◌, ◌*◌, ◌<◌, ◌≤◌}
 use native.Mathlib.Decide.{dec_lt}
 use native.Mathlib.Omega.{arith}
 use mathlib.Core.Path.{◌≡◌, refl, sym, ap, ◌∙◌}
@@ -15,6 +16,8 @@ use Rattle.types.specs.layout.Laid.{first_bit}
 use Rattle.types.specs.tables.Lent.{member_at, type_at}
 use Rattle.types.specs.tables.Limits.{most_types, most_members}
 use Rattle.types.specs.tables.Sizes.{sizes_in}
+use Rattle.types.specs.declared.refusals.refusal.Refusal.{Refusal}
+use Rattle.types.specs.declared.refusals.refusal.Refusal.TheVariants.{EntryMisfit}
 use Rattle.types.specs.declared.tables.member.Member.{Member}
 use Rattle.types.specs.declared.tables.member.StructDef.{StructDef}
 use Rattle.values.specs.inside.reading.Walk.{is_nested}
@@ -35,11 +38,11 @@ use Rattle.values.proofs.writing.check.CheckLaws.{checked_earlier, opened_left}
 
 -- ---- the row of a visible member
 
-pub data Visible (members : List ℕ) (first count j row : ℕ) : Type 0 where
-  past : count ≤ j → row ≡ most_members → Visible members first count j row
-  hides : j < count → (member_at members (first + j)).hidden ≡ true → row ≡ most_members
+pub data Visible (members : List ℕ) (first count j : ℕ) (row : Option ℕ) : Type 0 where
+  past : count ≤ j → row ≡ None → Visible members first count j row
+  hides : j < count → (member_at members (first + j)).hidden ≡ true → row ≡ None
       → Visible members first count j row
-  shows : j < count → (member_at members (first + j)).hidden ≡ false → row ≡ first + j
+  shows : j < count → (member_at members (first + j)).hidden ≡ false → row ≡ Some (first + j)
       → Visible members first count j row
 
 visible : (members : List ℕ) (first count j : ℕ) → Visible members first count j (visible_row members first count j)
@@ -47,13 +50,13 @@ unfolding visible_row
 visible members first count j = go (dec_lt j count)
   where
     side : (hidden : Bool) → (member_at members (first + j)).hidden ≡ hidden → j < count
-        → Visible members first count j (cond hidden most_members (first + j))
+        → Visible members first count j (cond hidden None (Some (first + j)))
     side true e l = hides l e refl
     side false e l = shows l e refl
 
     go : Dec (j < count)
         → Visible members first count j
-        (cond (ltb j count) (cond (member_at members (first + j)).hidden most_members (first + j)) most_members)
+        (cond (ltb j count) (cond (member_at members (first + j)).hidden None (Some (first + j))) None)
     go (yes l) = rw (lt-ltb j count l) (side (member_at members (first + j)).hidden refl l)
     go (no l) =
         let h : count ≤ j = omega (arith, l) in
@@ -61,18 +64,18 @@ visible members first count j = go (dec_lt j count)
 
 module _ (members : List ℕ) (first count j : ℕ) where
   -- a number past the members has no visible row
-  pub row_past : count ≤ j → most_members ≡ visible_row members first count j
+  pub row_past : count ≤ j → None ≡ visible_row members first count j
   unfolding visible_row
   row_past l = rw (le-ltb j count l) refl
 
   module _ {m : Member} (is : m ≡ member_at members (first + j)) (l : j < count) where
     -- the number of a hidden member has no visible row
-    pub row_hidden : m.hidden ≡ true → most_members ≡ visible_row members first count j
+    pub row_hidden : m.hidden ≡ true → None ≡ visible_row members first count j
     unfolding visible_row
     row_hidden e = rw (lt-ltb j count l, ap (λ (x : Member). x.hidden) (sym is) ∙ e) refl
 
     -- the number of a visible member has that member's row
-    pub row_shown : m.hidden ≡ false → first + j ≡ visible_row members first count j
+    pub row_shown : m.hidden ≡ false → Some (first + j) ≡ visible_row members first count j
     unfolding visible_row
     row_shown e = rw (lt-ltb j count l, ap (λ (x : Member). x.hidden) (sym is) ∙ e) refl
 
@@ -94,17 +97,16 @@ pub record MembersChecked (types members : List ℕ) (i : ℕ) (s : List ℕ) (n
       (members_in (suc most) (write_branch (branches_in types members i) q) (left_at s p))
 
 -- after the opening no member is checked yet
-pub members_start : {types members : List ℕ} {i : ℕ} {s : List ℕ} {n k start first count : ℕ} {d : StructDef}
-    → WellFormed s n → Walkable types members → i < most_types → start ≡ first_kind (left_at s k) → start ≡ 8
-    → d ≡ type_at types i → first ≡ d.first → count ≡ d.count
-    → MembersChecked types members i s n k first count (k + 1)
-members_start {types} {members} {i} {s} {n} {k} told w low is e d first count =
+pub members_start : {types members : List ℕ} {i : ℕ} {s : List ℕ} {n k start : ℕ} {d : StructDef} → WellFormed s n
+    → Walkable types members → i < most_types → start ≡ first_kind (left_at s k) → start ≡ 8 → d ≡ type_at types i
+    → MembersChecked types members i s n k d.first d.count (k + 1)
+members_start {types} {members} {i} {s} {n} {k} told w low is e d =
     record {
       told = told;
       walk = w;
       low = low;
-      first_row_is = first ∙ ap (λ (x : StructDef). x.first) d;
-      count_is = count ∙ ap (λ (x : StructDef). x.count) d;
+      first_row_is = ap (λ (x : StructDef). x.first) d;
+      count_is = ap (λ (x : StructDef). x.count) d;
       most = length (left_at s (k + 1));
       enough = omega (arith, left_long s (k + 1));
       left = λ q. opened_left 8 (in_struct (branches_in types members i) q) told.form (omega arith) (omega arith)
@@ -138,7 +140,7 @@ module _ {types members : List ℕ} {i : ℕ} {s : List ℕ} {n k first count p 
   one q = write_branch (branches_in types members i) q
 
   -- what the whole check answers
-  abbrev StructAnswer : ℕ → Type 0
+  abbrev StructAnswer : Result ℕ Refusal → Type 0
   StructAnswer r = (q : ℕ) → CheckedFrom s k r (write (members_tree types members i) q (left_at s k))
 
   -- the members are checked up to an entry, or to the end of the entries
@@ -150,25 +152,25 @@ module _ {types members : List ℕ} {i : ℕ} {s : List ℕ} {n k first count p 
   rows_inside = omega (arith, w.first_row_is, w.count_is, (w.walk.each i w.low).rows)
 
   -- the way out with 18: no entry is left
-  pub members_short : {r : ℕ} → n ≤ p → r ≡ 2 ^ 32 * 18 + p → StructAnswer r
-  members_short {r} h e q =
-      (w.left q).onward r
-      (members_missing w.told.form (one q) (suc w.most) (omega (arith, members_inside, w.told.count)) e)
+  pub members_short : n ≤ p → StructAnswer (Err (EntryMisfit p))
+  members_short h q =
+      (w.left q).onward _
+      (members_missing w.told.form (one q) (suc w.most) (omega (arith, members_inside, w.told.count)))
 
   module _ (l : p < n) {kind : ℕ} (is : kind ≡ first_kind (left_at s p)) where
     at_entry : EntryThere s p
     at_entry = there s p w.told.form (omega (arith, w.told.count))
 
     -- the way out at the close: the next entry is answered
-    pub members_done : kind ≡ 9 → StructAnswer (p + 1)
+    pub members_done : kind ≡ 9 → StructAnswer (Ok (p + 1))
     members_done h q =
-        (w.left q).onward (p + 1) (members_closes w.told.form (one q) w.most (sym is ∙ h))
+        (w.left q).onward _ (members_closes w.told.form (one q) w.most (sym is ∙ h))
 
     -- the way out with 18: neither the close nor a member number
-    pub members_bad : {r : ℕ} → (kind ≡ 9 → ⊥) → (kind ≡ 7 → ⊥) → r ≡ 2 ^ 32 * 18 + p → StructAnswer r
-    members_bad {r} a b e q =
-        (w.left q).onward r
-        (members_refuse w.told.form (one q) w.most at_entry (λ x. a (is ∙ x)) (λ x. b (is ∙ x)) e)
+    pub members_bad : (kind ≡ 9 → ⊥) → (kind ≡ 7 → ⊥) → StructAnswer (Err (EntryMisfit p))
+    members_bad a b q =
+        (w.left q).onward _
+        (members_refuse w.told.form (one q) w.most at_entry (λ x. a (is ∙ x)) (λ x. b (is ∙ x)))
 
     module _ (seven : kind ≡ 7) {j : ℕ} (payload : j ≡ word_at 8 s (8 + 12 * p)) where
       number_is : payload_of 0 at_entry.token ≡ j
@@ -177,12 +179,10 @@ module _ {types members : List ℕ} {i : ℕ} {s : List ℕ} {n k first count p 
           at_entry.payload (λ x. let z : ⊥ = omega arith in z) ∙ sym payload
 
       -- the way out with 18: the number of no visible row
-      pub members_unseen : {row r : ℕ} → row ≡ visible_row members first count j → row ≡ most_members
-          → r ≡ 2 ^ 32 * 18 + p
-          → StructAnswer r
-      members_unseen {row} {r} e none h q =
-          (w.left q).onward r
-          (refuses_at 18 p w.told.form (omega (arith, members_inside, w.told.count)) (omega arith) h
+      pub members_unseen : None ≡ visible_row members first count j → StructAnswer (Err (EntryMisfit p))
+      members_unseen none q =
+          (w.left q).onward _
+          (refuses_at (EntryMisfit p) (omega (arith, members_inside, w.told.count))
           (λ z. members_go w.told.form (one q) w.most at_entry (sym is ∙ seven) z
           ∙ ap (λ (o : Outcome). and_then o (members_in w.most (one q)))
           (lost z (visible members first count j))
@@ -196,18 +196,18 @@ module _ {types members : List ℕ} {i : ℕ} {s : List ℕ} {n k first count p 
           lost z (hides a b f) =
               branch_hidden types members i q at_entry.token (left_at s (p + 1)) z j number_is
               (omega (arith, w.count_is)) (rw w.first_row_is at b)
-          lost z (shows a b f) = absurd (let y : ⊥ = omega (arith, e, none, f, rows_inside) in y)
+          lost z (shows a b f) = absurd (let y : ⊥ = cc in y)
 
       -- a number with a visible row names that row
-      pub row_named : {row : ℕ} → row ≡ visible_row members first count j → (row ≡ most_members → ⊥)
+      pub row_named : {row : ℕ} → Some row ≡ visible_row members first count j
           → RowNamed types members i s p row
-      row_named {row} e some = go (visible members first count j)
+      row_named {row} e = go (visible members first count j)
         where
           go : Visible members first count j (visible_row members first count j) → RowNamed types members i s p row
-          go (past a f) = absurd (some (e ∙ f))
-          go (hides a b f) = absurd (some (e ∙ f))
+          go (past a f) = absurd (let z : ⊥ = cc in z)
+          go (hides a b f) = absurd (let z : ⊥ = cc in z)
           go (shows a b f) =
-              let same : row ≡ first + j = e ∙ f in
+              let same : row ≡ first + j = cc in
               record {
                 row_of = rw same (row_of w.walk w.low w.first_row_is w.count_is a);
                 shown = rw same b;
@@ -217,9 +217,13 @@ module _ {types members : List ℕ} {i : ℕ} {s : List ℕ} {n k first count p 
                     (same ∙ ap (◌+ j) w.first_row_is) number_is (omega (arith, w.count_is)) (rw same b);
               }
 
-  module _ {row : ℕ} (v : RowNamed types members i s p row) {r : ℕ}
-      (c : (q : ℕ) → CheckedFrom s (p + 1) r
-      (write (member_tree (tree_in types members) (member_at members row)) q (left_at s (p + 1)))) where
+  module _ {row : ℕ} (v : RowNamed types members i s p row) where
+    -- what the check answers of the member, wherever it lies
+    abbrev RowAnswer : Result ℕ Refusal → Type 0
+    RowAnswer r =
+        (q : ℕ) → CheckedFrom s (p + 1) r
+        (write (member_tree (tree_in types members) (member_at members row)) q (left_at s (p + 1)))
+
     -- the member at its place
     abbrev valued : ℕ → Bits → Outcome
     valued q =
@@ -232,40 +236,42 @@ module _ {types members : List ℕ} {i : ℕ} {s : List ℕ} {n k first count p 
         members_go w.told.form (one q) most v.here v.kind z
         ∙ ap (λ (o : Outcome). and_then o (members_in most (one q))) (v.gives q z)
 
-    value_checked : (q : ℕ) → CheckedFrom s p r (valued q)
-    value_checked q = checked_earlier (omega arith) (c (q + first_bit (member_at members row)))
+    value_checked : (r : Result ℕ Refusal) → RowAnswer r → (q : ℕ) → CheckedFrom s p r (valued q)
+    value_checked r c q = checked_earlier r (omega arith) (c (q + first_bit (member_at members row)))
 
     -- where a member is refused, so is the structure
-    pub members_refused : 2 ^ 32 ≤ r → StructAnswer r
-    members_refused h q =
-        (w.left q).onward r
-        (refused_then (members_in w.most (one q)) (λ z. step w.most q z) h (value_checked q))
+    pub members_refused : {why : Refusal} → RowAnswer (Err why) → StructAnswer (Err why)
+    members_refused {why} c q =
+        (w.left q).onward _
+        (refused_then (members_in w.most (one q)) (λ z. step w.most q z) (value_checked (Err why) c q))
 
-    -- where a member is taken, the next entry is a later one
-    pub members_further : r < 2 ^ 32 → p < r
-    members_further h = omega (arith, ((c 0).goes h).further)
+    module _ {r : ℕ} (c : RowAnswer (Ok r)) where
+      -- where a member is taken, the next entry is a later one
+      pub members_further : p < r
+      members_further = omega (arith, (c 0).says.further)
 
-    -- a member that is taken: the others are left from the entry after its value on
-    pub members_on : r < 2 ^ 32 → MembersChecked types members i s n k first count r
-    members_on h = go w.most w.enough w.left
-      where
-        go : (most : ℕ) → count_in s - p ≤ most
-            → ((q : ℕ) → Onward s k (write (members_tree types members i) q (left_at s k)) p
-            (members_in (suc most) (one q) (left_at s p)))
-            → MembersChecked types members i s n k first count r
-        go zero l o = absurd (let z : ⊥ = omega (arith, v.here.inside) in z)
-        go (suc most) l o =
-            record {
-              told = w.told;
-              walk = w.walk;
-              low = w.low;
-              first_row_is = w.first_row_is;
-              count_is = w.count_is;
-              most = most;
-              enough = omega (arith, ((c 0).goes h).further);
-              left = λ q. onward_on (o q)
-                  (onward_then (members_in (suc most) (one q)) (λ z. step (suc most) q z) ((value_checked q).goes h));
-            }
+      -- a member that is taken: the others are left from the entry after its value on
+      pub members_on : MembersChecked types members i s n k first count r
+      members_on = go w.most w.enough w.left
+        where
+          go : (most : ℕ) → count_in s - p ≤ most
+              → ((q : ℕ) → Onward s k (write (members_tree types members i) q (left_at s k)) p
+              (members_in (suc most) (one q) (left_at s p)))
+              → MembersChecked types members i s n k first count r
+          go zero l o = absurd (let z : ⊥ = omega (arith, v.here.inside) in z)
+          go (suc most) l o =
+              record {
+                told = w.told;
+                walk = w.walk;
+                low = w.low;
+                first_row_is = w.first_row_is;
+                count_is = w.count_is;
+                most = most;
+                enough = omega (arith, (c 0).says.further);
+                left = λ q. onward_on (o q)
+                    (onward_then (members_in (suc most) (one q)) (λ z. step (suc most) q z)
+                    (value_checked (Ok r) c q).says);
+              }
 
 -- a visible row that is no structure
 pub leaf_row : {types members : List ℕ} {i : ℕ} {s : List ℕ} {p row : ℕ} → RowNamed types members i s p row

@@ -1,5 +1,6 @@
 -- The check of atomics, arrays of them and members that are no structures (document 01, "Writing"): what the answers of
 -- the runs and of one entry say of the value's tree.
+use Rattle.std.specs.Prelude.{Some, None, Result, Ok, Err}
 use Prim.Native.Nat.{ℕ, ◌+◌, ◌*◌, ◌^◌, ◌<◌, ◌≤◌}
 use native.Mathlib.Nat.{mul-le-mul_right}
 use native.Mathlib.Omega.{arith}
@@ -10,7 +11,8 @@ use Rattle.words.specs.Bits.{Bits, stamp}
 use Rattle.types.specs.atomics.Atomic.{bit_string, size_of}
 use Rattle.types.specs.declared.atomics.atomic.Atomic.{Atomic}
 use Rattle.types.specs.declared.atomics.atomic.Atomic.TheVariants as atomic
-use Rattle.types.specs.declared.tables.member.Bit.TheVariants.{None, At}
+use Rattle.types.specs.declared.refusals.refusal.Refusal.{Refusal}
+use Rattle.types.specs.declared.refusals.refusal.Refusal.TheVariants.{EntryMisfit}
 use Rattle.types.specs.declared.tables.member.Member.{Member}
 use Rattle.types.specs.declared.tables.member.Ty.TheVariants as ty
 use Rattle.values.specs.inside.reading.Walk.{is_nested}
@@ -31,27 +33,28 @@ use Rattle.values.proofs.writing.RunInLaws.{run_numbers, run_wholes}
 use Rattle.values.proofs.writing.StepLaws.{checked_as, onward_from, opened_goes, opened_keeps, opened_refuses}
 
 -- what an answer says of one atomic, of an array of them, of what is inside it, and of one or an array
-abbrev pub OneChecked : List ℕ → ℕ → ℕ → Atomic → Type 0
+abbrev pub OneChecked : List ℕ → ℕ → Result ℕ Refusal → Atomic → Type 0
 OneChecked s k r a = (w p : ℕ) → CheckedFrom s k r (write_one (or_null (atomic_takes a)) w p (left_at s k))
 
-abbrev pub BoolsChecked : List ℕ → ℕ → ℕ → ℕ → Type 0
+abbrev pub BoolsChecked : List ℕ → ℕ → Result ℕ Refusal → ℕ → Type 0
 BoolsChecked s k r bytes = (p : ℕ) → CheckedFrom s k r (bools_in (8 * bytes) p (left_at s k))
 
-abbrev pub NumbersChecked : List ℕ → ℕ → ℕ → Atomic → ℕ → Type 0
+abbrev pub NumbersChecked : List ℕ → ℕ → Result ℕ Refusal → Atomic → ℕ → Type 0
 NumbersChecked s k r a count =
     (w p : ℕ) → CheckedFrom s k r (elements count (write_one (or_null (atomic_takes a)) w) w p (left_at s k))
 
-abbrev pub RunChecked : List ℕ → ℕ → ℕ → Atomic → ℕ → Type 0
+abbrev pub RunChecked : List ℕ → ℕ → Result ℕ Refusal → Atomic → ℕ → Type 0
 RunChecked s k r a count = (p : ℕ) → CheckedFrom s k r (run_in a count p (left_at s k))
 
-abbrev pub TreeChecked : List ℕ → ℕ → ℕ → Atomic → ℕ → Type 0
+abbrev pub TreeChecked : List ℕ → ℕ → Result ℕ Refusal → Atomic → ℕ → Type 0
 TreeChecked s k r a count = (p : ℕ) → CheckedFrom s k r (write (atomics_tree a count) p (left_at s k))
 
 module _ {s : List ℕ} {n k kind : ℕ} (told : WellFormed s n) (is : kind ≡ first_kind (left_at s k)) (a : Atomic) where
   -- ---- one bit string
 
   -- one bit string, an opening: what the check answers of the bools inside it answers of the value
-  pub bits_array : {r size : ℕ} → bit_string a ≡ true → kind ≡ 10 → size ≡ size_of a → BoolsChecked s (k + 1) r size
+  pub bits_array : {r : Result ℕ Refusal} {size : ℕ} → bit_string a ≡ true → kind ≡ 10 → size ≡ size_of a
+      → BoolsChecked s (k + 1) r size
       → TreeChecked s k r a 0
   bits_array {r} {size} b e same c p =
       let t : EntryThere s k = by_kind s k told.form (λ h. let z : ⊥ = omega (arith, h, is, e) in z) in
@@ -66,20 +69,22 @@ module _ {s : List ℕ} {n k kind : ℕ} (told : WellFormed s n) (is : kind ≡ 
       ).onward r (rw (← same) (c p))
 
   -- one bit string, no opening: what the check answers of the one entry it answers of the value
-  pub bits_one : {r : ℕ} → bit_string a ≡ true → (kind ≡ 10 → ⊥) → OneChecked s k r a → TreeChecked s k r a 0
+  pub bits_one : {r : Result ℕ Refusal} → bit_string a ≡ true → (kind ≡ 10 → ⊥) → OneChecked s k r a
+      → TreeChecked s k r a 0
   bits_one b e c p =
       checked_as (λ z. bits_number a p (left_at s k) z b (λ h. e (is ∙ h))) (c (8 * size_of a) p)
 
   -- ---- inside an array
 
   -- bit strings, a bool first: what the check answers of the bools it answers of the run
-  pub run_of_bools : {r size : ℕ} (count : ℕ) → bit_string a ≡ true → kind ≡ 1 → size ≡ size_of a
+  pub run_of_bools : {r : Result ℕ Refusal} {size : ℕ} (count : ℕ) → bit_string a ≡ true → kind ≡ 1 → size ≡ size_of a
       → BoolsChecked s k r (size * count) → RunChecked s k r a count
   run_of_bools {r} {size} count b e same c p =
       checked_as (λ z. run_bools a count p (left_at s k) z b (sym is ∙ e)) (rw (← same) (c p))
 
   -- bit strings, no bool first: what the check answers of the numbers it answers of the run
-  pub run_of_wholes : {r : ℕ} (count : ℕ) → bit_string a ≡ true → (kind ≡ 1 → ⊥) → NumbersChecked s k r a count
+  pub run_of_wholes : {r : Result ℕ Refusal} (count : ℕ) → bit_string a ≡ true → (kind ≡ 1 → ⊥)
+      → NumbersChecked s k r a count
       → RunChecked s k r a count
   run_of_wholes count b e c p =
       checked_as (λ z. run_wholes a count p (left_at s k) z b (λ h. e (is ∙ h))) (c (8 * size_of a) p)
@@ -87,25 +92,25 @@ module _ {s : List ℕ} {n k kind : ℕ} (told : WellFormed s n) (is : kind ≡ 
   -- ---- an array
 
   -- null for an array of atomics: the check goes on to the next entry
-  pub array_keeps : (count : ℕ) → 0 < count → kind ≡ 0 → TreeChecked s k (k + 1) a count
+  pub array_keeps : (count : ℕ) → 0 < count → kind ≡ 0 → TreeChecked s k (Ok (k + 1)) a count
   array_keeps count l e p =
       checked_as (λ z. array_is a count p (left_at s k) z l)
       (opened_keeps told.form 10 (run_in a count p) (sym is ∙ e))
 
   -- the opening of an array of atomics: what the check answers of the run it answers of the array
-  pub array_goes : {r : ℕ} (count : ℕ) → 0 < count → kind ≡ 10 → RunChecked s (k + 1) r a count
+  pub array_goes : {r : Result ℕ Refusal} (count : ℕ) → 0 < count → kind ≡ 10 → RunChecked s (k + 1) r a count
       → TreeChecked s k r a count
   array_goes count l e c p =
       checked_as (λ z. array_is a count p (left_at s k) z l)
       (opened_goes told.form 10 (run_in a count p) (omega arith) (omega arith) (sym is ∙ e) (c p))
 
   -- neither null nor an opening for an array of atomics: the check answers 18 here
-  pub array_refuses : {r : ℕ} (count : ℕ) → 0 < count → k ≤ n → (kind ≡ 0 → ⊥) → (kind ≡ 10 → ⊥)
-      → r ≡ 2 ^ 32 * 18 + k → TreeChecked s k r a count
-  array_refuses count l b e f g p =
+  pub array_refuses : (count : ℕ) → 0 < count → k ≤ n → (kind ≡ 0 → ⊥) → (kind ≡ 10 → ⊥)
+      → TreeChecked s k (Err (EntryMisfit k)) a count
+  array_refuses count l b e f p =
       checked_as (λ z. array_is a count p (left_at s k) z l)
       (opened_refuses told.form 10 (run_in a count p) (omega (arith, told.count)) (λ h. e (is ∙ h))
-      (λ h. f (is ∙ h)) g)
+      (λ h. f (is ∙ h)))
 
 -- an opening is an entry of the stream, not its end
 pub opening : {s : List ℕ} {n kind : ℕ} (k : ℕ) → WellFormed s n → kind ≡ first_kind (left_at s k) → kind ≡ 10
@@ -115,13 +120,14 @@ opening {s} k told is e =
     omega (arith, t.inside, told.count)
 
 -- no bit strings: what the check answers of the numbers it answers of the run
-pub run_of_numbers : {s : List ℕ} {k r : ℕ} (a : Atomic) (count : ℕ) → bit_string a ≡ false
+pub run_of_numbers : {s : List ℕ} {k : ℕ} {r : Result ℕ Refusal} (a : Atomic) (count : ℕ) → bit_string a ≡ false
     → NumbersChecked s k r a count → RunChecked s k r a count
 run_of_numbers {s} {k} a count b c p =
     checked_as (λ z. run_numbers a count p (left_at s k) z b) (c (8 * size_of a) p)
 
 -- one atomic, no bit string: what the check answers of the one entry it answers of the value
-pub one_of : {s : List ℕ} {k r : ℕ} (a : Atomic) → bit_string a ≡ false → OneChecked s k r a → TreeChecked s k r a 0
+pub one_of : {s : List ℕ} {k : ℕ} {r : Result ℕ Refusal} (a : Atomic) → bit_string a ≡ false → OneChecked s k r a
+    → TreeChecked s k r a 0
 one_of {s} {k} a b c p = checked_as (λ z. one_is_leaf a p (left_at s k) z b) (c (8 * size_of a) p)
 
 -- ---- a member
@@ -131,7 +137,7 @@ pub bytes_low : (a : Atomic) (count : ℕ) → count < 2 ^ 32 → size_of a * co
 bytes_low a count l = omega (arith, mul-le-mul_right {m = size_of a} {n = 8} count (size_range a).1)
 
 -- what an answer says of a member's tree, whatever the trees of structures
-abbrev pub MemberChecked : List ℕ → ℕ → ℕ → Member → Type 0
+abbrev pub MemberChecked : List ℕ → ℕ → Result ℕ Refusal → Member → Type 0
 MemberChecked s k r m = (trees : ℕ → Tree) (p : ℕ) → CheckedFrom s k r (write (member_tree trees m) p (left_at s k))
 
 -- a BOOL's bit takes what a BOOL takes
@@ -141,9 +147,9 @@ unfolding write
 flag_one p ts z =
     ap (λ (takes : Token → Effect). write_one (or_null takes) 1 p ts z) (sym (fun_ext flag_takes))
 
-module _ {s : List ℕ} {k r : ℕ} (m : Member) where
+module _ {s : List ℕ} {k : ℕ} {r : Result ℕ Refusal} (m : Member) where
   -- where a member has a bit, the check of one BOOL is the check of the member
-  pub member_bit : {b : ℕ} → m.bit ≡ At b → OneChecked s k r atomic.Bool → MemberChecked s k r m
+  pub member_bit : {b : ℕ} → m.bit ≡ Some b → OneChecked s k r atomic.Bool → MemberChecked s k r m
   member_bit e c trees p = rw e (checked_as (λ z. flag_one p (left_at s k) z) (c 1 p))
 
   -- a member that is no BOOL of a host: what the check answers of its atomics it answers of the member

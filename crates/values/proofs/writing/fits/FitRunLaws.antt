@@ -1,9 +1,10 @@
 -- The check of runs of atomics (document 01, "Writing"): entries that are taken one by one, up to the close, and what
 -- is left of the array after each of them.
+use Rattle.std.specs.Prelude.{Option, None, Some, Result, Ok, Err}
 use Prim.Native.Nat.{ℕ, suc, ◌+◌, ◌-◌, ◌*◌, ◌^◌, ◌<◌, ◌≤◌, min}
 use native.Mathlib.Nat.{add-zero, mul-suc, mul-zero}
 use native.Mathlib.Omega.{arith}
-use mathlib.Core.Path.{◌≡◌, refl, sym, ap, ◌∙◌}
+use mathlib.Core.Path.{◌≡◌, refl, sym, ap, ◌∙◌, subst}
 use mathlib.Core.Bool.{true}
 use mathlib.Core.List.{List}
 use borrow.Author.Tests.{eq-eqb, ne_eqb}
@@ -11,19 +12,24 @@ use Rattle.words.specs.Bits.{Bits}
 use Rattle.words.specs.Words.{Bytes, word_at}
 use Rattle.words.proofs.WordLaws.{word_below}
 use Rattle.types.specs.declared.atomics.atomic.Atomic.{Atomic}
-use Rattle.values.specs.inside.writing.Effects.{Judged, set, refused, atomic_takes}
+use Rattle.types.specs.refusals.Refusal.{number_of, place_of}
+use Rattle.types.specs.declared.refusals.refusal.Refusal.{Refusal}
+use Rattle.types.specs.declared.refusals.refusal.Refusal.TheVariants.{EntryMisfit, PastLastPlace}
+use Rattle.values.specs.inside.writing.Effects.{Judged, set, atomic_takes, number_in}
 use Rattle.values.specs.inside.writing.Limits.{limits_of, misfit}
 use Rattle.values.specs.inside.writing.Passes.{CheckedFrom, WellFormed, first_kind, left_at}
 use Rattle.values.specs.reading.Leaf.{flag}
 use Rattle.values.specs.stream.Form.{count_in, stream_ok}
 use Rattle.values.specs.stream.Stream.{Token, kind_of}
-use Rattle.values.specs.writing.Effects.{Effect, of_kind, or_null, payload_bits, taken}
+use Rattle.values.specs.writing.Effects.{Effect, of_kind, or_null, payload_bits, refuse, taken}
 use Rattle.values.specs.writing.Writing.{Outcome, elements, write_one}
 use Rattle.values.specs.declared.writing.limits.Limits.{Limits}
+use Rattle.values.specs.declared.writing.limits.Misfit.{Misfit}
+use Rattle.values.specs.declared.writing.limits.Misfit.TheVariants.{Kind}
 use Rattle.values.proofs.stream.LeftLaws.{EntryThere, few_entries, kind_there, there}
 use Rattle.values.proofs.writing.FitLaws.{above_misfits, atomic_judged}
 use Rattle.values.proofs.writing.StepLaws.{Onward, onward_start, onward_on, onward_then, refused_then}
-use Rattle.values.proofs.writing.StepLaws.{one_judged, one_refused, elements_missing, elements_closes}
+use Rattle.values.proofs.writing.StepLaws.{judged_refused, one_judged, one_refused, elements_missing, elements_closes}
 use Rattle.values.proofs.writing.StepLaws.{elements_refuse, elements_go}
 
 -- ---- entries of a stream of n
@@ -43,25 +49,25 @@ module _ {s : List ℕ} {n : ℕ} (told : WellFormed s n) where
 -- ---- after the last place
 
 -- only the close fits there; where no entry is left it does not matter whether a place is
-abbrev pub AtEnd : List ℕ → ℕ → ℕ → ℕ → Type 0
+abbrev pub AtEnd : List ℕ → ℕ → ℕ → Result ℕ Refusal → Type 0
 AtEnd s n k r =
     (m : ℕ) (one : ℕ → List Token → Bits → Outcome) (w p : ℕ) → (k < n → m ≡ 0)
     → CheckedFrom s k r (elements m one w p (left_at s k))
 
 module _ {s : List ℕ} {n k : ℕ} (told : WellFormed s n) where
   -- the way out with 18: no entry is left
-  pub end_missing : {r : ℕ} → k ≤ n → n ≤ k → r ≡ 2 ^ 32 * 18 + k → AtEnd s n k r
-  end_missing a b e m one w p h = elements_missing told.form one w m p (omega (arith, told.count)) e
+  pub end_missing : k ≤ n → n ≤ k → AtEnd s n k (Err (EntryMisfit k))
+  end_missing a b m one w p h = elements_missing told.form one w m p (omega (arith, told.count))
 
   -- the way out at the close: the next entry is answered
-  pub end_closes : {kind : ℕ} → kind ≡ first_kind (left_at s k) → kind ≡ 11 → AtEnd s n k (k + 1)
+  pub end_closes : {kind : ℕ} → kind ≡ first_kind (left_at s k) → kind ≡ 11 → AtEnd s n k (Ok (k + 1))
   end_closes is e m one w p h = elements_closes told.form one w m p (sym is ∙ e)
 
   -- the way out with 20: an entry that is no close past the last place
-  pub end_full : {kind r : ℕ} → k < n → kind ≡ first_kind (left_at s k) → (kind ≡ 11 → ⊥) → r ≡ 2 ^ 32 * 20 + k
-      → AtEnd s n k r
-  end_full l is a e m one w p h =
-      rw (h l) (elements_refuse told.form one w p (entry_of told l) (λ g. a (is ∙ g)) e)
+  pub end_full : {kind : ℕ} → k < n → kind ≡ first_kind (left_at s k) → (kind ≡ 11 → ⊥)
+      → AtEnd s n k (Err (PastLastPlace k))
+  end_full l is a m one w p h =
+      rw (h l) (elements_refuse told.form one w p (entry_of told l) (λ g. a (is ∙ g)))
 
 -- ---- entries that were taken
 
@@ -74,7 +80,7 @@ pub record Walked (s : List ℕ) (takes : Token → Effect) (count k q : ℕ) : 
       (elements (k + count - q) (write_one takes w) w (p + w * (q - k)) (left_at s q))
 
 -- what an answer says of the whole array
-abbrev pub Answers : List ℕ → (Token → Effect) → ℕ → ℕ → ℕ → Type 0
+abbrev pub Answers : List ℕ → (Token → Effect) → ℕ → ℕ → Result ℕ Refusal → Type 0
 Answers s takes count k r = (w p : ℕ) → CheckedFrom s k r (elements count (write_one takes w) w p (left_at s k))
 
 -- at the first entry none is taken yet
@@ -91,12 +97,13 @@ walked_start {s} {n} {k} takes count told l =
     }
 
 -- after the last entry that an array can have, the answer at its end is that of the whole array
-pub walked_done : {s : List ℕ} {takes : Token → Effect} {n count k last q r : ℕ} → WellFormed s n
-    → Walked s takes count k q
-    → last ≡ min n (k + count) → last ≤ q → AtEnd s n q r → Answers s takes count k r
-walked_done {s} {takes} {n} {count} {k} {last} {q} {r} told walked e l end w p =
+pub walked_done : {s : List ℕ} {takes : Token → Effect} {n count k last q : ℕ} {r : Result ℕ Refusal}
+    → Walked s takes count k q → last ≡ min n (k + count) → q ≡ last → AtEnd s n last r
+    → Answers s takes count k r
+walked_done {s} {takes} {n} {count} {k} {last} {q} {r} walked e l end w p =
     (walked.left w p).onward r
-    (end (k + count - q) (write_one takes w) w (p + w * (q - k)) (λ h. omega (arith, e, l, h)))
+    (subst (λ (m : ℕ). AtEnd s n m r) (sym l) end (k + count - q) (write_one takes w) w (p + w * (q - k))
+    (λ h. omega (arith, e, l, h)))
 
 -- an entry before the last
 pub record NextFits (s : List ℕ) (takes : Token → Effect) (n count k last q kind : ℕ) : Type 0 where
@@ -119,28 +126,27 @@ module _ {s : List ℕ} {takes : Token → Effect} {n count k last q kind : ℕ}
   next_kind = sym (kind_there next_there) ∙ sym e.shows
 
   -- a close before the last place ends the array: the next entry is answered
-  pub next_closes : kind ≡ 11 → Answers s takes count k (q + 1)
+  pub next_closes : kind ≡ 11 → Answers s takes count k (Ok (q + 1))
   next_closes h w p =
-      (e.walked.left w p).onward (q + 1)
+      (e.walked.left w p).onward (Ok (q + 1))
       (elements_closes e.told.form (write_one takes w) w (k + count - q) (p + w * (q - k)) (sym e.shows ∙ h))
 
   one_less : k + count - q ≡ suc (k + count - (q + 1))
   one_less = omega (arith, e.ends, e.before)
 
-  next_refused : {r : ℕ} (number : ℕ) → (kind ≡ 11 → ⊥) → Judged (takes next_there.token) number
-      → (number ≡ 0 → ⊥) → r ≡ 2 ^ 32 * number + q → Answers s takes count k r
-  next_refused {r} number a j o is w p =
+  next_refused : {why : Refusal} → (kind ≡ 11 → ⊥) → takes next_there.token ≡ refuse (number_of why)
+      → place_of why ≡ q → Answers s takes count k (Err why)
+  next_refused {why} a j is w p =
       let place : ℕ = p + w * (q - k) in
-      (e.walked.left w p).onward r
+      (e.walked.left w p).onward (Err why)
       (rw one_less
       (refused_then (elements (k + count - (q + 1)) (write_one takes w) w (place + w))
       (elements_go e.told.form (write_one takes w) w (k + count - (q + 1)) place next_there (λ g. a (e.shows ∙ g)))
-      (omega (arith, o, is)) (one_refused e.told.form takes w place next_there j o is)))
+      (one_refused e.told.form takes w place next_there j is)))
 
-  next_on : (kind ≡ 11 → ⊥) → Judged (takes next_there.token) 0 → Walked s takes count k (q + 1)
+  next_on : (kind ≡ 11 → ⊥) → Judged (takes next_there.token) None → Walked s takes count k (q + 1)
   next_on a j =
       let inside : q + 1 ≤ count_in s = omega (arith, e.told.count, e.ends, e.before) in
-      let low : q + 1 < 2 ^ 32 = omega (arith, few e.told, e.ends, e.before) in
       record {
         further = omega (arith, e.walked.further);
         inside = inside;
@@ -153,16 +159,17 @@ module _ {s : List ℕ} {takes : Token → Effect} {n count k last q kind : ℕ}
             (onward_then (elements (k + count - (q + 1)) (write_one takes w) w (place + w))
             (elements_go e.told.form (write_one takes w) w (k + count - (q + 1)) place next_there
             (λ g. a (e.shows ∙ g)))
-            ((one_judged e.told.form takes w place next_there j refl).goes low)));
+            (one_judged e.told.form takes w place next_there j).says));
       }
 
 -- ---- bools, by their kind
 
-flag_taken : (t : Token) → kind_of t ≡ 1 → Judged (taken flag t) 0
+flag_taken : (t : Token) → kind_of t ≡ 1 → Judged (taken flag t) None
 flag_taken t e = set refl (payload_bits t) (unfold of_kind in rw (eq-eqb (kind_of t) 1 e) refl)
 
-flag_refused : (t : Token) → (kind_of t ≡ 1 → ⊥) → Judged (taken flag t) 18
-flag_refused t e = refused (omega arith) (unfold of_kind in rw (ne_eqb (kind_of t) 1 e) refl)
+flag_refused : (t : Token) → (kind_of t ≡ 1 → ⊥) → taken flag t ≡ refuse 18
+unfolding of_kind
+flag_refused t e = rw (ne_eqb (kind_of t) 1 e) refl
 
 module _ {s : List ℕ} {n count k last q kind : ℕ} (e : NextFits s (taken flag) n count k last q kind) where
   -- a bool is taken, and the rest is left from the next entry on
@@ -171,41 +178,39 @@ module _ {s : List ℕ} {n count k last q kind : ℕ} (e : NextFits s (taken fla
       next_on e (λ g. let z : ⊥ = omega (arith, g, h) in z) (flag_taken (next_there e).token (next_kind e ∙ h))
 
   -- the way out with 18: neither a bool nor the close
-  pub bool_refused : {r : ℕ} → (kind ≡ 1 → ⊥) → (kind ≡ 11 → ⊥) → r ≡ 2 ^ 32 * 18 + q
-      → Answers s (taken flag) count k r
-  bool_refused a b is =
-      next_refused e 18 b (flag_refused (next_there e).token (λ g. a (sym (next_kind e) ∙ g)))
-      (λ g. let z : ⊥ = omega (arith, g) in z) is
+  pub bool_refused : (kind ≡ 1 → ⊥) → (kind ≡ 11 → ⊥) → Answers s (taken flag) count k (Err (EntryMisfit q))
+  bool_refused a b =
+      next_refused e b (flag_refused (next_there e).token (λ g. a (sym (next_kind e) ∙ g))) refl
 
 -- ---- numbers, by the limits
 
 -- an entry and what the limits say of it
-pub record Judging (s : List ℕ) (a : Atomic) (f : Limits) (q kind x number : ℕ) : Type 0 where
+pub record Judging (s : List ℕ) (a : Atomic) (f : Limits) (q kind x : ℕ) (r : Option Misfit) : Type 0 where
   pub bytes : Bytes s
   pub limits : f ≡ limits_of a
   pub payload : x ≡ word_at 8 s (8 + 12 * q)
-  pub judges : number ≡ misfit f kind x
+  pub judges : r ≡ misfit f kind x
 
-module _ {s : List ℕ} {a : Atomic} {f : Limits} {n count k last q kind x number : ℕ}
-    (e : NextFits s (or_null (atomic_takes a)) n count k last q kind) (j : Judging s a f q kind x number) where
-  by_limits : number ≡ misfit (limits_of a) kind x
+module _ {s : List ℕ} {a : Atomic} {f : Limits} {n count k last q kind x : ℕ} {r : Option Misfit}
+    (e : NextFits s (or_null (atomic_takes a)) n count k last q kind) (j : Judging s a f q kind x r) where
+  by_limits : r ≡ misfit (limits_of a) kind x
   by_limits = j.judges ∙ ap (λ (g : Limits). misfit g kind x) j.limits
 
-  judged : Judged (or_null (atomic_takes a) (next_there e).token) number
+  judged : Judged (or_null (atomic_takes a) (next_there e).token) r
   judged =
       let low : x < 2 ^ 64 = rw j.payload (word_below 8 s (8 + 12 * q) j.bytes) in
       rw (by_limits ∙ ap (λ (m : ℕ). misfit (limits_of a) m x) (sym (next_kind e)))
       (atomic_judged a (next_there e).token x low (λ h. (next_there e).payload h ∙ sym j.payload))
 
   -- an entry that the limits let in is taken, and the rest is left from the next entry on
-  pub number_on : number ≡ 0 → Walked s (or_null (atomic_takes a)) count k (q + 1)
+  pub number_on : r ≡ None → Walked s (or_null (atomic_takes a)) count k (q + 1)
   number_on z =
       next_on e
-      (λ g. let h : number ≡ 18 = by_limits ∙ above_misfits a kind x (omega (arith, g)) in
-      let w : ⊥ = omega (arith, h, z) in w)
-      (rw (← z) judged)
+      (λ g. let h : r ≡ Some Kind = by_limits ∙ above_misfits a kind x (omega (arith, g)) in
+      let w : ⊥ = cc in w)
+      (subst (λ (m : Option Misfit). Judged (or_null (atomic_takes a) (next_there e).token) m) z judged)
 
-  -- the way out with the number that the limits say of an entry that is no close
-  pub number_refused : {r : ℕ} → (number ≡ 0 → ⊥) → (kind ≡ 11 → ⊥) → r ≡ 2 ^ 32 * number + q
-      → Answers s (or_null (atomic_takes a)) count k r
-  number_refused o b is = next_refused e number b judged o is
+  -- the way out with the refusal that the limits say of an entry that is no close
+  pub number_refused : {m : Misfit} {why : Refusal} → r ≡ Some m → (kind ≡ 11 → ⊥) → number_of why ≡ number_in m
+      → place_of why ≡ q → Answers s (or_null (atomic_takes a)) count k (Err why)
+  number_refused o b same is = next_refused e b (judged_refused judged o ∙ ap refuse (sym same)) is

@@ -1,5 +1,6 @@
 -- A visible member that is no structure, set in an image (document 01, "Writing"): by its bit and its type it is one
 -- bit, or atomics from a byte on, and it lies in the image.
+use Rattle.std.specs.Prelude.{Option, Some, None}
 use Prim.Native.Nat.{ℕ, ◌+◌, ◌*◌, ◌<◌, ◌≤◌}
 use native.Mathlib.Omega.{arith}
 use mathlib.Core.Path.{◌≡◌, sym, ap, ◌∙◌}
@@ -12,8 +13,6 @@ use Rattle.types.specs.layout.Laid.{first_bit, first_in}
 use Rattle.types.specs.layout.Placing.{times}
 use Rattle.types.specs.tables.Lent.{member_at}
 use Rattle.types.specs.declared.atomics.atomic.Atomic.{Atomic}
-use Rattle.types.specs.declared.tables.member.Bit.{Bit}
-use Rattle.types.specs.declared.tables.member.Bit.TheVariants.{None, At}
 use Rattle.types.specs.declared.tables.member.Member.{Member}
 use Rattle.types.specs.declared.tables.member.Ty.TheVariants as ty
 use Rattle.values.specs.inside.reading.Walk.{is_nested}
@@ -36,10 +35,10 @@ pub record LeafHere (members : List ℕ) (row base : ℕ) (image : List ℕ) (m 
   pub count : n ≡ m.count
 
 -- a member begins in the image
-bit_start : (b : Bit) (base offset bits long : ℕ) → 8 * base + (first_in b offset + bits) ≤ 8 * long
+bit_start : (b : Option ℕ) (base offset bits long : ℕ) → 8 * base + (first_in b offset + bits) ≤ 8 * long
     → base + offset ≤ long
 bit_start None base offset bits long h = omega arith
-bit_start (At k) base offset bits long h = omega arith
+bit_start (Some k) base offset bits long h = omega arith
 
 module _ {members : List ℕ} {row base : ℕ} {image : List ℕ} {m : Member} {from n : ℕ}
     (w : LeafHere members row base image m from n) where
@@ -50,7 +49,7 @@ module _ {members : List ℕ} {row base : ℕ} {image : List ℕ} {m : Member} {
       rw w.start (bit_start m.bit base m.offset _ (length image) h)
 
   -- a BOOL is one bit of a byte
-  module _ {k : ℕ} (e : m.bit ≡ At k) where
+  module _ {k : ℕ} (e : m.bit ≡ Some k) where
     -- its byte lies in the image, and its bit in that byte
     pub flag_inside : (base + from < length image) × (k < 8)
     flag_inside =

@@ -2,9 +2,9 @@
 -- array, and the ways of a bit string.
 use Prim.Native.Nat.{ℕ, suc, ◌+◌, ◌-◌, ◌*◌, ◌<◌, ◌≤◌}
 use native.Mathlib.Decide.{dec_lt}
-use native.Mathlib.Nat.{add-zero, mul-one, mul-suc, mul-zero, sub-zero}
+use native.Mathlib.Nat.{add-zero, mul-add, mul-one, mul-zero, sub-zero}
 use native.Mathlib.Omega.{arith}
-use mathlib.Core.Path.{◌≡◌, refl, ap, ◌∙◌, subst}
+use mathlib.Core.Path.{◌≡◌, refl, sym, ap, ◌∙◌, subst}
 use mathlib.Core.Bool.{true}
 use mathlib.Core.List.{List}
 use lib.ListN.{length}
@@ -55,34 +55,26 @@ pub record NumbersAsked (a : Atomic) (n : ℕ) (s : List ℕ) (k : ℕ) (image :
   pub room : base + size_of a * n ≤ length image
   pub taken : accepted (numbers_in a n base (left_at s k) (flat image)) ≡ true
 
--- what is left of n: the loop knows no more of the atomic than its size
-pub record Numbers (n : ℕ) (s : List ℕ) (k : ℕ) (image : List ℕ) (base size : ℕ) (now : List ℕ) (p : ℕ)
+-- what is left of n after e of them: the loop knows no more of the atomic than its size
+pub record Numbers (n : ℕ) (s : List ℕ) (k : ℕ) (image : List ℕ) (base size : ℕ) (now : List ℕ) (e : ℕ)
     : Type 0 where
-  pub further : k ≤ p
-  pub bounded : p - k ≤ n
   pub each : (a : Atomic) → NumbersAsked a n s k image base size
-      → Setting s k image (numbers_in a n base (left_at s k)) p now
-      (numbers_in a (n - (p - k)) (base + size_of a * (p - k)) (left_at s p))
+      → Setting s k image (numbers_in a n base (left_at s k)) (k + e) now
+      (numbers_in a (n - e) (base + size_of a * e) (left_at s (k + e)))
 
 -- at the first entry all are left to be set
 pub numbers_start : {n : ℕ} {s : List ℕ} {k : ℕ} {image : List ℕ} {base size : ℕ}
-    → Numbers n s k image base size image k
+    → Numbers n s k image base size image 0
 numbers_start {n} {s} {k} {image} {base} {size} =
-    record {
-      further = omega arith;
-      bounded = omega arith;
-      each = λ a w.
-          (let none : k - k ≡ 0 = omega arith in
-          rw (none, sub-zero, mul-zero, add-zero) (setting_start w.taken));
-    }
+    record { each = λ a w. simp (sub-zero, mul-zero, add-zero) (setting_start w.taken) }
 
-module _ {n : ℕ} {s : List ℕ} {k : ℕ} {image : List ℕ} {base size : ℕ} {now : List ℕ} {p : ℕ}
-    (v : Numbers n s k image base size now p) where
+module _ {n : ℕ} {s : List ℕ} {k : ℕ} {image : List ℕ} {base size : ℕ} {now : List ℕ} {e : ℕ}
+    (v : Numbers n s k image base size now e) where
   module _ {a : Atomic} (w : NumbersAsked a n s k image base size) where
     -- where an array of numbers is accepted, its next entry is there
-    pub numbers_there : EntryThere s p
+    pub numbers_there : EntryThere s (k + e)
     numbers_there =
-        elements_there w.form (n - (p - k)) (one_of a) (8 * size_of a) (8 * (base + size_of a * (p - k))) (flat now)
+        elements_there w.form (n - e) (one_of a) (8 * size_of a) (8 * (base + size_of a * e)) (flat now)
         (v.each a w).taken
 
     -- the image is as long as it was
@@ -90,77 +82,74 @@ module _ {n : ℕ} {s : List ℕ} {k : ℕ} {image : List ℕ} {base size : ℕ}
     numbers_long = (v.each a w).long
 
     -- where a place is left, the next atomic lies in the image
-    pub numbers_room : p - k < n → base + size * (p - k) + size ≤ length now
-    numbers_room l =
-        rw (w.long, numbers_long) (element_room (size_of a) (p - k) n base (length image) l w.room)
+    pub numbers_room : e < n → base + size * e + size ≤ length now
+    numbers_room l = rw (w.long, numbers_long) (element_room (size_of a) e n base (length image) l w.room)
 
     -- the close: the places that are left stand as they were
-    pub numbers_closed : first_kind (left_at s p) ≡ 11
-        → Applied s k (p + 1) image now (numbers_in a n base (left_at s k))
-    numbers_closed e =
-        (v.each a w).onward (p + 1) now
-        (elements_closed w.form (one_of a) (8 * size_of a) numbers_there (n - (p - k))
-        (8 * (base + size_of a * (p - k))) e)
+    pub numbers_closed : first_kind (left_at s (k + e)) ≡ 11
+        → Applied s k (k + e + 1) image now (numbers_in a n base (left_at s k))
+    numbers_closed c =
+        (v.each a w).onward (k + e + 1) now
+        (elements_closed w.form (one_of a) (8 * size_of a) numbers_there (n - e) (8 * (base + size_of a * e)) c)
 
     -- past the last place there is nothing else
-    pub numbers_end : n ≤ p - k → Applied s k (p + 1) image now (numbers_in a n base (left_at s k))
-    numbers_end l =
-        let none : n - (p - k) ≡ 0 = omega arith in
-        numbers_closed (elements_end w.form (one_of a) (8 * size_of a) numbers_there
-        (8 * (base + size_of a * (p - k))) now (rw none at (v.each a w).taken))
+    pub numbers_end : n ≡ e → Applied s k (k + n + 1) image now (numbers_in a n base (left_at s k))
+    numbers_end h =
+        let none : n - e ≡ 0 = omega arith in
+        subst (λ (m : ℕ). Applied s k (k + m + 1) image now (numbers_in a n base (left_at s k))) (sym h)
+        (numbers_closed (elements_end w.form (one_of a) (8 * size_of a) numbers_there (8 * (base + size_of a * e)) now
+        (rw none at (v.each a w).taken)))
 
-    next_is : p - k < n → (first_kind (left_at s p) ≡ 11 → ⊥)
-        → numbers_in a (n - (p - k)) (base + size_of a * (p - k)) (left_at s p) (flat now)
-        ≡ and_then (one_of a (8 * (base + size_of a * (p - k))) (left_at s p) (flat now))
-        (elements (n - (p + 1 - k)) (one_of a) (8 * size_of a) (8 * (base + size_of a * (p - k)) + 8 * size_of a))
-    next_is l e =
-        let more : n - (p - k) ≡ suc (n - (p + 1 - k)) = (let f = v.further in omega arith) in
-        rw more (elements_go w.form (one_of a) (8 * size_of a) (n - (p + 1 - k)) (8 * (base + size_of a * (p - k)))
-        numbers_there e (flat now))
+    next_is : e < n → (first_kind (left_at s (k + e)) ≡ 11 → ⊥)
+        → numbers_in a (n - e) (base + size_of a * e) (left_at s (k + e)) (flat now)
+        ≡ and_then (one_of a (8 * (base + size_of a * e)) (left_at s (k + e)) (flat now))
+        (elements (n - (e + 1)) (one_of a) (8 * size_of a) (8 * (base + size_of a * e) + 8 * size_of a))
+    next_is l c =
+        let more : n - e ≡ suc (n - (e + 1)) = omega arith in
+        rw more (elements_go w.form (one_of a) (8 * size_of a) (n - (e + 1)) (8 * (base + size_of a * e))
+        numbers_there c (flat now))
 
-    one_taken : p - k < n → (first_kind (left_at s p) ≡ 11 → ⊥)
-        → accepted (one_of a (8 * (base + size_of a * (p - k))) (left_at s p) (flat now)) ≡ true
-    one_taken l e =
-        accepted_first (one_of a (8 * (base + size_of a * (p - k))) (left_at s p) (flat now))
-        (elements (n - (p + 1 - k)) (one_of a) (8 * size_of a) (8 * (base + size_of a * (p - k)) + 8 * size_of a))
-        (accepted_as (next_is l e) (v.each a w).taken)
+    one_taken : e < n → (first_kind (left_at s (k + e)) ≡ 11 → ⊥)
+        → accepted (one_of a (8 * (base + size_of a * e)) (left_at s (k + e)) (flat now)) ≡ true
+    one_taken l c =
+        accepted_first (one_of a (8 * (base + size_of a * e)) (left_at s (k + e)) (flat now))
+        (elements (n - (e + 1)) (one_of a) (8 * size_of a) (8 * (base + size_of a * e) + 8 * size_of a))
+        (accepted_as (next_is l c) (v.each a w).taken)
 
   -- an entry that was set, and the rest
-  numbers_on : {new : List ℕ} → p - k < n → (first_kind (left_at s p) ≡ 11 → ⊥)
+  numbers_on : {new : List ℕ} → e < n → (first_kind (left_at s (k + e)) ≡ 11 → ⊥)
       → ((a : Atomic) → NumbersAsked a n s k image base size
-      → Applied s p (p + 1) now new (one_of a (8 * (base + size_of a * (p - k))) (left_at s p)))
-      → Numbers n s k image base size new (p + 1)
-  numbers_on {new} l e one =
+      → Applied s (k + e) (k + e + 1) now new (one_of a (8 * (base + size_of a * e)) (left_at s (k + e))))
+      → Numbers n s k image base size new (e + 1)
+  numbers_on {new} l c one =
       record {
-        further = (let f = v.further in omega arith);
-        bounded = (let f = v.further in omega arith);
         each = λ a w.
-            (let f = v.further in
-            let count : p + 1 - k ≡ suc (p - k) = omega arith in
-            let far : 8 * (base + size_of a * (p - k)) + 8 * size_of a ≡ 8 * (base + size_of a * (p + 1 - k)) =
-            rw count (omega (arith, mul-suc (size_of a) (p - k))) in
-            setting_on (v.each a w)
-            (subst (λ (q : ℕ). Setting s p now (numbers_in a (n - (p - k)) (base + size_of a * (p - k)) (left_at s p))
-            (p + 1) new (elements (n - (p + 1 - k)) (one_of a) (8 * size_of a) q (left_at s (p + 1)))) far
+            let next : k + (e + 1) ≡ k + e + 1 = omega arith in
+            let far : 8 * (base + size_of a * e) + 8 * size_of a ≡ 8 * (base + size_of a * (e + 1)) =
+            omega (arith, mul-add (size_of a) e 1, mul-one (size_of a)) in
+            rw next
+            (setting_on (v.each a w)
+            (subst (λ (q : ℕ). Setting s (k + e) now (numbers_in a (n - e) (base + size_of a * e) (left_at s (k + e)))
+            (k + e + 1) new (elements (n - (e + 1)) (one_of a) (8 * size_of a) q (left_at s (k + e + 1)))) far
             (setting_then
-            (elements (n - (p + 1 - k)) (one_of a) (8 * size_of a) (8 * (base + size_of a * (p - k)) + 8 * size_of a))
-            (next_is w l e) (v.each a w).taken (one a w))));
+            (elements (n - (e + 1)) (one_of a) (8 * size_of a) (8 * (base + size_of a * e) + 8 * size_of a))
+            (next_is w l c) (v.each a w).taken (one a w))));
       }
 
   -- a null: what stands is kept, and the rest is set from the next entry on
-  pub numbers_null : p - k < n → first_kind (left_at s p) ≡ 0 → Numbers n s k image base size now (p + 1)
-  numbers_null l e =
-      numbers_on l (λ h. let z : ⊥ = omega arith in z)
-      (λ a w. one_kept (numbers_there w) (atomic_takes a) (8 * size_of a) (8 * (base + size_of a * (p - k))) e)
+  pub numbers_null : e < n → first_kind (left_at s (k + e)) ≡ 0 → Numbers n s k image base size now (e + 1)
+  numbers_null l z =
+      numbers_on l (λ h. let x : ⊥ = omega arith in x)
+      (λ a w. one_kept (numbers_there w) (atomic_takes a) (8 * size_of a) (8 * (base + size_of a * e)) z)
 
   -- a number: its bytes are stored, and the rest is set from the next entry on
-  pub numbers_put : {x : ℕ} {new : List ℕ} → p - k < n → (first_kind (left_at s p) ≡ 11 → ⊥)
-      → (first_kind (left_at s p) ≡ 0 → ⊥) → x ≡ payload_of_entry s p
-      → new ≡ sets now (base + size * (p - k)) (bytes_of size x) → Numbers n s k image base size new (p + 1)
-  numbers_put {x} {new} l c e d b =
+  pub numbers_put : {x : ℕ} {new : List ℕ} → e < n → (first_kind (left_at s (k + e)) ≡ 11 → ⊥)
+      → (first_kind (left_at s (k + e)) ≡ 0 → ⊥) → x ≡ payload_of_entry s (k + e)
+      → new ≡ sets now (base + size * e) (bytes_of size x) → Numbers n s k image base size new (e + 1)
+  numbers_put {x} {new} l c z d b =
       numbers_on l c
-      (λ a w. atomic_set (numbers_there w) a (base + size_of a * (p - k)) e
-      (subst (λ (m : ℕ). base + m * (p - k) + m ≤ length now) w.long (numbers_room w l)) (one_taken w l c)
+      (λ a w. atomic_set (numbers_there w) a (base + size_of a * e) z
+      (subst (λ (m : ℕ). base + m * e + m ≤ length now) w.long (numbers_room w l)) (one_taken w l c)
       (b ∙ rw (w.long, d) refl))
 
 -- ---- one bit string

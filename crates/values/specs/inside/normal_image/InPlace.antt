@@ -2,12 +2,11 @@
 -- structure's BOOLs are kept aside, its other visible members are made normal in their order and all between them is
 -- cleared, and the BOOLs are put back.
 use Rattle.std.specs.Prelude.{ℕ, zero, suc, ◌+◌, ◌-◌, ◌*◌, ◌<◌, ◌≤◌, Bool, true, false, cond, not, List, [], ◌∷◌, ◌≡◌}
+use Rattle.std.specs.Prelude.{Option, None}
 use Rattle.words.specs.Bits.{Bits, flat, from, inside, stamp}
 use Rattle.types.specs.layout.Laid.{first_bit, has_bit}
 use Rattle.types.specs.tables.Lent.{member_at}
 use Rattle.types.specs.tables.Limits.{most_members}
-use Rattle.types.specs.declared.tables.member.Bit.{Bit}
-use Rattle.types.specs.declared.tables.member.Bit.TheVariants.{None}
 use Rattle.types.specs.declared.tables.member.Member.{Member}
 use Rattle.values.specs.inside.reading.Walkable.{RowOf}
 use Rattle.values.specs.inside.writing.Rows.{MemberHere, member_tree}
@@ -33,7 +32,7 @@ each_made (suc n) f w p x = each_made n f w (p + w) (f p x)
 -- ---- a structure's members
 
 -- the bit of a visible BOOL of a host
-abbrev pub flag_bit : Member → Bit
+abbrev pub flag_bit : Member → Option ℕ
 flag_bit m = cond m.hidden None m.bit
 
 -- a visible BOOL of a host

@@ -1,6 +1,7 @@
 -- The walk that the code makes over the tables (document 01, "Reading"): the entries of a value, each member read from
 -- its own part of the image. That it is the reading of the type's tree is the law `meaning`.
-use Rattle.std.specs.Prelude.{ℕ, zero, suc, ◌+◌, ◌*◌, Bool, true, false, cond, List, [], ◌∷◌, ◌++◌, eqb}
+use Rattle.std.specs.Prelude.{ℕ, zero, suc, ◌+◌, ◌*◌, Bool, true, false, cond, List, [], ◌∷◌, ◌++◌, eqb, Option, Some}
+use Rattle.std.specs.Prelude.{None}
 use Rattle.words.specs.Bits.{flat}
 use Rattle.words.specs.Words.{part}
 use Rattle.types.specs.atomics.Atomic.{bit_string, size_of}
@@ -9,8 +10,6 @@ use Rattle.types.specs.tables.Lent.{member_at, type_at}
 use Rattle.types.specs.tables.Limits.{most_types}
 use Rattle.types.specs.tables.Sizes.{size_in, sizes_in}
 use Rattle.types.specs.declared.atomics.atomic.Atomic.{Atomic}
-use Rattle.types.specs.declared.tables.member.Bit.{Bit}
-use Rattle.types.specs.declared.tables.member.Bit.TheVariants.{None, At}
 use Rattle.types.specs.declared.tables.member.Member.{Member}
 use Rattle.types.specs.declared.tables.member.Ty.{Ty}
 use Rattle.types.specs.declared.tables.member.Ty.TheVariants as ty
@@ -62,8 +61,8 @@ text_out capacity image = text (text_in capacity image) ∷ []
 -- ---- structures
 
 -- a member without a bit whose type is a structure
-abbrev pub bit_nested : Bit → Ty → Bool
-bit_nested (At k) t = false
+abbrev pub bit_nested : Option ℕ → Ty → Bool
+bit_nested (Some k) t = false
 bit_nested None (ty.Atomic a) = false
 bit_nested None (ty.Struct i) = true
 
@@ -71,9 +70,9 @@ bit_nested None (ty.Struct i) = true
 unfoldable pub is_nested : Member → Bool
 is_nested m = cond m.hidden false (bit_nested m.bit m.ty)
 
-abbrev pub bit_out : Bit → (ℕ → List Token) → List Token → List Token
+abbrev pub bit_out : Option ℕ → (ℕ → List Token) → List Token → List Token
 bit_out None f ts = ts
-bit_out (At k) f ts = f k
+bit_out (Some k) f ts = f k
 
 -- what an atomic member gives; a structure gives nothing here
 abbrev pub leaf_value : Ty → ℕ → (ℕ → List ℕ) → List Token

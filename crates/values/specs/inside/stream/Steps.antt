@@ -1,6 +1,6 @@
 -- The steps of the form's test as the code makes them (document 01, "Value stream"): by a kind and a payload, with the
--- greatest payload of each kind, and a place that is a number. That it is what `Form` says is one law over the kinds.
-use Rattle.std.specs.Prelude.{ℕ, ◌+◌, ◌^◌, ◌<◌, ◌≤◌, cond, ◌||◌, ◌≡◌, eqb}
+-- greatest payload of each kind, to a place or to none. That it is what `Form` says is one law over the kinds.
+use Rattle.std.specs.Prelude.{ℕ, ◌+◌, ◌^◌, ◌≤◌, cond, ◌||◌, ◌≡◌, eqb, Option, Some, None}
 use Rattle.values.specs.stream.Entry.{payload_right}
 use Rattle.values.specs.stream.Form.{TextStep, At, Broken, entry_step}
 
@@ -16,12 +16,7 @@ most_of kind =
     (cond (eqb kind 2 || eqb kind 3 || eqb kind 5) 0xFFFFFFFFFFFFFFFF
     (cond (eqb kind 4 || eqb kind 7) 0xFFFFFFFF 0))
 
--- above every place
-abbrev pub nowhere : ℕ
-nowhere = 0x4000000000000000
-
--- the next place is at most 2^32 further; from `nowhere` on it says that the stream is malformed
-pub record Moved (place : ℕ) (step : TextStep) (r : ℕ) : Type 0 where
-  pub goes : r < nowhere → step ≡ At r
-  pub near : r < nowhere → r ≤ place + 2 ^ 32
-  pub broken : nowhere ≤ r → step ≡ Broken
+-- the next place is at most 2^32 further; none says that the stream is malformed
+abbrev pub Moved : ℕ → TextStep → Option ℕ → Type 0
+Moved place step (Some r) = (step ≡ At r) × (r ≤ place + 2 ^ 32)
+Moved place step None = step ≡ Broken

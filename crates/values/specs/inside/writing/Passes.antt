@@ -1,7 +1,9 @@
 -- What the two passes of a write answer (document 01, "Writing"): the check, which touches no image, and then the pass
--- that sets. Both answer the number of the next entry; the check else a refusal: its number above 32 bits, its place.
-use Rattle.std.specs.Prelude.{ℕ, ◌-◌, ◌/◌, ◌%◌, ◌^◌, ◌<◌, ◌≤◌, Bool, true, false, List, [], ◌∷◌, ◌≡◌, length}
+-- that sets. Both answer the number of the next entry, the check else a refusal.
+use Rattle.std.specs.Prelude.{ℕ, ◌-◌, ◌<◌, ◌≤◌, Bool, true, false, List, [], ◌∷◌, ◌≡◌, length, Result, MatchResult}
 use Rattle.words.specs.Bits.{Bits, flat}
+use Rattle.types.specs.refusals.Refusal.{number_of, place_of}
+use Rattle.types.specs.declared.refusals.refusal.Refusal.{Refusal}
 use Rattle.values.specs.stream.Decode.{tokens_from}
 use Rattle.values.specs.stream.Form.{base_in, count_in, stream_ok}
 use Rattle.values.specs.stream.Stream.{Token, kind_of}
@@ -29,14 +31,14 @@ pub record CheckGoes (s : List ℕ) (k r : ℕ) (f : Bits → Outcome) : Type 0 
   pub inside : r ≤ count_in s
   pub gives : (z : Bits) → (new : Bits) × (f z ≡ ok (left_at s r) new)
 
--- it refused
-pub record Refuses (s : List ℕ) (r : ℕ) (f : Bits → Outcome) : Type 0 where
-  pub inside : r % 2 ^ 32 ≤ count_in s
-  pub gives : (z : Bits) → f z ≡ bad (r / 2 ^ 32) (left_at s (r % 2 ^ 32))
+-- it refused: the refusal has the number, and its place is the bad entry's
+pub record Refuses (s : List ℕ) (why : Refusal) (f : Bits → Outcome) : Type 0 where
+  pub inside : place_of why ≤ count_in s
+  pub gives : (z : Bits) → f z ≡ bad (number_of why) (left_at s (place_of why))
 
-pub record CheckedFrom (s : List ℕ) (k r : ℕ) (f : Bits → Outcome) : Type 0 where
-  pub goes : r < 2 ^ 32 → CheckGoes s k r f
-  pub refuses : 2 ^ 32 ≤ r → Refuses s r f
+-- what it answered, from entry k on
+pub record CheckedFrom (s : List ℕ) (k : ℕ) (r : Result ℕ Refusal) (f : Bits → Outcome) : Type 0 where
+  pub says : MatchResult r (λ next. CheckGoes s k next f) (λ why. Refuses s why f)
 
 -- ---- and what sets, where the check accepted
 

@@ -1,6 +1,6 @@
 -- What the passes of a write ask of the tables' rows (document 01, "Writing"): a member by its number, the tree of a
 -- member, and what stands inside an array of atomics.
-use Rattle.std.specs.Prelude.{ℕ, ◌+◌, ◌*◌, ◌<◌, ◌≤◌, false, cond, List, ◌⊎◌, ◌≡◌, ltb, length}
+use Rattle.std.specs.Prelude.{ℕ, ◌+◌, ◌*◌, ◌<◌, ◌≤◌, false, cond, List, ◌⊎◌, ◌≡◌, ltb, length, Option, None, Some}
 use Rattle.words.specs.Bits.{Bits}
 use Rattle.types.specs.atomics.Atomic.{bit_string, size_of}
 use Rattle.types.specs.layout.Laid.{past_bit}
@@ -29,10 +29,10 @@ branches_in types members i =
 abbrev pub member_tree : (ℕ → Tree) → Member → Tree
 member_tree trees m = bit_tree m.bit (value_tree trees m.ty m.count)
 
--- the row of the visible member of a number, among `count` from a row on; 2000, which is no row, where there is none
-unfoldable pub visible_row : List ℕ → ℕ → ℕ → ℕ → ℕ
+-- the row of the visible member of a number, among `count` from a row on, where there is one
+unfoldable pub visible_row : List ℕ → ℕ → ℕ → ℕ → Option ℕ
 visible_row members first count j =
-    cond (ltb j count) (cond (member_at members (first + j)).hidden most_members (first + j)) most_members
+    cond (ltb j count) (cond (member_at members (first + j)).hidden None (Some (first + j))) None
 
 -- a visible member that is no structure
 pub record LeafRow (members : List ℕ) (row : ℕ) : Type 0 where

@@ -5,12 +5,12 @@ use Rattle.types.specs.atomics.Lookup.{type_among}
 use Rattle.types.proofs.atomics.AtomicLaws.{named_is}
 use Rattle.types.proofs.atomics.lookup.lookup.Goals as goal
 
-pub returns-in-Is : goal.returns-in-Is
+pub returns-in-Some : goal.returns-in-Some
 unfolding type_among
-returns-in-Is c = rw (sym (named_is c.args.name.now c.from_name-atomic.ensures) ∙ c.in-Is.is)
+returns-in-Some c = rw (sym (named_is c.args.name.now c.from_name.ensures) ∙ c.in-Some.is)
 
-pub returns-in-Nothing : goal.returns-in-Nothing
+pub returns-in-None : goal.returns-in-None
 unfolding type_among
-returns-in-Nothing c =
+returns-in-None c =
     (rw sub-zero at c.find_type.ensures)
-    ∙ rw (sym (named_is c.args.name.now c.from_name-atomic.ensures) ∙ c.in-Nothing.is)
+    ∙ rw (sym (named_is c.args.name.now c.from_name.ensures) ∙ c.in-None.is)

@@ -11,14 +11,14 @@ use Rattle.types.proofs.layout.aoi.put_bit_host.Goals as goal
 pub returns : goal.returns
 returns c =
     let i = c.args.i in
-    let spelled : TwoDigits i c.two_digits-d.result = rw c.wide64.ensures at c.two_digits-d.ensures in
+    let spelled : TwoDigits i c.two_digits-d.result = rw c.from.ensures at c.two_digits-d.ensures in
     let long = bit_host_long i spelled in
     record {
       long = long;
       rows = c.put_member.ensures
           ∙ ap (sets c.args.members.now (8 * c.args.row))
           (one_row_of c.args.at (bit_host_name i) (bit_host_at i) long);
-      names = rw (c.put_bytes-2.ensures, c.put_bytes.ensures)
+      names = rw (c.put_bytes-2.ensures, c.put_bytes.ensures, spelled.long)
           (bit_host_put i spelled c.args.names.now c.args.at
           ∙ ap (sets c.args.names.now c.args.at) (one_name (bit_host_name i) (bit_host_at i)));
     }

@@ -8,5 +8,5 @@ pub returns : goal.returns
 unfolding names_of
 returns c =
     two_put (named enable_in (enable_at 0)) (named enable_out (enable_at 1)) c.args.row c.args.place refl
-    (rw c.enable-first.ensures at c.put_part.ensures.rows) c.put_part.ensures.names (c.args.place + 8) refl
-    (rw c.enable-second.ensures at c.put_part-2.ensures.rows) c.put_part-2.ensures.names
+    (rw c.enable.ensures at c.put_part.ensures.rows) c.put_part.ensures.names (c.args.place + 8) refl
+    (rw c.enable-2.ensures at c.put_part-2.ensures.rows) c.put_part-2.ensures.names

@@ -11,30 +11,30 @@ enables : (c : After-put_enables-third)
     → PartsPut enable_parts (c.args.row + c.args.h) c.put_hosts-second.result c.put_hosts-second.new.members
     c.put_hosts-second.new.names c.put_enables-third.new.members c.put_enables-third.new.names
     c.put_enables-third.result
-enables c = rw c.wide-after.ensures at c.put_enables-third.ensures
+enables c = c.put_enables-third.ensures
 
 pub put_hosts-second-requires : goal.put_hosts-second-requires
 put_hosts-second-requires c = (omega (arith, rows_room c.requires), omega (arith, names_room c.requires))
 
 pub put_enables-third-requires : goal.put_enables-third-requires
 put_enables-third-requires c = (
-  omega (arith, rows_room c.requires, c.wide-after.ensures),
+  omega (arith, rows_room c.requires),
   omega (arith, names_room c.requires, c.put_hosts-second.ensures.next),
 )
 
-pub aoi_start-from-requires : goal.aoi_start-from-requires
-aoi_start-from-requires c = omega (arith, rows_room c.requires)
+pub aoi_start-requires : goal.aoi_start-requires
+aoi_start-requires c = omega (arith, rows_room c.requires)
 
 pub store-requires : goal.store-requires
 store-requires c =
-    rw (c.aoi_start-from.ensures, c.wide-after.ensures)
+    rw c.aoi_start.ensures
     (rest_storable c.requires _
     (third c.requires c.put_hosts-second.ensures (enables (goal.at.store-requires c).After-put_enables-third)))
 
 pub returns : goal.returns
 returns c =
     let enabled = enables (goal.at.returns c).After-put_enables-third in
-    let s = rw (c.aoi_start-from.ensures, c.wide-after.ensures) at c.store.ensures in
+    let s = rw c.aoi_start.ensures at c.store.ensures in
     record {
       rows = all_rows c.requires c.put_hosts-second.ensures enabled s.rows;
       names = all_names c.requires c.put_hosts-second.ensures enabled s.names;

@@ -10,9 +10,9 @@ returns c =
         c.put_part-3.ensures.rows,
         c.put_part-2.ensures.rows,
         c.put_part.ensures.rows,
-        c.dint_at-two.ensures,
-        c.dint_at-one.ensures,
-        c.ctl_at-ctl.ensures,
+        c.dint_at-2.ensures,
+        c.dint_at.ensures,
+        c.ctl_at.ensures,
       )
           (control_rows c.args.words.now c.requires.long _ c.args.members.now c.args.row c.args.place);
       names = rw (
@@ -20,9 +20,9 @@ returns c =
         c.put_part-3.ensures.names,
         c.put_part-2.ensures.names,
         c.put_part.ensures.names,
-        c.dint_at-two.ensures,
-        c.dint_at-one.ensures,
-        c.ctl_at-ctl.ensures,
+        c.dint_at-2.ensures,
+        c.dint_at.ensures,
+        c.ctl_at.ensures,
       )
           (control_names c.args.words.now c.requires.long _ c.args.names.now c.args.place);
     }

@@ -5,8 +5,8 @@ use Rattle.types.proofs.layout.fixed.put_string.Goals as goal
 pub returns : goal.returns
 returns c =
     record {
-      rows = rw (c.put_part-2.ensures.rows, c.put_part.ensures.rows, c.data_of-data.ensures, c.dint_at-len.ensures)
+      rows = rw (c.put_part-2.ensures.rows, c.put_part.ensures.rows, c.data_of.ensures, c.dint_at.ensures)
           (string_rows c.args.members.now c.args.row c.args.place c.args.capacity);
-      names = rw (c.put_part-2.ensures.names, c.put_part.ensures.names, c.data_of-data.ensures, c.dint_at-len.ensures)
+      names = rw (c.put_part-2.ensures.names, c.put_part.ensures.names, c.data_of.ensures, c.dint_at.ensures)
           (string_names c.args.names.now c.args.place c.args.capacity);
     }

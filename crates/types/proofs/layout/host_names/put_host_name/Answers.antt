@@ -7,24 +7,25 @@ use Rattle.types.proofs.layout.host_names.put_host_name.Goals as goal
 use Rattle.types.proofs.layout.host_names.put_host_name.Goals.{After-decimal_of-d}
 
 spelled : (c : After-decimal_of-d) → Spelt c.args.k c.decimal_of-d.result
-spelled c = rw c.wide64.ensures at c.decimal_of-d.ensures
+spelled c = rw c.from.ensures at c.decimal_of-d.ensures
 
-room : (c : After-decimal_of-d) → c.args.at + (10 + c.least-n.result + (20 - c.decimal_of-d.result.from)) ≤ most_names
-room c = rw (host_long c.args.name.now c.args.k _ (spelled c) c.least-n.ensures) c.requires.1
+room : (c : After-decimal_of-d) → c.args.at + (10 + c.min-n.result + (20 - c.decimal_of-d.result.from)) ≤ most_names
+room c = rw (host_long c.args.name.now c.args.k _ (spelled c) c.min-n.ensures) c.requires.1
 
 rest : (c : After-decimal_of-d)
     → let d = c.decimal_of-d.result in
-    length (take (20 - d.from) (drop d.from d.bytes)) ≡ 20 - d.from
+    length (take (length d.bytes - d.from) (drop d.from d.bytes)) ≡ 20 - d.from
 rest c =
     let d = c.decimal_of-d.result in
-    ap length (decimal_part d (spelled c).long) ∙ decimal_long d (spelled c).long
+    let long = (spelled c).long in
+    rw long (ap length (decimal_part d long) ∙ decimal_long d long)
 
 pub put_bytes-requires : goal.put_bytes-requires
 put_bytes-requires c = omega (arith, room (goal.at.put_bytes-requires c).After-decimal_of-d)
 
 pub put_bytes-requires-2 : goal.put_bytes-requires-2
 put_bytes-requires-2 c =
-    simp length-take (omega (arith, c.least-n.ensures, room (goal.at.put_bytes-requires-2 c).After-decimal_of-d))
+    simp length-take (omega (arith, c.min-n.ensures, room (goal.at.put_bytes-requires-2 c).After-decimal_of-d))
 
 pub put_bytes-requires-3 : goal.put_bytes-requires-3
 put_bytes-requires-3 c =
@@ -33,6 +34,7 @@ put_bytes-requires-3 c =
 
 pub returns : goal.returns
 returns c =
-    rw (c.put_bytes-3.ensures, c.put_bytes-2.ensures, c.put_bytes.ensures)
-    (host_put c.args.name.now c.args.k _ (spelled (goal.at.returns c).After-decimal_of-d) c.least-n.ensures
+    let long = (spelled (goal.at.returns c).After-decimal_of-d).long in
+    rw (c.put_bytes-3.ensures, c.put_bytes-2.ensures, c.put_bytes.ensures, long)
+    (host_put c.args.name.now c.args.k _ (spelled (goal.at.returns c).After-decimal_of-d) c.min-n.ensures
     c.args.names.now c.args.at)

@@ -1,11 +1,7 @@
 -- How far the first j declared members came is what the definition says of them.
-use Rattle.std.proofs.Common.{◌-◌}
 use Rattle.types.proofs.layout.Measuring.{Measuring}
 use Rattle.types.proofs.layout.measure.measure.Given as goal
 
 abbrev pub invariant-loop-j : goal.invariant-loop-j
 invariant-loop-j l =
     Measuring l.types l.book l.tys l.name l.at l.n l.initial.c l.initial.long l.c l.long l.j
-
-abbrev pub decreases-loop-j : goal.decreases-loop-j
-decreases-loop-j l = l.n - l.j

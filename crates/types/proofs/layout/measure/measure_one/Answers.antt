@@ -1,21 +1,23 @@
--- `types::measure_one` meets its contract: the ways that placing can go.
+-- `types::measure_one` meets its contract.
+use Rattle.std.specs.Prelude.{Ok}
+use Rattle.std.proofs.lemmas.Result.{err_from_is_err_and}
+use mathlib.Core.Path.{ap, ◌∙◌}
 use Rattle.types.specs.layout.HostNames.{host_name}
-use Rattle.types.proofs.layout.MeasureLaws.{one_hosted, one_alone, one_access, one_far}
+use Rattle.types.proofs.layout.MeasureLaws.{one_hosted, one_alone, one_fault}
 use Rattle.types.proofs.layout.measure.measure_one.Goals as goal
+
+pub returns-in_err-next : goal.returns-in_err-next
+returns-in_err-next c =
+    let p = err_from_is_err_and c.from_residual.result c.from_residual.ensures.1 in
+    rw (p.1, p.2)
+    (one_fault (host_name c.args.name.now) c.args.c c.args.names c.args.d c.place.ensures _ c.in_err-next.was)
 
 pub returns-in-Hosted : goal.returns-in-Hosted
 returns-in-Hosted c =
-    one_hosted (host_name c.args.name.now) c.args.c c.args.names c.args.d c.place-p.ensures c.in-Hosted.is
-    c.host_long-host.ensures.is
+    one_hosted (host_name c.args.name.now) c.args.c c.args.names c.args.d c.place.ensures
+    (c.in_ok-next.was ∙ ap Ok c.in-Hosted.is) c.host_long.ensures.is
 
 pub returns-in-One : goal.returns-in-One
 returns-in-One c =
-    one_alone (host_name c.args.name.now) c.args.c c.args.names c.args.d c.place-p.ensures c.in-One.is
-
-pub returns-in-AccessWrong : goal.returns-in-AccessWrong
-returns-in-AccessWrong c =
-    one_access (host_name c.args.name.now) c.args.c c.args.names c.args.d c.place-p.ensures c.in-AccessWrong.is
-
-pub returns-in-TooFar : goal.returns-in-TooFar
-returns-in-TooFar c =
-    one_far (host_name c.args.name.now) c.args.c c.args.names c.args.d c.place-p.ensures c.in-TooFar.is
+    one_alone (host_name c.args.name.now) c.args.c c.args.names c.args.d c.place.ensures
+    (c.in_ok-next.was ∙ ap Ok c.in-One.is)

@@ -1,5 +1,5 @@
 -- `types::member_line` meets its contract: the fields of the member that was read.
-use Rattle.std.proofs.Common.{◌≡◌, List, ℕ, length}
+use Rattle.std.proofs.Common.{◌≡◌, refl, List, ℕ, length}
 use borrow.Author.Rules.{rules}
 use Rattle.types.specs.inside.listing.Lines.{TypeNamed, Short}
 use Rattle.types.specs.listing.Lines.{line}
@@ -15,14 +15,14 @@ fields c = member_fields c.args.types.now c.args.names.now c.args.k c.member_row
 
 named : (c : After-name_row-name) → TypeNamed c.args.types.now c.member_row-m.result.ty
 named c =
-    row_named c.type_row-d.ensures c.wide.ensures c.requires.1.1.0 c.requires.1.0 c.member_row-m.ensures
+    row_named c.type_row-d.ensures refl c.requires.1.1.0 c.requires.1.0 c.member_row-m.ensures
 
 short : (c : After-name_row-name) → Short c.name_row-name.result
-short c = row_short c.type_row-d.ensures c.wide.ensures c.requires.1.1.0 c.requires.1.0 c.name_row-name.ensures
+short c = row_short c.type_row-d.ensures refl c.requires.1.1.0 c.requires.1.0 c.name_row-name.ensures
 
 all : (c : After-name_row-name) → FieldsLeft (line (fields c)) 0 c.args.out.now (fields c) 0 c.args.out.now
 all c =
-    row_left c.type_row-d.ensures c.wide.ensures c.requires.1.1.0 c.requires.1.0 c.args.names.now
+    row_left c.type_row-d.ensures refl c.requires.1.1.0 c.requires.1.0 c.args.names.now
     c.member_row-m.ensures c.name_row-name.ensures c.requires.1.1.1
 
 pub put_number-k1-requires : goal.put_number-k1-requires
@@ -50,7 +50,7 @@ returns c =
     let w = (goal.at.returns c).After-name_row-name in
     let l2 = left_on (left_on (all w) c.put_number-k1.ensures) c.put_seen-k2.ensures in
     let l3 = left_on l2 c.put_type_name-k3.ensures in
-    let row = row_same c.type_row-d.ensures c.wide.ensures c.requires.1.1.0 c.requires.1.0 in
+    let row = row_same c.type_row-d.ensures refl c.requires.1.1.0 c.requires.1.0 in
     rw (← row, ← c.member_row-m.ensures, ← c.name_row-name.ensures)
     (member_lined c.args.types.now c.args.names.now c.args.k c.member_row-m.result c.name_row-name.result
     (all w) (l3.then _ _ c.put_place.ensures))

@@ -12,8 +12,8 @@ returns-then-not-book_ok c =
     ended_book _ _ (sym c.ids_ok.ensures ∙ c.if-not-ids_ok.false) (sym c.book_ok.ensures ∙ c.if-not-book_ok.true)
     c.clear.ensures
 
-pub load16-requires : goal.load16-requires
-load16-requires c = omega (arith, (sound _ (sym c.book_ok.ensures ∙ c.if-not-book_ok.false)).room)
+pub load-requires : goal.load-requires
+load-requires c = omega (arith, (sound _ (sym c.book_ok.ensures ∙ c.if-not-book_ok.false)).room)
 
 pub returns : goal.returns
 returns c =

@@ -19,38 +19,38 @@ pub loop-left-init : goal.loop-left-init
 loop-left-init c =
     λ start reached stands. going_start c.requires (λ k. (c.type_inv.book k).fits) reached stands
 
-pub one_round-r-requires : goal.one_round-r-requires
-one_round-r-requires c = going_in (going (goal.at.one_round-r-requires c).At-loop-left)
+pub one_round-requires : goal.one_round-requires
+one_round-requires c = going_in (going (goal.at.one_round-requires c).At-loop-left)
 
-pub returns-in-Refused : goal.returns-in-Refused
-returns-in-Refused c =
-    ended_no (going (goal.at.returns-in-Refused c).At-loop-left) c.one_round-r.ensures c.loop-left-test.true _
-    c.in-Refused.is c.clear.ensures
+pub returns-in-Err : goal.returns-in-Err
+returns-in-Err c =
+    ended_no (going (goal.at.returns-in-Err c).At-loop-left) c.one_round.ensures c.loop-left-test.true _
+    c.in-Err.is c.clear-in-Err.ensures
 
 pub overflow_cast-result : goal.overflow_cast-result
 overflow_cast-result c =
     omega (
       arith,
-      c.first_waiting-w.ensures.small,
+      c.first_waiting.ensures.small,
       const_small (going (goal.at.overflow_cast-result c).At-loop-left).const,
     )
 
 pub returns-then-rest-left : goal.returns-then-rest-left
 returns-then-rest-left c =
-    ended_stuck (going (goal.at.returns-then-rest-left c).At-loop-left) c.one_round-r.ensures c.loop-left-test.true _ _
-    c.in-Went.is _ c.if-rest-left.true c.first_waiting-w.ensures c.clear-then-rest-left.ensures
+    ended_stuck (going (goal.at.returns-then-rest-left c).At-loop-left) c.one_round.ensures c.loop-left-test.true _ _
+    c.in-Ok.is _ c.if-rest-left.true c.first_waiting.ensures c.clear.ensures
 
 pub loop-left-smaller : goal.loop-left-smaller
 loop-left-smaller c =
-    going_less (going (goal.at.loop-left-smaller c).At-loop-left) c.one_round-r.ensures c.loop-left-test.true _ _
-    c.in-Went.is c.if-rest-left.false
+    going_less (going (goal.at.loop-left-smaller c).At-loop-left) c.one_round.ensures c.loop-left-test.true _ _
+    c.in-Ok.is c.if-rest-left.false
 
 pub loop-left-preserved : goal.loop-left-preserved
 loop-left-preserved c =
     λ start reached stands.
-    going_next (c.loop-left.invariant start reached stands) c.one_round-r.ensures c.loop-left-test.true _ _
-    c.in-Went.is c.if-rest-left.false c.one_round-r.auto.tys c.one_round-r.auto.done c.one_round-r.auto.stuck
-    c.one_round-r.auto.tried
+    going_next (c.loop-left.invariant start reached stands) c.one_round.ensures c.loop-left-test.true _ _
+    c.in-Ok.is c.if-rest-left.false c.one_round.auto.tys c.one_round.auto.done c.one_round.auto.stuck
+    c.one_round.auto.tried
 
 pub overflow_cast-result-2 : goal.overflow_cast-result-2
 overflow_cast-result-2 c = omega (arith, going_few (going (goal.at.overflow_cast-result-2 c).At-loop-left))

@@ -1,12 +1,13 @@
 -- `types::one_round` meets its contract: `InRound` holds in the round.
-use Rattle.std.proofs.Common.{◌≡◌, ap, ◌∙◌, arith}
+use Rattle.std.proofs.Common.{◌≡◌, ap, ◌∙◌, Ok, arith}
+use Rattle.std.proofs.lemmas.Result.{err_from_is_err_and}
 use Rattle.types.specs.rounds.Turns.{count_of}
 use Rattle.types.specs.declared.book.contents.TypeEntry.{TypeEntry}
 use Rattle.types.proofs.rounds.OneRoundLaws.{start_small, within_start, within_in, within_near, within_left}
 use Rattle.types.proofs.rounds.OneRoundLaws.{within_past, within_wait, within_yes, made_all, made_no}
 use Rattle.types.proofs.rounds.round.one_round.Goals as goal
-use Rattle.types.proofs.rounds.round.one_round.Goals.{After-count_of-n, then-done-i-eq0+in-Waits}
-use Rattle.types.proofs.rounds.round.one_round.Goals.{then-done-i-eq0+in-Added, else-done-i-eq0}
+use Rattle.types.proofs.rounds.round.one_round.Goals.{then-done-i-eq0+in_ok-turn+in-Some}
+use Rattle.types.proofs.rounds.round.one_round.Goals.{then-done-i-eq0+in_ok-turn+in_default, else-done-i-eq0}
 
 pub overflow_mul-at : goal.overflow_mul-at
 overflow_mul-at c = omega (arith, start_small c.requires (λ k. (c.type_inv.book k).fits))
@@ -17,49 +18,47 @@ overflow_add-at c = omega (arith, start_small c.requires (λ k. (c.type_inv.book
 pub loop-i-init : goal.loop-i-init
 loop-i-init c = within_start c.requires (λ k. (c.type_inv.book k).fits)
 
-pub type_entry-e-requires : goal.type_entry-e-requires
-type_entry-e-requires c = (within_in c.loop-i.invariant c.loop-i-test.true).entry
+pub take_turn-requires : goal.take_turn-requires
+take_turn-requires c = within_in c.loop-i.invariant c.loop-i-test.true
 
-pub take_turn-r-requires : goal.take_turn-r-requires
-take_turn-r-requires c = within_in c.loop-i.invariant c.loop-i-test.true
+pub type_entry-requires : goal.type_entry-requires
+type_entry-requires c = (within_in c.loop-i.invariant c.loop-i-test.true).entry
 
-pub returns-in-Refused : goal.returns-in-Refused
-returns-in-Refused c =
-    made_no c.loop-i.invariant c.loop-i-test.true c.take_turn-r.ensures.0 c.if-done-i-eq0.true _ c.in-Refused.is
+pub returns-in_err-turn : goal.returns-in_err-turn
+returns-in_err-turn c =
+    let p = err_from_is_err_and c.from_residual.result c.from_residual.ensures.1 in
+    rw (p.1, p.2)
+    (made_no c.loop-i.invariant c.loop-i-test.true c.take_turn.ensures.0 c.if-done-i-eq0.true _ c.in_err-turn.was)
 
 pub overflow_sub-rest : goal.overflow_sub-rest
 overflow_sub-rest c = omega (arith, within_left c.loop-i.invariant c.loop-i-test.true c.if-done-i-eq0.true)
-
--- a type's count, as it was read
-counted : (c : After-count_of-n) → c.count_of-n.result ≡ count_of c.args.book.now c.loop-i.i
-counted c = c.count_of-n.ensures.0 ∙ ap (λ (x : TypeEntry). x.count) c.type_entry-e.ensures
-
-pub overflow_add-at-in-loop-i : goal.overflow_add-at-in-loop-i
-overflow_add-at-in-loop-i c =
-    omega (
-      arith,
-      counted (goal.at.overflow_add-at-in-loop-i c).After-count_of-n,
-      within_near c.loop-i.invariant c.loop-i-test.true,
-    )
 
 pub loop-i-preserved : goal.loop-i-preserved
 loop-i-preserved c =
     let v = c.loop-i.invariant in
     let l = c.loop-i-test.true in
-    rw (counted (goal.at.loop-i-preserved c).After-count_of-n)
+    let n : c.count_of.result ≡ count_of c.args.book.now c.loop-i.i =
+    c.count_of.ensures.0 ∙ ap (λ (x : TypeEntry). x.count) c.type_entry.ensures in
+    rw n
     (elim c.if-done-i-eq0.branch [
-      | then-done-i-eq0+in-Waits w ↦
+      | then-done-i-eq0+in_ok-turn+in-Some w ↦
           rw (w.types-is, w.members-is, w.names-is, w.tys-is, w.done-is, w.stuck-is, w.tried-is, w.used-is, w.rest-is)
-          (within_wait v l w.take_turn-r.ensures.0 w.if-done-i-eq0.true w.take_turn-r.auto.tys w.take_turn-r.auto.stuck
-          w.take_turn-r.auto.tried w.take_turn-r.ensures.1 w.in-Waits.is)
-      | then-done-i-eq0+in-Added w ↦
+          (within_yes v l w.take_turn.ensures.0 w.if-done-i-eq0.true w.take_turn.auto.tys w.take_turn.auto.stuck
+          w.take_turn.auto.tried w.take_turn.ensures.1 _ (w.in_ok-turn.was ∙ ap Ok w.in-Some.is))
+      | then-done-i-eq0+in_ok-turn+in_default w ↦
           rw (w.types-is, w.members-is, w.names-is, w.tys-is, w.done-is, w.stuck-is, w.tried-is, w.used-is, w.rest-is)
-          (within_yes v l w.take_turn-r.ensures.0 w.if-done-i-eq0.true w.take_turn-r.auto.tys w.take_turn-r.auto.stuck
-          w.take_turn-r.auto.tried w.take_turn-r.ensures.1 _ w.in-Added.is)
+          (within_wait v l w.take_turn.ensures.0 w.if-done-i-eq0.true w.take_turn.auto.tys w.take_turn.auto.stuck
+          w.take_turn.auto.tried w.take_turn.ensures.1 (w.in_ok-turn.was ∙ ap Ok w.in_default.is))
       | else-done-i-eq0 w ↦
           rw (w.types-is, w.members-is, w.names-is, w.tys-is, w.done-is, w.stuck-is, w.tried-is, w.used-is, w.rest-is)
           (within_past v l w.if-done-i-eq0.false)
     ])
+
+pub overflow_add-at-in-loop-i : goal.overflow_add-at-in-loop-i
+overflow_add-at-in-loop-i c =
+    let n : c.count_of.result ≡ count_of c.args.book.now c.loop-i.i =
+    c.count_of.ensures.0 ∙ ap (λ (x : TypeEntry). x.count) c.type_entry.ensures in
+    omega (arith, n, within_near c.loop-i.invariant c.loop-i-test.true)
 
 pub returns : goal.returns
 returns c = made_all c.loop-i.invariant c.loop-i-test.false

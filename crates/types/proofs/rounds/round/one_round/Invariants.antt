@@ -1,5 +1,4 @@
 -- What the loop of `types::one_round` keeps: `InRound`.
-use Rattle.std.proofs.Common.{◌-◌}
 use Rattle.types.proofs.rounds.OneRoundLaws.{InRound}
 use Rattle.types.proofs.rounds.round.one_round.Given as goal
 
@@ -7,6 +6,3 @@ abbrev pub invariant-loop-i : goal.invariant-loop-i
 invariant-loop-i l =
     InRound l.book l.t l.initial.types l.initial.members l.initial.names l.initial.tys l.initial.done l.initial.stuck
     l.initial.tried l.initial.used l.types l.members l.names l.tys l.done l.stuck l.tried l.used l.rest l.i l.at
-
-abbrev pub decreases-loop-i : goal.decreases-loop-i
-decreases-loop-i l = l.t - l.i

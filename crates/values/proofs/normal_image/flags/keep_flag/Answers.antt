@@ -1,27 +1,27 @@
 -- `values::keep_flag` meets its contract: a visible BOOL's bit is stored in its place, and else nothing is done.
-use Rattle.std.proofs.Common.{sym, ◌∙◌}
+use Rattle.std.proofs.Common.{refl, sym, ◌∙◌}
 use Rattle.values.proofs.normal_image.FlagRows.{FlagHere, flag_inside, flag_kept, unflagged}
 use Rattle.values.proofs.normal_image.flags.keep_flag.Goals as goal
-use Rattle.values.proofs.normal_image.flags.keep_flag.Goals.{After-wide}
+use Rattle.values.proofs.normal_image.flags.keep_flag.Goals.{In-Some}
 
 -- the member was read, and it is a visible BOOL
-here : (c : After-wide)
-    → FlagHere c.args.members.now c.args.row c.args.base c.args.image.now c.member_row-m.result c.wide.result c.in-At.b
+here : (c : In-Some)
+    → FlagHere c.args.members.now c.args.row c.args.base c.args.image.now c.member_row-m.result
+    c.member_row-m.result.offset c.in-Some.b
 here c =
     record {
       is = c.member_row-m.ensures;
       here = c.requires.0;
-      place = c.wide.ensures;
-      flag = sym c.flag_bit.ensures ∙ c.in-At.is;
+      place = refl;
+      flag = sym c.flag_bit.ensures ∙ c.in-Some.is;
     }
 
-pub bit_at-requires : goal.bit_at-requires
-bit_at-requires c = flag_inside (here (goal.at.bit_at-requires c).After-wide)
+pub bit_at-value-requires : goal.bit_at-value-requires
+bit_at-value-requires c = flag_inside (here (goal.at.bit_at-value-requires c).In-Some)
 
-pub returns-in-At : goal.returns-in-At
-returns-in-At c =
-    flag_kept (here (goal.at.returns-in-At c).After-wide) c.args.k _ c.bit_in_byte.ensures.0 c.bit_at.ensures
-    c.put_bit.ensures
+pub returns-in-Some : goal.returns-in-Some
+returns-in-Some c =
+    flag_kept (here (goal.at.returns-in-Some c).In-Some) c.args.k _ refl c.bit_at-value.ensures c.put_bit.ensures
 
-pub returns-in-None : goal.returns-in-None
-returns-in-None c = unflagged _ c.member_row-m.ensures (sym c.flag_bit.ensures ∙ c.in-None.is)
+pub returns-in_default : goal.returns-in_default
+returns-in_default c = unflagged _ c.member_row-m.ensures (sym c.flag_bit.ensures ∙ c.in_default.is)

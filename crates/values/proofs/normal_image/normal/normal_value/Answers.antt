@@ -1,6 +1,6 @@
 -- `values::normal_value` meets its contract (document 01, "Normal image"): atomics, a structure, or an array of
 -- structures, from the first byte on, made normal are the normal image.
-use native.Mathlib.Omega.{arith}
+use Rattle.std.proofs.Common.{arith, rules}
 use Rattle.values.proofs.normal_image.normal.NormalisedLaws.{all_normal, atomics_normal, one_normal}
 use Rattle.values.proofs.writing.SettingLaws.{atomics_fit, value_here, values_here}
 use Rattle.values.proofs.normal_image.normal.normal_value.Goals as goal
@@ -14,26 +14,26 @@ normal_struct-requires c =
     let p = c.requires in
     (p.0, value_here p.1 c.in-Struct.is c.if-n-eq0.true)
 
-pub returns-then-n-eq0 : goal.returns-then-n-eq0
-returns-then-n-eq0 c =
+pub returns-in-Struct : goal.returns-in-Struct
+returns-in-Struct c =
     let p = c.requires in
-    one_normal p.0 p.1 c.normal_struct.auto.image (λ k. (c.slice_known-then-n-eq0-1.given k).fits)
+    one_normal p.0 p.1 c.normal_struct.auto.image (search rules)
     c.in-Struct.is c.if-n-eq0.true c.normal_struct.ensures
 
 pub normal_elements-requires : goal.normal_elements-requires
 normal_elements-requires c =
     let p = c.requires in
-    (p.0, values_here p.1 c.in-Struct.is c.if-n-eq0.false)
+    (p.0, values_here p.1 c.in-Struct-2.is c.if-n-eq0.false)
 
 pub returns-in-Atomic : goal.returns-in-Atomic
 returns-in-Atomic c =
     let p = c.requires in
-    atomics_normal p.0 p.1 c.normal_atomics.auto.image (λ k. (c.slice_known-in-Atomic-1.given k).fits)
+    atomics_normal p.0 p.1 c.normal_atomics.auto.image (search rules)
     c.in-Atomic.is c.normal_atomics.ensures
 
-pub returns-else-n-eq0 : goal.returns-else-n-eq0
-returns-else-n-eq0 c =
+pub returns-in-Struct-2 : goal.returns-in-Struct-2
+returns-in-Struct-2 c =
     let p = c.requires in
     all_normal p.0 p.1 c.normal_elements.auto.image
-    (λ k. (c.slice_known-in-Struct-1.given k).fits) c.in-Struct.is c.if-n-eq0.false
+    (search rules) c.in-Struct-2.is c.if-n-eq0.false
     c.normal_elements.ensures

@@ -1,6 +1,6 @@
 -- `values::image_fit` meets its contract: 15 where the type is not there, then 14 where the length is not its value's.
 use Prim.Native.Nat.{ℕ, ◌*◌}
-use mathlib.Core.Path.{◌≡◌, sym, ap, ap₂, ◌∙◌}
+use mathlib.Core.Path.{◌≡◌, sym, ap₂, ◌∙◌}
 use mathlib.Core.Bool.{true}
 use lib.Dec.{eqb}
 use Rattle.types.specs.layout.Placing.{times}
@@ -23,7 +23,7 @@ product c =
     let a = c.args in
     c.is_product.ensures
     ∙ ap₂ (λ (s n : ℕ). eqb a.long (s * n)) c.size_of_ty.ensures
-    (c.times_of-n.ensures ∙ ap times c.as_size.ensures)
+    c.times_of-n.ensures
 
 pub returns-then-not-is_there : goal.returns-then-not-is_there
 returns-then-not-is_there c =

@@ -9,8 +9,8 @@ use Rattle.values.proofs.stream.LayingLaws.{room_as, wrote_as}
 use Rattle.values.proofs.stream.PutLaws.{put_wrote}
 use Rattle.values.proofs.reading.read.read_value.Goals as goal
 
-pub put_atomics-next-requires : goal.put_atomics-next-requires
-put_atomics-next-requires c =
+pub put_atomics-requires : goal.put_atomics-requires
+put_atomics-requires c =
     let a = c.args in
     let is = c.in-Atomic.is in
     let v = rw is at c.requires.walkable.1 in
@@ -22,7 +22,7 @@ pub returns-in-Atomic : goal.returns-in-Atomic
 returns-in-Atomic c =
     let a = c.args in
     wrote_as (value_atomic a.types.now a.members.now a.n a.image.now a.ty c.in-Atomic.is)
-    (put_wrote a.base 0 (textless_atomics _ a.n a.image.now) c.put_atomics-next.ensures)
+    (put_wrote a.base 0 (textless_atomics _ a.n a.image.now) c.put_atomics.ensures)
 
 pub read_structs-requires : goal.read_structs-requires
 read_structs-requires c =

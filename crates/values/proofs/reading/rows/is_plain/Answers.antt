@@ -1,12 +1,9 @@
 -- `values::is_plain` meets its contract: an answer for each kind of row.
-use Rattle.values.proofs.normal_image.FlagRows.{plain_hidden, plain_bit, plain_whole}
+use Rattle.values.proofs.reading.rows.NestedLaws.{plain_bit, plain_free}
 use Rattle.values.proofs.reading.rows.is_plain.Goals as goal
 
-pub returns-then-hidden : goal.returns-then-hidden
-returns-then-hidden c = plain_hidden c.member_row-m.ensures c.if-hidden.true
+pub returns-then-is_none : goal.returns-then-is_none
+returns-then-is_none c = plain_free c.member_row-m.ensures c.is_none.ensures c.if-is_none.true
 
-pub returns-in-At : goal.returns-in-At
-returns-in-At c = plain_bit c.member_row-m.ensures c.if-hidden.false c.in-At.is
-
-pub returns-in-None : goal.returns-in-None
-returns-in-None c = plain_whole c.member_row-m.ensures c.if-hidden.false c.in-None.is
+pub returns-else-is_none : goal.returns-else-is_none
+returns-else-is_none c = plain_bit c.member_row-m.ensures c.is_none.ensures c.if-is_none.false

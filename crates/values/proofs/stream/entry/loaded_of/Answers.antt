@@ -1,6 +1,7 @@
 -- `values::loaded_of` meets its contract: an arm for each kind.
-use Rattle.std.proofs.Common.{refl, rules}
-use Rattle.values.specs.inside.stream.Entry.{loaded_of}
+use Rattle.std.proofs.Common.{refl, rules, arith}
+use Rattle.std.proofs.lemmas.Grind.{common_steps}
+use Rattle.values.specs.inside.stream.Entry.{loaded_of, low_in}
 use Rattle.values.proofs.stream.EntryLaws.{kind_told, kind_above}
 use Rattle.values.proofs.stream.entry.loaded_of.Goals as goal
 
@@ -21,8 +22,9 @@ unfolding loaded_of
 returns-in-3 c = kind_told c.args.x c.in-3.is refl
 
 pub returns-in-4 : goal.returns-in-4
-unfolding loaded_of
-returns-in-4 c = kind_told c.args.x c.in-4.is c.real_in.ensures
+unfolding loaded_of low_in
+returns-in-4 c =
+    kind_told c.args.x c.in-4.is (grind (arith, common_steps))
 
 pub returns-in-5 : goal.returns-in-5
 unfolding loaded_of
@@ -30,11 +32,12 @@ returns-in-5 c = kind_told c.args.x c.in-5.is refl
 
 pub returns-in-6 : goal.returns-in-6
 unfolding loaded_of
-returns-in-6 c = kind_told c.args.x c.in-6.is c.text_in.ensures
+returns-in-6 c = kind_told c.args.x c.in-6.is refl
 
 pub returns-in-7 : goal.returns-in-7
-unfolding loaded_of
-returns-in-7 c = kind_told c.args.x c.in-7.is c.member_in.ensures
+unfolding loaded_of low_in
+returns-in-7 c =
+    kind_told c.args.x c.in-7.is (grind (arith, common_steps))
 
 pub returns-in-8 : goal.returns-in-8
 unfolding loaded_of

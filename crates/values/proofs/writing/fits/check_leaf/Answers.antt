@@ -4,33 +4,21 @@ use native.Mathlib.Omega.{arith}
 use mathlib.Core.Path.{◌∙◌, ap}
 use Rattle.types.specs.declared.tables.member.Member.{Member}
 use Rattle.values.specs.inside.reading.Walk.{is_nested}
-use Rattle.values.proofs.writing.fits.FitLeafLaws.{bytes_low, member_atomic, member_bit, member_struct}
+use Rattle.values.proofs.writing.fits.FitLeafLaws.{bytes_low, member_bit, member_struct}
 use Rattle.values.proofs.writing.fits.FitRunLaws.{few}
 use Rattle.values.proofs.writing.fits.check_leaf.Goals as goal
 
-pub returns-in-At : goal.returns-in-At
-returns-in-At c =
+pub returns-in-Some : goal.returns-in-Some
+returns-in-Some c =
     let m = c.member_row-m in
-    rw (← m.ensures) (member_bit m.result c.in-At.is c.check_atomic.ensures)
+    rw (← m.ensures) (member_bit m.result c.in-Some.is c.check_atomic.ensures)
 
-pub check_atomics-requires : goal.check_atomics-requires
-check_atomics-requires c =
-    record {
-      well_formed = c.requires.well_formed;
-      count_bound = bytes_low c.in-Atomic.a c.wide-count.result
-          (omega (arith, c.well_formed));
-    }
+pub check_atomics-requires-clause-count_bound : goal.check_atomics-requires-clause-count_bound
+check_atomics-requires-clause-count_bound c =
+    bytes_low c.in-Atomic.a c.member_row-m.result.count (omega (arith, c.well_formed))
 
-pub returns-in-Atomic : goal.returns-in-Atomic
-returns-in-Atomic c =
-    let m = c.member_row-m in
-    rw (← m.ensures)
-    (member_atomic m.result c.in-None.is c.in-Atomic.is c.wide-count.ensures
-    c.check_atomics.ensures)
-
-pub refused-requires : goal.refused-requires
-refused-requires c =
-    (omega arith, omega (arith, few c.requires.well_formed.0, c.requires.well_formed.1))
+pub overflow_cast-result : goal.overflow_cast-result
+overflow_cast-result c = omega (arith, few c.requires.well_formed.0, c.requires.well_formed.1)
 
 pub returns-in-Struct : goal.returns-in-Struct
 returns-in-Struct c =

@@ -43,14 +43,14 @@ apply_elements-requires c =
           is c.if-n-eq0.false) c.requires.right;
     }
 
-pub returns-in-Struct : goal.returns-in-Struct
-returns-in-Struct c =
+pub returns-else-n-eq0 : goal.returns-else-n-eq0
+returns-else-n-eq0 c =
     let a = c.args in
     applied_as (values_write a.types.now a.members.now a.n (left_at a.s.now 0) (flat a.image.now)
     c.in-Struct.is c.if-n-eq0.false) c.apply_elements.ensures
 
-pub returns : goal.returns
-returns c =
+pub returns-in-Atomic : goal.returns-in-Atomic
+returns-in-Atomic c =
     let a = c.args in
     applied_as (atomics_write a.types.now a.members.now a.n (left_at a.s.now 0) (flat a.image.now)
     c.in-Atomic.is) c.set_atomics.ensures

@@ -1,0 +1,2 @@
+-- The law of storing a whole row of the tables.
+pub mod RowLaws

@@ -1,0 +1,8 @@
+-- `u32::store` meets its contract.
+use Rattle.std.proofs.Common.{rules}
+use Rattle.words.specs.Words.{bytes_of}
+use Rattle.words.proofs.word.U32Word.store.Goals as goal
+
+pub returns : goal.returns
+unfolding bytes_of
+returns c = search rules
