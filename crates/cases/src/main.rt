@@ -3,7 +3,7 @@
 // answer is another, numbered from 0, and at the end how many there were.
 #![tactic(auto)]
 
-ghost use Rattle.types.specs.tables.Kept.{Kept};
+ghost use Rattle.types.specs.tables.Kept.{KeptTables};
 
 mod expected;
 mod lines;
@@ -12,22 +12,15 @@ mod turns;
 use crate::lines::say_sum;
 use crate::turns::{Turn, count_other, next_case};
 use frames::{answer_room, room};
-use types::{MemberTable, NameTable, TypeTable, no_members, no_names, no_types};
+use types::Tables;
 
 // The count of cases also lets the loop be seen to end: no input has as many.
-fn replay_all(
-    question: &mut [u8],
-    expected: &mut [u8],
-    out: &mut [u8],
-    types: &mut TypeTable,
-    members: &mut MemberTable,
-    names: &mut NameTable,
-)
-    requires { Kept types.old members.old names.old }
+fn replay_all(question: &mut [u8], expected: &mut [u8], out: &mut [u8], tables: &mut Tables)
+    requires { KeptTables tables.old }
 {
     let mut different: u64 = 0;
     for number in 0..u64::MAX {
-        let turn = next_case(question, expected, out, types, members, names);
+        let turn = next_case(question, expected, out, tables);
         if turn == Turn::End {
             say_sum(number, different);
             return;
@@ -45,15 +38,6 @@ fn main() {
     let mut question = room();
     let mut expected = room();
     let mut out = answer_room();
-    let mut types = no_types();
-    let mut members = no_members();
-    let mut names = no_names();
-    replay_all(
-        &mut question,
-        &mut expected,
-        &mut out,
-        &mut types,
-        &mut members,
-        &mut names,
-    );
+    let mut tables = Tables::new();
+    replay_all(&mut question, &mut expected, &mut out, &mut tables);
 }

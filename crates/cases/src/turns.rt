@@ -1,12 +1,12 @@
 // One turn: the next case of the input, its question answered and compared.
 ghost use Rattle.std.specs.Prelude.{◌≤◌};
-ghost use Rattle.types.specs.tables.Kept.{Kept};
+ghost use Rattle.types.specs.tables.Kept.{KeptTables};
 
 use crate::expected::agrees;
 use crate::lines::say_differs;
 use frames::{next_frame, read_frame};
 use replies::answer;
-use types::{MemberTable, NameTable, TypeTable};
+use types::Tables;
 
 // A case whose answer is as expected or another, one that is cut short, or the end of the input.
 #[derive(Clone, Copy, Debug, PartialEq, Eq)]
@@ -36,18 +36,11 @@ fn kind_of(question: &[u8]) -> u8 {
 }
 
 // Is the question answered as expected?
-fn replay(
-    question: &[u8],
-    expected: &[u8],
-    out: &mut [u8],
-    types: &mut TypeTable,
-    members: &mut MemberTable,
-    names: &mut NameTable,
-) -> Turn
-    requires { Kept types.old members.old names.old }
-    ensures { Kept types.new members.new names.new }
+fn replay(question: &[u8], expected: &[u8], out: &mut [u8], tables: &mut Tables) -> Turn
+    requires { KeptTables tables.old }
+    ensures { KeptTables tables.new }
 {
-    let long = answer(question, types, members, names, out);
+    let long = answer(question, tables, out);
     if out.len() < long {
         return Turn::Other;
     }
@@ -58,19 +51,12 @@ fn replay(
 }
 
 // Reads what is expected of a question's answer.
-fn check_answer(
-    question: &[u8],
-    expected: &mut [u8],
-    out: &mut [u8],
-    types: &mut TypeTable,
-    members: &mut MemberTable,
-    names: &mut NameTable,
-) -> Turn
-    requires { Kept types.old members.old names.old }
-    ensures { Kept types.new members.new names.new }
+fn check_answer(question: &[u8], expected: &mut [u8], out: &mut [u8], tables: &mut Tables) -> Turn
+    requires { KeptTables tables.old }
+    ensures { KeptTables tables.new }
 {
     match next_frame(expected) {
-        Some(n) => replay(question, &expected[..n], out, types, members, names),
+        Some(n) => replay(question, &expected[..n], out, tables),
         None => Turn::Cut,
     }
 }
@@ -79,15 +65,13 @@ pub fn next_case(
     question: &mut [u8],
     expected: &mut [u8],
     out: &mut [u8],
-    types: &mut TypeTable,
-    members: &mut MemberTable,
-    names: &mut NameTable,
+    tables: &mut Tables,
 ) -> Turn
-    requires { Kept types.old members.old names.old }
-    ensures { Kept types.new members.new names.new }
+    requires { KeptTables tables.old }
+    ensures { KeptTables tables.new }
 {
     match read_frame(question) {
-        Ok(Some(n)) => check_answer(&question[..n], expected, out, types, members, names),
+        Ok(Some(n)) => check_answer(&question[..n], expected, out, tables),
         Ok(None) => Turn::End,
         Err(_) => Turn::Cut,
     }

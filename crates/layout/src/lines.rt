@@ -1,11 +1,9 @@
 // Lines gathered in a buffer, which is written where it has no room for another line (document 01, end of
 // "Reference cases"). A place in the buffer says how much of it is gathered.
 ghost use Rattle.std.specs.Prelude.{◌≤◌, length};
-ghost use Rattle.types.specs.tables.Kept.{Kept};
+ghost use Rattle.types.specs.tables.Kept.{KeptTables};
 
-use types::{
-    MemberTable, NameTable, Refusal, TypeTable, put_member_line, put_refused_line, put_type_line,
-};
+use types::{Refusal, Tables, put_member_line, put_refused_line, put_type_line};
 
 // No line is longer.
 const LINE: usize = 512;
@@ -34,37 +32,22 @@ fn place_after(from: usize, given: Result<u32, Refusal>, long: usize) -> usize
 }
 
 // The line of the type with a number; answers the place after it.
-pub fn add_type(
-    types: &TypeTable,
-    members: &MemberTable,
-    names: &NameTable,
-    i: usize,
-    out: &mut [u8],
-    at: usize,
-) -> usize
-    requires { Kept types.now members.now names.now × (at ≤ length out.old) }
+pub fn add_type(tables: &Tables, i: usize, out: &mut [u8], at: usize) -> usize
+    requires { KeptTables tables.now × (at ≤ length out.old) }
     ensures { result ≤ length out.old }
 {
     let from = next_place(out, at);
-    let given = put_type_line(types, members, names, i, &mut out[from..]);
+    let given = put_type_line(tables, i, &mut out[from..]);
     place_after(from, given, out.len())
 }
 
 // The line of the k-th member of the type with a number; answers the place after it.
-pub fn add_member(
-    types: &TypeTable,
-    members: &MemberTable,
-    names: &NameTable,
-    i: usize,
-    k: usize,
-    out: &mut [u8],
-    at: usize,
-) -> usize
-    requires { Kept types.now members.now names.now × (at ≤ length out.old) }
+pub fn add_member(tables: &Tables, i: usize, k: usize, out: &mut [u8], at: usize) -> usize
+    requires { KeptTables tables.now × (at ≤ length out.old) }
     ensures { result ≤ length out.old }
 {
     let from = next_place(out, at);
-    let given = put_member_line(types, members, names, i, k, &mut out[from..]);
+    let given = put_member_line(tables, i, k, &mut out[from..]);
     place_after(from, given, out.len())
 }
 

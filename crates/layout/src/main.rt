@@ -9,7 +9,7 @@ mod list;
 
 use crate::lines::say_refused;
 use crate::list::list;
-use types::{PredefinedIds, Refusal, build, no_members, no_names, no_types};
+use types::{PredefinedIds, Refusal, Tables, build};
 
 // The room of the longest book and one byte more, which shows a longer one. Its length is all that is said of it.
 fn room() -> [u8; 65537]
@@ -20,17 +20,15 @@ fn room() -> [u8; 65537]
 
 // What a book of any length up to the longest is answered with. The predefined ids are never shown.
 fn show(book: &[u8], out: &mut [u8]) {
-    let mut types = no_types();
-    let mut members = no_members();
-    let mut names = no_names();
+    let mut tables = Tables::new();
     let ids = PredefinedIds {
         timer: 1,
         counter: 2,
         control: 3,
         string: 4,
     };
-    match build(book, ids, &mut types, &mut members, &mut names) {
-        Ok(_) => list(&types, &members, &names, out),
+    match build(book, ids, &mut tables) {
+        Ok(_) => list(&tables, out),
         Err(why) => say_refused(why, out),
     }
 }

@@ -1,12 +1,12 @@
 // Kind 2: a type of the tables, whole, with its members.
-ghost use Rattle.types.specs.tables.Kept.{Kept};
+ghost use Rattle.types.specs.tables.Kept.{KeptTables};
 
 use crate::faults::Fault;
 use crate::puts::{accept, put, put_count, put_name};
 use crate::type_words::word_of_ty;
 use types::{
-    Member, MemberTable, NameTable, StructDef, StructKind, TypeTable, member_at, name_at,
-    object_definition_size, template_len, type_at, waste,
+    Member, MemberTable, StructDef, StructKind, Tables, member_at, name_at, object_definition_size,
+    template_len, type_at, waste,
 };
 use words::Word;
 
@@ -70,26 +70,20 @@ fn put_row(names: &[u8], d: StructDef, out: &mut [u8], from: usize) -> usize {
 }
 
 // The structure with a number, and what is computed of it.
-pub fn describe(
-    rest: &[u8],
-    types: &TypeTable,
-    members: &MemberTable,
-    names: &NameTable,
-    out: &mut [u8],
-) -> Result<usize, Fault>
-    requires { Kept types.now members.now names.now }
+pub fn describe(rest: &[u8], tables: &Tables, out: &mut [u8]) -> Result<usize, Fault>
+    requires { KeptTables tables.now }
 {
     if rest.len() < 2 {
         return Err(Fault::NotAQuestion);
     }
     let i = usize::from(u16::load(rest, 0));
-    let bytes = template_len(types, members, names, i)?;
-    let bits = waste(types, members, i)?;
-    let d = type_at(types, i);
+    let bytes = template_len(tables, i)?;
+    let bits = waste(tables, i)?;
+    let d = type_at(&tables.types, i);
     let mut at = accept(out);
-    at = put_row(names, d, out, at);
+    at = put_row(&tables.names, d, out, at);
     at = put(out, at, bytes);
     at = put(out, at, object_definition_size(bytes));
     at = put(out, at, bits);
-    Ok(put_members(members, names, d, out, at))
+    Ok(put_members(&tables.members, &tables.names, d, out, at))
 }

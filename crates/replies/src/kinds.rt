@@ -1,6 +1,6 @@
 // What each kind of question is answered with: the place where the answer ends in the output buffer.
 ghost use Rattle.std.specs.Prelude.{◌≤◌, length};
-ghost use Rattle.types.specs.tables.Kept.{Kept, KeptNames};
+ghost use Rattle.types.specs.tables.Kept.{KeptTables};
 
 use crate::describe::describe;
 use crate::faults::Fault;
@@ -10,9 +10,7 @@ use crate::shapes::tell_shape;
 use crate::streams::{tell_read, tell_text};
 use crate::type_words::{ty_of_word, word_of_ty};
 use crate::writes::tell_write;
-use types::{
-    MemberTable, NameTable, PredefinedIds, Refusal, TypeTable, build, find, template, type_header,
-};
+use types::{PredefinedIds, Refusal, Tables, build, find, template, type_header};
 use words::Word;
 
 // The kinds of questions.
@@ -51,15 +49,9 @@ impl TryFrom<u8> for Kind {
 }
 
 // The question's book in the tables, under its ids; refused or not, the tables are ours afterwards.
-fn rebuild(
-    ids: &[u8],
-    book: &[u8],
-    types: &mut TypeTable,
-    members: &mut MemberTable,
-    names: &mut NameTable,
-) -> Result<u32, Refusal>
+fn rebuild(ids: &[u8], book: &[u8], tables: &mut Tables) -> Result<u32, Refusal>
     requires { 8 ≤ length ids.now }
-    ensures { Kept types.new members.new names.new }
+    ensures { KeptTables tables.new }
 {
     let predefined = PredefinedIds {
         timer: u16::load(ids, 0),
@@ -67,51 +59,39 @@ fn rebuild(
         control: u16::load(ids, 4),
         string: u16::load(ids, 6),
     };
-    build(book, predefined, types, members, names)
+    build(book, predefined, tables)
 }
 
 // A book built in the tables: how many types there are.
-fn tell_build(
-    rest: &[u8],
-    types: &mut TypeTable,
-    members: &mut MemberTable,
-    names: &mut NameTable,
-    out: &mut [u8],
-) -> Result<usize, Fault>
-    requires { Kept types.old members.old names.old }
-    ensures { Kept types.new members.new names.new }
+fn tell_build(rest: &[u8], tables: &mut Tables, out: &mut [u8]) -> Result<usize, Fault>
+    requires { KeptTables tables.old }
+    ensures { KeptTables tables.new }
 {
     if rest.len() < 8 {
         return Err(Fault::NotAQuestion);
     }
-    let n = rebuild(rest, &rest[8..], types, members, names)?;
+    let n = rebuild(rest, &rest[8..], tables)?;
     let k = accept(out);
     Ok(put_count(out, k, n))
 }
 
 // The template of a type, written to its place in the answer.
-fn tell_template(
-    rest: &[u8],
-    types: &TypeTable,
-    members: &MemberTable,
-    names: &NameTable,
-    out: &mut [u8],
-) -> Result<usize, Fault>
-    requires { Kept types.now members.now names.now }
+fn tell_template(rest: &[u8], tables: &Tables, out: &mut [u8]) -> Result<usize, Fault>
+    requires { KeptTables tables.now }
 {
     let end = body_end(rest, 2, out)?;
     let ty = ty_of_word(u16::load(rest, 0));
-    let n = template(types, members, names, ty, &mut out[BODY..end])?;
+    let n = template(tables, ty, &mut out[BODY..end])?;
     accept(out);
     Ok(BODY + n as usize)
 }
 
 // The header of a type: two bytes or four.
-fn tell_header(rest: &[u8], types: &TypeTable, out: &mut [u8]) -> Result<usize, Fault> {
+fn tell_header(rest: &[u8], tables: &Tables, out: &mut [u8]) -> Result<usize, Fault> {
     if rest.len() < 2 {
         return Err(Fault::NotAQuestion);
     }
-    let header = type_header(types, ty_of_word(u16::load(rest, 0)))?;
+    let header = type_header(&tables.types, ty_of_word(u16::load(rest, 0)))?;
     let long = if header.long < 4 { 2 } else { 4 };
     let mut at = accept(out);
     for byte in &header.bytes[..long] {
@@ -121,76 +101,52 @@ fn tell_header(rest: &[u8], types: &TypeTable, out: &mut [u8]) -> Result<usize, 
 }
 
 // The word of the type with a name.
-fn tell_lookup(
-    name: &[u8],
-    types: &TypeTable,
-    names: &NameTable,
-    out: &mut [u8],
-) -> Result<usize, Fault>
-    requires { KeptNames types.now names.now }
+fn tell_lookup(name: &[u8], tables: &Tables, out: &mut [u8]) -> Result<usize, Fault>
+    requires { KeptTables tables.now }
 {
-    let ty = find(types, names, name).ok_or(Refusal::NoSuchType)?;
+    let ty = find(tables, name).ok_or(Refusal::NoSuchType)?;
     let k = accept(out);
     Ok(put(out, k, word_of_ty(ty)))
 }
 
 // Every kind that leaves the tables as they are.
-fn tell(
-    kind: Kind,
-    rest: &[u8],
-    types: &TypeTable,
-    members: &MemberTable,
-    names: &NameTable,
-    out: &mut [u8],
-) -> Result<usize, Fault>
-    requires { Kept types.now members.now names.now }
+fn tell(kind: Kind, rest: &[u8], tables: &Tables, out: &mut [u8]) -> Result<usize, Fault>
+    requires { KeptTables tables.now }
 {
     match kind {
         Kind::Build => Err(Fault::NotAQuestion),
-        Kind::Describe => describe(rest, types, members, names, out),
-        Kind::Template => tell_template(rest, types, members, names, out),
-        Kind::Shape => tell_shape(rest, types, out),
-        Kind::Read => tell_read(rest, types, members, out),
-        Kind::Write => tell_write(rest, types, members, out),
-        Kind::Text => tell_text(rest, types, members, out),
-        Kind::Header => tell_header(rest, types, out),
-        Kind::Normal => tell_normal(rest, types, members, out),
-        Kind::Lookup => tell_lookup(rest, types, names, out),
+        Kind::Describe => describe(rest, tables, out),
+        Kind::Template => tell_template(rest, tables, out),
+        Kind::Shape => tell_shape(rest, tables, out),
+        Kind::Read => tell_read(rest, tables, out),
+        Kind::Write => tell_write(rest, tables, out),
+        Kind::Text => tell_text(rest, tables, out),
+        Kind::Header => tell_header(rest, tables, out),
+        Kind::Normal => tell_normal(rest, tables, out),
+        Kind::Lookup => tell_lookup(rest, tables, out),
     }
 }
 
 // The answer to a question, or why it has none.
-fn reply(
-    question: &[u8],
-    types: &mut TypeTable,
-    members: &mut MemberTable,
-    names: &mut NameTable,
-    out: &mut [u8],
-) -> Result<usize, Fault>
-    requires { Kept types.old members.old names.old }
-    ensures { Kept types.new members.new names.new }
+fn reply(question: &[u8], tables: &mut Tables, out: &mut [u8]) -> Result<usize, Fault>
+    requires { KeptTables tables.old }
+    ensures { KeptTables tables.new }
 {
     let Some((number, rest)) = question.split_first() else {
         return Err(Fault::NotAQuestion);
     };
     match Kind::try_from(*number)? {
-        Kind::Build => tell_build(rest, types, members, names, out),
-        kind => tell(kind, rest, types, members, names, out),
+        Kind::Build => tell_build(rest, tables, out),
+        kind => tell(kind, rest, tables, out),
     }
 }
 
 // Answers a question.
-pub fn answer(
-    question: &[u8],
-    types: &mut TypeTable,
-    members: &mut MemberTable,
-    names: &mut NameTable,
-    out: &mut [u8],
-) -> usize
-    requires { Kept types.old members.old names.old }
-    ensures { Kept types.new members.new names.new }
+pub fn answer(question: &[u8], tables: &mut Tables, out: &mut [u8]) -> usize
+    requires { KeptTables tables.old }
+    ensures { KeptTables tables.new }
 {
-    match reply(question, types, members, names, out) {
+    match reply(question, tables, out) {
         Ok(end) => end,
         Err(fault) => put_fault(out, fault),
     }

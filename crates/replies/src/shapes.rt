@@ -1,10 +1,10 @@
 // Kind 4: the shape of a tag.
-ghost use Rattle.types.specs.tables.Kept.{KeptTypes};
+ghost use Rattle.types.specs.tables.Kept.{KeptTables};
 
 use crate::faults::Fault;
 use crate::puts::{accept, put};
 use crate::type_words::{ty_of_word, word_of_ty};
-use types::{Shape, TypeTable, symbol_type, tag_shape};
+use types::{Shape, Tables, symbol_type, tag_shape};
 use words::Word;
 
 // The lengths that a question can have.
@@ -27,8 +27,8 @@ fn put_shape(shape: Shape, symbol: u16, out: &mut [u8]) -> usize {
 }
 
 // The shape of a type with lengths, and its symbol type.
-pub fn tell_shape(rest: &[u8], types: &TypeTable, out: &mut [u8]) -> Result<usize, Fault>
-    requires { KeptTypes types.now }
+pub fn tell_shape(rest: &[u8], tables: &Tables, out: &mut [u8]) -> Result<usize, Fault>
+    requires { KeptTables tables.now }
 {
     if rest.len() < FIRST {
         return Err(Fault::NotAQuestion);
@@ -41,7 +41,7 @@ pub fn tell_shape(rest: &[u8], types: &TypeTable, out: &mut [u8]) -> Result<usiz
     for i in 0..n {
         lengths[i] = u32::load(rest, FIRST + 4 * i);
     }
-    let shape = tag_shape(types, ty_of_word(u16::load(rest, 0)), &lengths[..n])?;
-    let symbol = symbol_type(types, shape)?;
+    let shape = tag_shape(&tables.types, ty_of_word(u16::load(rest, 0)), &lengths[..n])?;
+    let symbol = symbol_type(&tables.types, shape)?;
     Ok(put_shape(shape, symbol, out))
 }

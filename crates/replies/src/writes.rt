@@ -1,24 +1,18 @@
 // Questions that write: a value stream set in a tag's bytes. The image follows in the answer, also after a refusal, so
 // that one can see that nothing changed.
 ghost use Rattle.std.specs.Prelude.{◌+◌, ◌≤◌, length};
-ghost use Rattle.types.specs.tables.Kept.{KeptRows};
+ghost use Rattle.types.specs.tables.Kept.{KeptTables};
 
 use crate::faults::Fault;
 use crate::puts::{BODY, accept, put_bytes, put_fault};
 use crate::type_words::ty_of_word;
-use types::{MemberTable, TypeTable};
+use types::Tables;
 use values::write;
 use words::Word;
 
 // The image of the question, `long` bytes, put at its place in the answer, and the stream after it written there.
-fn put_written(
-    rest: &[u8],
-    long: usize,
-    types: &TypeTable,
-    members: &MemberTable,
-    out: &mut [u8],
-) -> Result<usize, Fault>
-    requires kept_rows { KeptRows types.now members.now }
+fn put_written(rest: &[u8], long: usize, tables: &Tables, out: &mut [u8]) -> Result<usize, Fault>
+    requires kept_rows { KeptTables tables.now }
     requires long_in_bounds { 14 + long ≤ length rest.now }
 {
     let past = 14 + long;
@@ -29,14 +23,7 @@ fn put_written(
     let ty = ty_of_word(u16::load(rest, 0));
     let count = u64::load(rest, 2);
     put_bytes(out, BODY, &rest[14..past]);
-    match write(
-        types,
-        members,
-        ty,
-        count,
-        &rest[past..],
-        &mut out[BODY..end],
-    ) {
+    match write(tables, ty, count, &rest[past..], &mut out[BODY..end]) {
         Ok(()) => accept(out),
         Err(why) => put_fault(out, Fault::Refused(why)),
     };
@@ -44,13 +31,8 @@ fn put_written(
 }
 
 // Kind 6.
-pub fn tell_write(
-    rest: &[u8],
-    types: &TypeTable,
-    members: &MemberTable,
-    out: &mut [u8],
-) -> Result<usize, Fault>
-    requires { KeptRows types.now members.now }
+pub fn tell_write(rest: &[u8], tables: &Tables, out: &mut [u8]) -> Result<usize, Fault>
+    requires { KeptTables tables.now }
 {
     if rest.len() < 14 {
         return Err(Fault::NotAQuestion);
@@ -59,5 +41,5 @@ pub fn tell_write(
     if rest.len() - 14 < long {
         return Err(Fault::NotAQuestion);
     }
-    put_written(rest, long, types, members, out)
+    put_written(rest, long, tables, out)
 }

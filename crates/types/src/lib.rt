@@ -25,7 +25,7 @@ pub use refusals::refusal::Refusal;
 pub use rounds::build::build;
 pub use shape::tags::{Shape, symbol_type, tag_shape};
 pub use tables::count::type_count;
-pub use tables::lent::{MemberTable, NameTable, TypeTable, no_members, no_names, no_types};
+pub use tables::lent::{MemberTable, NameTable, Tables, TypeTable, no_members, no_names, no_types};
 pub use tables::member::{Member, Span, StructDef, StructKind, Ty};
 pub use tables::rows::{member_at, name_at, type_at};
 pub use tables::there::is_there;

@@ -1,11 +1,11 @@
 -- The cases of `cases::replay_all` keep the tables, and no more differ than there were.
 use Rattle.std.proofs.Common.{◌≡◌, ◌≤◌, length}
-use Rattle.types.specs.tables.Kept.{Kept}
+use Rattle.types.specs.tables.Kept.{KeptTables}
 use Rattle.cases.proofs.replay_all.Given as goal
 
 abbrev pub invariant-loop-number : goal.invariant-loop-number
 invariant-loop-number l = record {
-  kept : Kept l.types l.members l.names;
+  kept : KeptTables l.tables;
   differ : l.different ≤ l.number;
   question : length l.question ≡ length l.initial.question;
   expected : length l.expected ≡ length l.initial.expected;

@@ -24,12 +24,13 @@ lowest_from ids k (suc m) = cond (in_use k ids) (lowest_from ids (k + 1) m) (Ok 
 unfoldable pub lowest_free : List ℕ → Result ℕ IdFault
 lowest_free ids = lowest_from ids 0x100 0xE00
 
--- a given id is outside 0x100..0xEFF (4) or in use (5); where none is given, none is free (6)
+-- the refusal's number of a fault
 abbrev pub id_number : IdFault → ℕ
 id_number OutsideRange = 4
 id_number InUse = 5
 id_number NoneFree = 6
 
+-- a given id is outside 0x100..0xEFF (4) or in use (5); where none is given, none is free (6)
 unfoldable pub id_for : List ℕ → Bool → ℕ → Result ℕ IdFault
 id_for ids given id =
     cond given (cond (leb 0x100 id && leb id 0xEFF) (cond (in_use id ids) (Err InUse) (Ok id)) (Err OutsideRange))

@@ -7,6 +7,7 @@ use Rattle.types.specs.rounds.Rounds.{accepted}
 use Rattle.types.specs.tables.Defs.{Def}
 use Rattle.types.specs.tables.Registry.{types_table, members_table, names_table}
 use Rattle.types.specs.declared.layout.predefined.PredefinedIds.{PredefinedIds}
+use Rattle.types.specs.declared.tables.lent.Tables.{Tables}
 
 -- a registry that our own calls can leave
 pub data Made (ds : List Def) : Type 0 where
@@ -21,6 +22,10 @@ pub record Kept (types members names : List ℕ) : Type 0 where
   pub rows : types ≡ types_table defs
   pub parts : members ≡ members_table defs
   pub bytes : names ≡ names_table defs
+
+-- the three of a program
+abbrev pub KeptTables : Tables → Type 0
+KeptTables t = Kept t.types t.members t.names
 
 -- tables that are kept beside others: for a call that is lent no names, no members, or neither
 pub record KeptRows (types members : List ℕ) : Type 0 where

@@ -15,7 +15,7 @@ use crate::book::contents::{TypeEntry, count_of, has_id, is_aoi, is_string};
 use crate::book::names::good_name;
 use crate::layout::placing::MOST_SIZE;
 use crate::refusals::refusal::Refusal;
-use crate::tables::lent::{MemberTable, NameTable, TypeTable};
+use crate::tables::lent::Tables;
 
 // The longest string: LEN takes four bytes.
 const MOST_STRING: u32 = MOST_SIZE as u32 - 4;
@@ -44,20 +44,18 @@ fn add_members(
     tys: &[u16],
     new: NewType,
     name: &[u8],
-    types: &mut TypeTable,
-    members: &mut MemberTable,
-    names: &mut NameTable,
+    tables: &mut Tables,
 ) -> Result<Used, Refusal>
-    requires { Addable types.old members.old names.old book.now tys.now name.now
+    requires { Addable tables.old.types tables.old.members tables.old.names book.now tys.now name.now
         new.used new.at new.count }
-    ensures { Took (add_members (view_in types.old names.old new.used) book.now
+    ensures { Took (add_members (view_in tables.old.types tables.old.names new.used) book.now
         new.number new.at new.count new.aoi name.now new.id
-        (decls_from types.old book.now tys.now new.at 0 new.count)) new.used
-        types.old members.old names.old
-        types.new members.new names.new result }
+        (decls_from tables.old.types book.now tys.now new.at 0 new.count)) new.used
+        tables.old.types tables.old.members tables.old.names
+        tables.new.types tables.new.members tables.new.names result }
 {
     check_members(book, new.at, new.count, new.aoi).map_err(|fault| fault.refusal(new.number))?;
-    add_laid(book, tys, new, name, types, members, names)
+    add_laid(book, tys, new, name, tables)
 }
 
 // A type with a name and an id: a string, or a type of members.
@@ -67,17 +65,15 @@ fn add_named(
     w: Waiting,
     id: u16,
     name: &[u8],
-    types: &mut TypeTable,
-    members: &mut MemberTable,
-    names: &mut NameTable,
+    tables: &mut Tables,
 ) -> Result<Used, Refusal>
-    requires { Addable types.old members.old names.old book.now tys.now name.now
+    requires { Addable tables.old.types tables.old.members tables.old.names book.now tys.now name.now
         w.used w.at w.entry.count }
-    ensures { Took (add_named (view_in types.old names.old w.used) book.now
+    ensures { Took (add_named (view_in tables.old.types tables.old.names w.used) book.now
         w.number w.at w.entry name.now id
-        (decls_from types.old book.now tys.now w.at 0 w.entry.count)) w.used
-        types.old members.old names.old
-        types.new members.new names.new result }
+        (decls_from tables.old.types book.now tys.now w.at 0 w.entry.count)) w.used
+        tables.old.types tables.old.members tables.old.names
+        tables.new.types tables.new.members tables.new.names result }
 {
     let new = NewType {
         number: w.number,
@@ -88,12 +84,12 @@ fn add_named(
         used: w.used,
     };
     if !is_string(w.entry) {
-        return add_members(book, tys, new, name, types, members, names);
+        return add_members(book, tys, new, name, tables);
     }
     if !string_ok(w.entry) {
         return Err(Refusal::StringWrong(w.number));
     }
-    add_string(new, w.entry.string, name, types, members, names)
+    add_string(new, w.entry.string, name, tables)
 }
 
 // A type of the book, with its name: the name is good and new, then it gets an id.
@@ -102,26 +98,24 @@ pub fn add_entry(
     tys: &[u16],
     w: Waiting,
     name: &[u8],
-    types: &mut TypeTable,
-    members: &mut MemberTable,
-    names: &mut NameTable,
+    tables: &mut Tables,
 ) -> Result<Used, Refusal>
-    requires { AddableEntry types.old members.old names.old book.now tys.now
+    requires { AddableEntry tables.old.types tables.old.members tables.old.names book.now tys.now
         w.used w.at w.entry.count }
-    ensures { Took (add_entry (view_in types.old names.old w.used) book.now
+    ensures { Took (add_entry (view_in tables.old.types tables.old.names w.used) book.now
         w.number w.at w.entry name.now
-        (decls_from types.old book.now tys.now w.at 0 w.entry.count)) w.used
-        types.old members.old names.old
-        types.new members.new names.new result }
+        (decls_from tables.old.types book.now tys.now w.at 0 w.entry.count)) w.used
+        tables.old.types tables.old.members tables.old.names
+        tables.new.types tables.new.members tables.new.names result }
 {
     if !good_name(name) {
         return Err(Refusal::NameOutsideRule(w.number));
     }
-    if lookup(types, names, w.used.types, name).is_some() {
+    if lookup(tables, w.used.types, name).is_some() {
         return Err(Refusal::NameKnown(w.number));
     }
-    let id = pick_id(types, w.used.types, has_id(w.entry), w.entry.id).map_err(
+    let id = pick_id(&tables.types, w.used.types, has_id(w.entry), w.entry.id).map_err(
         |fault| fault.refusal(w.number),
     )?;
-    add_named(book, tys, w, id, name, types, members, names)
+    add_named(book, tys, w, id, name, tables)
 }

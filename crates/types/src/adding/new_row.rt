@@ -10,24 +10,20 @@ ghost use Rattle.types.specs.templates.Handle.{handle_of};
 ghost use Rattle.types.specs.templates.Template.{template_in};
 
 use crate::adding::used::Used;
-use crate::tables::lent::{MemberTable, NameTable, TypeTable, put_type};
+use crate::tables::lent::{Tables, put_type};
 use crate::tables::member::{Span, StructDef, StructKind};
 use crate::templates::template::template_handle;
 
 // Stores a type's row, with the handle that its template gives; its members and names stand already.
-pub fn enter(
-    types: &mut TypeTable,
-    members: &MemberTable,
-    names: &NameTable,
-    i: usize,
-    head: StructDef,
-)
-    requires { (i < most_types) × Readable members.now head }
-    ensures { types.new ≡ sets types.old (8 * i) (type_row (with_handle head
-        (handle_of (template_in types.old members.now names.now head)))) }
+pub fn enter(tables: &mut Tables, i: usize, head: StructDef)
+    requires { (i < most_types) × Readable tables.old.members head }
+    ensures types { tables.new.types ≡ sets tables.old.types (8 * i) (type_row (with_handle head
+        (handle_of (template_in tables.old.types tables.old.members tables.old.names head)))) }
+    ensures members { tables.new.members ≡ tables.old.members }
+    ensures names { tables.new.names ≡ tables.old.names }
 {
-    let handle = template_handle(types, members, names, head);
-    put_type(types, i, StructDef { handle, ..head });
+    let handle = template_handle(tables, head);
+    put_type(&mut tables.types, i, StructDef { handle, ..head });
 }
 
 // The row of a type whose name and parts stand from the used rows and bytes on, still without its handle.

@@ -18,7 +18,7 @@ use crate::layout::fixed::{put_string, string_size};
 use crate::layout::measure::Measured;
 use crate::layout::udt::{measure_udt, rounded_size, store_udt};
 use crate::refusals::refusal::Refusal;
-use crate::tables::lent::{MemberTable, NameTable, TypeTable, put_bytes};
+use crate::tables::lent::{MemberTable, NameTable, Tables, TypeTable, put_bytes};
 use crate::tables::member::StructKind;
 
 // A type of the book that is added: its number there, where its members' entries begin, how many there are, whether it
@@ -97,19 +97,17 @@ pub fn add_laid(
     tys: &[u16],
     new: NewType,
     name: &[u8],
-    types: &mut TypeTable,
-    members: &mut MemberTable,
-    names: &mut NameTable,
+    tables: &mut Tables,
 ) -> Result<Used, Refusal>
-    requires { Addable types.old members.old names.old book.now tys.now name.now
+    requires { Addable tables.old.types tables.old.members tables.old.names book.now tys.now name.now
         new.used new.at new.count }
-    ensures { Took (add_laid (view_in types.old names.old new.used) book.now
+    ensures { Took (add_laid (view_in tables.old.types tables.old.names new.used) book.now
         new.number new.aoi name.now new.id
-        (decls_from types.old book.now tys.now new.at 0 new.count)) new.used
-        types.old members.old names.old
-        types.new members.new names.new result }
+        (decls_from tables.old.types book.now tys.now new.at 0 new.count)) new.used
+        tables.old.types tables.old.members tables.old.names
+        tables.new.types tables.new.members tables.new.names result }
 {
-    let (c, long) = measure_type(types, book, tys, new, name).map_err(|fault| fault.refusal(
+    let (c, long) = measure_type(&tables.types, book, tys, new, name).map_err(|fault| fault.refusal(
         new.number,
     ))?;
     let parts = c.members as usize;
@@ -117,8 +115,16 @@ pub fn add_laid(
     if !has_room(new.used, parts, bytes) {
         return Err(Refusal::TablesFull(new.number));
     }
-    put_bytes(names, new.used.bytes, name);
-    store_type(types, book, tys, new, name, members, names);
+    put_bytes(&mut tables.names, new.used.bytes, name);
+    store_type(
+        &tables.types,
+        book,
+        tys,
+        new,
+        name,
+        &mut tables.members,
+        &mut tables.names,
+    );
     let kind = laid_kind(new.aoi);
     let head = bare_head(
         new.used,
@@ -128,33 +134,32 @@ pub fn add_laid(
         kind,
         c.members,
     );
-    enter(types, members, names, new.used.types, head);
+    enter(tables, new.used.types, head);
     Ok(used_more(new.used, parts, bytes))
 }
 
 // The name, the parts and the row of a string type, the book's or STRING, after what is used; answers how much is used
 // then.
-pub fn store_string(
-    types: &mut TypeTable,
-    members: &mut MemberTable,
-    names: &mut NameTable,
-    u: Used,
-    id: u16,
-    name: &[u8],
-    capacity: u32,
-) -> Used
-    requires { Ready types.old members.old names.old u 2 (length name.now + 7) × (capacity ≤ most_size - 4) }
-    ensures { Took (yes (new_def (view_in types.old names.old u)
+pub fn store_string(tables: &mut Tables, u: Used, id: u16, name: &[u8], capacity: u32) -> Used
+    requires { Ready tables.old.types tables.old.members tables.old.names u 2 (length name.now + 7)
+        × (capacity ≤ most_size - 4) }
+    ensures { Took (yes (new_def (view_in tables.old.types tables.old.names u)
         name.now id (string_size capacity) Str (string_parts capacity))) u
-        types.old members.old names.old
-        types.new members.new names.new (Ok result) }
+        tables.old.types tables.old.members tables.old.names
+        tables.new.types tables.new.members tables.new.names (Ok result) }
 {
     let long = name.len();
     let size = string_size(capacity);
-    put_bytes(names, u.bytes, name);
-    put_string(members, u.members, names, u.bytes + long, capacity);
+    put_bytes(&mut tables.names, u.bytes, name);
+    put_string(
+        &mut tables.members,
+        u.members,
+        &mut tables.names,
+        u.bytes + long,
+        capacity,
+    );
     let head = bare_head(u, long, id, size, StructKind::Str, 2);
-    enter(types, members, names, u.types, head);
+    enter(tables, u.types, head);
     used_more(u, 2, long + 7)
 }
 
@@ -163,20 +168,18 @@ pub fn add_string(
     new: NewType,
     capacity: u32,
     name: &[u8],
-    types: &mut TypeTable,
-    members: &mut MemberTable,
-    names: &mut NameTable,
+    tables: &mut Tables,
 ) -> Result<Used, Refusal>
-    requires addable_string { AddableString types.old members.old names.old name.now new.used }
+    requires addable_string { AddableString tables.old.types tables.old.members tables.old.names name.now new.used }
     requires capacity_bound { capacity ≤ most_size - 4 }
-    ensures { Took (fitted (view_in types.old names.old new.used) new.number
-        (new_def (view_in types.old names.old new.used) name.now new.id
+    ensures { Took (fitted (view_in tables.old.types tables.old.names new.used) new.number
+        (new_def (view_in tables.old.types tables.old.names new.used) name.now new.id
         (string_size capacity) Str (string_parts capacity))) new.used
-        types.old members.old names.old
-        types.new members.new names.new result }
+        tables.old.types tables.old.members tables.old.names
+        tables.new.types tables.new.members tables.new.names result }
 {
     if !has_room(new.used, 2, name.len() + 7) {
         return Err(Refusal::TablesFull(new.number));
     }
-    Ok(store_string(types, members, names, new.used, new.id, name, capacity))
+    Ok(store_string(tables, new.used, new.id, name, capacity))
 }

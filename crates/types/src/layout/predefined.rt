@@ -14,7 +14,7 @@ use crate::adding::new_row::{bare_head, enter};
 use crate::adding::new_types::store_string;
 use crate::adding::used::{Used, used_more};
 use crate::layout::fixed::put_control;
-use crate::tables::lent::{MemberTable, NameTable, TypeTable, put_bytes};
+use crate::tables::lent::{Tables, put_bytes};
 use crate::tables::member::StructKind;
 
 // The ids that the caller gives for the four predefined types.
@@ -61,54 +61,51 @@ pub fn ids_ok(ids: PredefinedIds) -> bool
 
 // TIMER, COUNTER or CONTROL, after what is used: its name, those of its two words, and those of its status bits.
 fn put_control_def(
-    types: &mut TypeTable,
-    members: &mut MemberTable,
-    names: &mut NameTable,
+    tables: &mut Tables,
     u: Used,
     id: u16,
     name: &[u8],
     words: &[u8],
     bits: &[u8],
 ) -> Used
-    requires { ControlReady types.old members.old names.old u name.now words.now bits.now }
-    ensures { Took (yes (new_def (view_in types.old names.old u)
+    requires { ControlReady tables.old.types tables.old.members tables.old.names u name.now words.now bits.now }
+    ensures { Took (yes (new_def (view_in tables.old.types tables.old.names u)
         name.now id 12 Predefined (control_of words.now bits.now))) u
-        types.old members.old names.old
-        types.new members.new names.new (Ok result) }
+        tables.old.types tables.old.members tables.old.names
+        tables.new.types tables.new.members tables.new.names (Ok result) }
 {
     let long = name.len();
     let count = 3 + bits.len() / 2;
-    put_bytes(names, u.bytes, name);
-    put_control(members, u.members, names, u.bytes + long, words, bits);
+    put_bytes(&mut tables.names, u.bytes, name);
+    put_control(
+        &mut tables.members,
+        u.members,
+        &mut tables.names,
+        u.bytes + long,
+        words,
+        bits,
+    );
     let head = bare_head(u, long, id, 12, StructKind::Predefined, count as u32);
-    enter(types, members, names, u.types, head);
+    enter(tables, u.types, head);
     used_more(u, count, long + 9 + bits.len())
 }
 
 // All four, in tables of no types.
-pub fn put_predefined(
-    types: &mut TypeTable,
-    members: &mut MemberTable,
-    names: &mut NameTable,
-    ids: PredefinedIds,
-) -> Used
-    requires zeroed { (types.old ≡ no_types) × ((members.old ≡ no_members) × (names.old ≡ no_names)) }
+pub fn put_predefined(tables: &mut Tables, ids: PredefinedIds) -> Used
+    requires zeroed { (tables.old.types ≡ no_types)
+        × ((tables.old.members ≡ no_members) × (tables.old.names ≡ no_names)) }
     requires apart { predefined_ids ids ≡ true }
     ensures { Stands (predefined ids)
-        types.new members.new names.new result }
+        tables.new.types tables.new.members tables.new.names result }
 {
     let none = Used {
         types: 0,
         members: 0,
         bytes: 0,
     };
-    let one = put_control_def(
-        types, members, names, none, ids.timer, b"TIMER", b"PREACC", b"ENTTDN",
-    );
+    let one = put_control_def(tables, none, ids.timer, b"TIMER", b"PREACC", b"ENTTDN");
     let two = put_control_def(
-        types,
-        members,
-        names,
+        tables,
         one,
         ids.counter,
         b"COUNTER",
@@ -116,14 +113,12 @@ pub fn put_predefined(
         b"CUCDDNOVUN",
     );
     let three = put_control_def(
-        types,
-        members,
-        names,
+        tables,
         two,
         ids.control,
         b"CONTROL",
         b"LENPOS",
         b"ENEUDNEMERULINFD",
     );
-    store_string(types, members, names, three, ids.string, b"STRING", 82)
+    store_string(tables, three, ids.string, b"STRING", 82)
 }

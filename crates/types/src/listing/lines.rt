@@ -18,7 +18,7 @@ use crate::atomics::atomic::{Atomic, AtomicRow};
 use crate::layout::decimals::decimal_of;
 use crate::refusals::given::give;
 use crate::refusals::refusal::Refusal;
-use crate::tables::lent::{MemberTable, NameTable, TypeTable, member_row, name_row, type_row};
+use crate::tables::lent::{Tables, TypeTable, member_row, name_row, type_row};
 use crate::tables::member::{Member, Span, StructDef, Ty};
 use crate::tables::there::is_there;
 use crate::templates::template::template_bytes;
@@ -94,15 +94,21 @@ fn put_atomic(out: &mut [u8], at: usize, a: Atomic) -> usize
 }
 
 // A member's stored type.
-fn put_type_name(types: &TypeTable, names: &[u8], ty: Ty, out: &mut [u8], at: usize) -> usize
-    requires { TypeNamed types.now ty × ((length names.now ≡ most_names)
-        × FieldFits (with_stop (printed_type (struct_names types.now names.now) ty) 32) at out.old) }
-    ensures { FieldPut (with_stop (printed_type (struct_names types.now names.now) ty) 32) at
+fn put_type_name(tables: &Tables, ty: Ty, out: &mut [u8], at: usize) -> usize
+    requires { TypeNamed tables.now.types ty × ((length tables.now.names ≡ most_names)
+        × FieldFits (with_stop (printed_type (struct_names tables.now.types tables.now.names) ty) 32) at out.old) }
+    ensures { FieldPut (with_stop (printed_type (struct_names tables.now.types tables.now.names) ty) 32) at
         out.old result out.new }
 {
     match ty {
         Ty::Atomic(a) => put_atomic(out, at, a),
-        Ty::Struct(n) => put_name(out, at, names, type_row(types, n).name, b' '),
+        Ty::Struct(n) => put_name(
+            out,
+            at,
+            &tables.names,
+            type_row(&tables.types, n).name,
+            b' ',
+        ),
     }
 }
 
@@ -139,23 +145,17 @@ fn put_numbers(d: StructDef, bytes: u32, bits: u64, out: &mut [u8], at: usize) -
 }
 
 // The line of the structure in a row, in a buffer that is long enough; answers its length.
-fn type_line(
-    types: &TypeTable,
-    members: &MemberTable,
-    names: &NameTable,
-    i: usize,
-    out: &mut [u8],
-) -> usize
-    requires { (i < most_types) × (Listable types.now members.now (type_at types.now i)
+fn type_line(tables: &Tables, i: usize, out: &mut [u8]) -> usize
+    requires { (i < most_types) × (Listable tables.now.types tables.now.members (type_at tables.now.types i)
         × (512 ≤ length out.old)) }
-    ensures { Lined (type_line_in types.now members.now names.now
-        (type_at types.now i)) out.old result out.new }
+    ensures { Lined (type_line_in tables.now.types tables.now.members tables.now.names
+        (type_at tables.now.types i)) out.old result out.new }
 {
-    let d = type_row(types, i);
-    let bytes = template_bytes(types, members, names, d);
-    let bits = lost_bits(types, members, d);
+    let d = type_row(&tables.types, i);
+    let bytes = template_bytes(tables, d);
+    let bits = lost_bits(tables, d);
     let k1 = put_field(out, 0, b"type", b' ');
-    let k2 = put_name(out, k1, names, d.name, b' ');
+    let k2 = put_name(out, k1, &tables.names, d.name, b' ');
     put_numbers(d, bytes, bits, out, k2)
 }
 
@@ -173,27 +173,20 @@ fn put_place(m: Member, names: &[u8], name: Span, out: &mut [u8], at: usize) -> 
 }
 
 // The line of the k-th member of the structure in a row.
-fn member_line(
-    types: &TypeTable,
-    members: &MemberTable,
-    names: &NameTable,
-    i: usize,
-    k: usize,
-    out: &mut [u8],
-) -> usize
-    requires { (i < most_types) × (Listable types.now members.now (type_at types.now i)
-        × ((k < (type_at types.now i).count) × (512 ≤ length out.old))) }
-    ensures { Lined (member_line_in types.now members.now names.now
-        ((type_at types.now i).first + k) k) out.old result out.new }
+fn member_line(tables: &Tables, i: usize, k: usize, out: &mut [u8]) -> usize
+    requires { (i < most_types) × (Listable tables.now.types tables.now.members (type_at tables.now.types i)
+        × ((k < (type_at tables.now.types i).count) × (512 ≤ length out.old))) }
+    ensures { Lined (member_line_in tables.now.types tables.now.members tables.now.names
+        ((type_at tables.now.types i).first + k) k) out.old result out.new }
 {
-    let d = type_row(types, i);
+    let d = type_row(&tables.types, i);
     let row = d.first as usize + k;
-    let m = member_row(members, row);
-    let name = name_row(members, row);
+    let m = member_row(&tables.members, row);
+    let name = name_row(&tables.members, row);
     let k1 = put_number(out, 0, k as u64, b' ');
     let k2 = put_seen(out, k1, m.hidden);
-    let k3 = put_type_name(types, names, m.ty, out, k2);
-    put_place(m, names, name, out, k3)
+    let k3 = put_type_name(tables, m.ty, out, k2);
+    put_place(m, &tables.names, name, out, k3)
 }
 
 // The line of a refusal: its number and place.
@@ -207,23 +200,17 @@ fn refused_line(out: &mut [u8], number: u8, place: u32) -> usize
 }
 
 // The line of the type with a number, from the buffer's start on: its length; or 15 or 16, and nothing is written.
-pub fn put_type_line(
-    types: &TypeTable,
-    members: &MemberTable,
-    names: &NameTable,
-    i: usize,
-    out: &mut [u8],
-) -> Result<u32, Refusal>
-    requires { Kept types.now members.now names.now }
-    ensures { Given (has_template types.now (Ty.Struct i))
-        (type_line_in types.now members.now names.now (type_at types.now i))
+pub fn put_type_line(tables: &Tables, i: usize, out: &mut [u8]) -> Result<u32, Refusal>
+    requires { Kept tables.now.types tables.now.members tables.now.names }
+    ensures { Given (has_template tables.now.types (Ty.Struct i))
+        (type_line_in tables.now.types tables.now.members tables.now.names (type_at tables.now.types i))
         out.old result out.new }
 {
-    if !is_there(types, Ty::Struct(i)) {
+    if !is_there(&tables.types, Ty::Struct(i)) {
         return Err(Refusal::NoSuchType);
     }
     let mut text = [0u8; LINE];
-    let n = type_line(types, members, names, i, &mut text);
+    let n = type_line(tables, i, &mut text);
     give(&text[..n], out)
 }
 
@@ -235,24 +222,17 @@ fn has_member(types: &TypeTable, i: usize, k: usize) -> bool
 }
 
 // The line of the k-th member of the type with a number; or 15 or 16, and nothing is written.
-pub fn put_member_line(
-    types: &TypeTable,
-    members: &MemberTable,
-    names: &NameTable,
-    i: usize,
-    k: usize,
-    out: &mut [u8],
-) -> Result<u32, Refusal>
-    requires { Kept types.now members.now names.now }
-    ensures { Given (has_member types.now i k)
-        (member_line_in types.now members.now names.now
-        ((type_at types.now i).first + k) k) out.old result out.new }
+pub fn put_member_line(tables: &Tables, i: usize, k: usize, out: &mut [u8]) -> Result<u32, Refusal>
+    requires { Kept tables.now.types tables.now.members tables.now.names }
+    ensures { Given (has_member tables.now.types i k)
+        (member_line_in tables.now.types tables.now.members tables.now.names
+        ((type_at tables.now.types i).first + k) k) out.old result out.new }
 {
-    if !has_member(types, i, k) {
+    if !has_member(&tables.types, i, k) {
         return Err(Refusal::NoSuchType);
     }
     let mut text = [0u8; LINE];
-    let n = member_line(types, members, names, i, k, &mut text);
+    let n = member_line(tables, i, k, &mut text);
     give(&text[..n], out)
 }
 

@@ -10,18 +10,16 @@ use crate::book::contents::{book_ok, count_of};
 use crate::layout::predefined::{PredefinedIds, ids_ok, put_predefined};
 use crate::refusals::refusal::Refusal;
 use crate::rounds::round::one_round;
-use crate::tables::lent::{
-    MEMBER_WORDS, MEMBERS, MemberTable, NAME_BYTES, NameTable, TYPE_WORDS, TYPES, TypeTable,
-};
+use crate::tables::lent::{MEMBER_WORDS, MEMBERS, NAME_BYTES, TYPE_WORDS, TYPES, Tables};
 use words::Word;
 
 // Tables of no types.
-fn clear(types: &mut TypeTable, members: &mut MemberTable, names: &mut NameTable)
-    ensures { Cleared types.new members.new names.new }
+fn clear(tables: &mut Tables)
+    ensures { Cleared tables.new.types tables.new.members tables.new.names }
 {
-    *types = [0; TYPES * TYPE_WORDS];
-    *members = [0; MEMBERS * MEMBER_WORDS];
-    *names = [0; NAME_BYTES];
+    tables.types = [0; TYPES * TYPE_WORDS];
+    tables.members = [0; MEMBERS * MEMBER_WORDS];
+    tables.names = [0; NAME_BYTES];
 }
 
 // The first of t types that waits by its flag, 0 where none does.
@@ -42,35 +40,31 @@ fn run(
     book: &[u8],
     t: usize,
     ids: PredefinedIds,
-    types: &mut TypeTable,
-    members: &mut MemberTable,
-    names: &mut NameTable,
+    tables: &mut Tables,
     tys: &mut [u16],
     done: &mut [u8],
     stuck: &mut [u16],
     tried: &mut [u8],
 ) -> Result<u32, Refusal>
-    requires { RunIn book.now t ids types.old members.old names.old
+    requires { RunIn book.now t ids tables.old.types tables.old.members tables.old.names
         tys.old done.old stuck.old tried.old }
     ensures { Ended (rounds_from book.now (predefined ids))
-        types.new members.new names.new result }
+        tables.new.types tables.new.members tables.new.names result }
 {
-    let mut u = put_predefined(types, members, names, ids);
+    let mut u = put_predefined(tables, ids);
     let mut left = t;
     while 0 < left {
-        match one_round(
-            book, t, u, left, types, members, names, tys, done, stuck, tried,
-        ) {
+        match one_round(book, t, u, left, tables, tys, done, stuck, tried) {
             Ok((next, rest)) => {
                 if rest == left {
-                    clear(types, members, names);
+                    clear(tables);
                     return Err(Refusal::TypesUnknown(first_waiting(done, t) as u32));
                 }
                 u = next;
                 left = rest;
             }
             Err(x) => {
-                clear(types, members, names);
+                clear(tables);
                 return Err(x);
             }
         }
@@ -82,9 +76,7 @@ fn run(
 fn build_with(
     book: &[u8],
     ids: PredefinedIds,
-    types: &mut TypeTable,
-    members: &mut MemberTable,
-    names: &mut NameTable,
+    tables: &mut Tables,
     tys: &mut [u16],
     done: &mut [u8],
     stuck: &mut [u16],
@@ -92,9 +84,9 @@ fn build_with(
 ) -> Result<u32, Refusal>
     requires { Scratch book.now tys.old done.old stuck.old tried.old }
     ensures { Ended (build_of ids book.now)
-        types.new members.new names.new result }
+        tables.new.types tables.new.members tables.new.names result }
 {
-    clear(types, members, names);
+    clear(tables);
     if !ids_ok(ids) {
         return Err(Refusal::PredefinedIds);
     }
@@ -102,28 +94,26 @@ fn build_with(
         return Err(Refusal::BookMalformed);
     }
     let t = count_of(u16::load(book, 0));
-    run(book, t, ids, types, members, names, tys, done, stuck, tried)
+    run(book, t, ids, tables, tys, done, stuck, tried)
 }
 
 // The same with a scratch of its own, for a book of at most T types and M members.
 fn build_sized<const T: usize, const M: usize>(
     book: &[u8],
     ids: PredefinedIds,
-    types: &mut TypeTable,
-    members: &mut MemberTable,
-    names: &mut NameTable,
+    tables: &mut Tables,
 ) -> Result<u32, Refusal>
     requires sized { (T ≤ 65536) × (M ≤ 65536) }
     requires few { AtMost book.now T M }
     ensures { Ended (build_of ids book.now)
-        types.new members.new names.new result }
+        tables.new.types tables.new.members tables.new.names result }
 {
     let mut tys = [0u16; M];
     let mut done = [0u8; T];
     let mut stuck = [0u16; T];
     let mut tried = [0u8; T];
     build_with(
-        book, ids, types, members, names, &mut tys, &mut done, &mut stuck, &mut tried,
+        book, ids, tables, &mut tys, &mut done, &mut stuck, &mut tried,
     )
 }
 
@@ -139,19 +129,13 @@ fn is_small(book: &[u8]) -> bool
 
 // The registry of a book in the lent tables, after the predefined types under the given ids; with a scratch that is
 // enough for any book, or, for pace, a small one: that zeroes 5 KB where any other zeroes 384.
-pub fn build(
-    book: &[u8],
-    ids: PredefinedIds,
-    types: &mut TypeTable,
-    members: &mut MemberTable,
-    names: &mut NameTable,
-) -> Result<u32, Refusal>
+pub fn build(book: &[u8], ids: PredefinedIds, tables: &mut Tables) -> Result<u32, Refusal>
     ensures { Ended (build_of ids book.now)
-        types.new members.new names.new result }
+        tables.new.types tables.new.members tables.new.names result }
 {
     if is_small(book) {
-        build_sized::<256, 2048>(book, ids, types, members, names)
+        build_sized::<256, 2048>(book, ids, tables)
     } else {
-        build_sized::<65536, 65536>(book, ids, types, members, names)
+        build_sized::<65536, 65536>(book, ids, tables)
     }
 }

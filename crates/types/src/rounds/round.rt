@@ -5,7 +5,7 @@ use crate::adding::used::Used;
 use crate::book::contents::{count_of, type_entry};
 use crate::refusals::refusal::Refusal;
 use crate::rounds::turn::take_turn;
-use crate::tables::lent::{MemberTable, NameTable, TypeTable};
+use crate::tables::lent::Tables;
 
 // The turns of the types that wait, in book order: of the t types of a good book so many, with so much of the tables
 // used. Answers how much is used after the round, and how many types still wait.
@@ -14,19 +14,17 @@ pub fn one_round(
     t: usize,
     u: Used,
     left: usize,
-    types: &mut TypeTable,
-    members: &mut MemberTable,
-    names: &mut NameTable,
+    tables: &mut Tables,
     tys: &mut [u16],
     done: &mut [u8],
     stuck: &mut [u16],
     tried: &mut [u8],
 ) -> Result<(Used, usize), Refusal>
-    requires { RoundIn book.now t u left types.old members.old names.old
+    requires { RoundIn book.now t u left tables.old.types tables.old.members tables.old.names
         tys.old done.old stuck.old tried.old }
     ensures { RoundMade book.now t u
-        types.old members.old names.old done.old
-        types.new members.new names.new done.new
+        tables.old.types tables.old.members tables.old.names done.old
+        tables.new.types tables.new.members tables.new.names done.new
         stuck.new tried.new result }
 {
     let mut used = u;
@@ -34,7 +32,7 @@ pub fn one_round(
     let mut at = 4 + 16 * t;
     for i in 0..t {
         if done[i] == 0 {
-            let turn = take_turn(book, i, at, types, members, names, used, tys, stuck, tried)?;
+            let turn = take_turn(book, i, at, tables, used, tys, stuck, tried)?;
             if let Some(next) = turn {
                 used = next;
                 done[i] = 1;

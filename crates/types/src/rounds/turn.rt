@@ -15,7 +15,7 @@ use crate::adding::used::Used;
 use crate::book::contents::{count_of, type_entry};
 use crate::refusals::refusal::Refusal;
 use crate::rounds::resolve::{resolve, waits_still};
-use crate::tables::lent::{MemberTable, NameTable, TypeTable};
+use crate::tables::lent::Tables;
 
 // The turn of the i-th type of a book, whose members' entries begin at a place; so much of the tables is used. A type
 // that waited looks through the types that were added since, for the member whose type was not found.
@@ -23,35 +23,33 @@ pub fn take_turn(
     book: &[u8],
     i: usize,
     at: usize,
-    types: &mut TypeTable,
-    members: &mut MemberTable,
-    names: &mut NameTable,
+    tables: &mut Tables,
     u: Used,
     tys: &mut [u16],
     stuck: &mut [u16],
     tried: &mut [u8],
 ) -> Result<Option<Used>, Refusal>
-    requires { TurnIn types.old members.old names.old book.now tys.old stuck.old tried.old i at u }
-    ensures { (Turned (all_known has_name (row_names types.old names.old u.types)
+    requires { TurnIn tables.old.types tables.old.members tables.old.names book.now tys.old stuck.old tried.old i at u }
+    ensures { (Turned (all_known has_name (row_names tables.old.types tables.old.names u.types)
         (type_names book.now at 0 (count_of book.now i)))
-        (add_to (view_in types.old names.old u) book.now i at
-        (decls_of (view_in types.old names.old u) book.now
+        (add_to (view_in tables.old.types tables.old.names u) book.now i at
+        (decls_of (view_in tables.old.types tables.old.names u) book.now
         (entries_from book.now at 0 (count_of book.now i)))) u
-        types.old members.old names.old
-        types.new members.new names.new result)
-        × (Tries book.now (row_names types.old names.old u.types)
+        tables.old.types tables.old.members tables.old.names
+        tables.new.types tables.new.members tables.new.names result)
+        × (Tries book.now (row_names tables.old.types tables.old.names u.types)
         stuck.new tried.new) }
 {
     let known = u.types;
     let k = count_of(stuck[i]);
     let from = tried[i] as usize;
-    if waits_still(types, names, book, at, k, from, known) {
+    if waits_still(tables, book, at, k, from, known) {
         tried[i] = known as u8;
         return Ok(None);
     }
     let e = type_entry(book, i);
     let n = count_of(e.count);
-    let found = resolve(types, names, known, book, at, n, tys);
+    let found = resolve(tables, known, book, at, n, tys);
     if found < n {
         stuck[i] = found as u16;
         tried[i] = known as u8;
@@ -65,5 +63,5 @@ pub fn take_turn(
         at,
         used: u,
     };
-    add_entry(book, tys, w, &book[start..end], types, members, names).map(Some)
+    add_entry(book, tys, w, &book[start..end], tables).map(Some)
 }

@@ -25,8 +25,7 @@ pub const MEMBER_WORDS: usize = 8;
 
 pub const NAME_BYTES: usize = 32768;
 
-// Every call is lent the tables one by one, and lists of parameters are alike for it: the prover covers no struct that
-// holds references, and no reference to a struct of tables.
+// A call is lent the tables one by one, and only those that it needs.
 pub type TypeTable = [u32; TYPES * TYPE_WORDS];
 
 pub type MemberTable = [u32; MEMBERS * MEMBER_WORDS];
@@ -50,6 +49,29 @@ pub fn no_names() -> NameTable
     ensures { result ≡ no_names }
 {
     [0; NAME_BYTES]
+}
+
+// The three tables together, as a program holds them.
+#[derive(Drop)]
+pub struct Tables {
+    pub types: TypeTable,
+    pub members: MemberTable,
+    pub names: NameTable,
+}
+
+impl Tables {
+    // Tables of no types.
+    pub fn new() -> Tables
+        ensures types { result.types ≡ no_types }
+        ensures members { result.members ≡ no_members }
+        ensures names { result.names ≡ no_names }
+    {
+        Tables {
+            types: no_types(),
+            members: no_members(),
+            names: no_names(),
+        }
+    }
 }
 
 // The word of a type: an atomic's place among the fifteen, or 0x8000 plus a structure's number.

@@ -11,7 +11,7 @@ ghost use Rattle.types.specs.tables.Limits.{most_members};
 ghost use Rattle.types.specs.tables.TypeWord.{ids_in};
 ghost use Rattle.types.specs.templates.Template.{info_of, info_bytes, user_id, semicolon_n, padding, member_ids};
 
-use crate::tables::lent::{MemberTable, TypeTable, member_row, name_row};
+use crate::tables::lent::{Tables, member_row, name_row};
 use crate::tables::member::{Span, StructDef, StructKind};
 use crate::tables::type_word::type_in;
 use crate::templates::sink::{Sink, emit};
@@ -28,12 +28,12 @@ fn info_of(bit: Option<u8>, count: u32) -> u16
 }
 
 // The eight bytes of the member in a row.
-fn info(types: &TypeTable, members: &MemberTable, row: usize) -> [u8; 8]
-    requires { (row < most_members) × TyFits (member_at members.now row).ty }
-    ensures { result ≡ info_bytes (ids_in types.now) (member_at members.now row) }
+fn info(tables: &Tables, row: usize) -> [u8; 8]
+    requires { (row < most_members) × TyFits (member_at tables.now.members row).ty }
+    ensures { result ≡ info_bytes (ids_in tables.now.types) (member_at tables.now.members row) }
 {
-    let m = member_row(members, row);
-    let word = type_in(types, m.ty);
+    let m = member_row(&tables.members, row);
+    let word = type_in(&tables.types, m.ty);
     let mut bytes = [0u8; 8];
     info_of(m.bit, m.count).store(&mut bytes, 0);
     ((word % 0x1_0000) as u16).store(&mut bytes, 2);
@@ -42,21 +42,15 @@ fn info(types: &TypeTable, members: &MemberTable, row: usize) -> [u8; 8]
 }
 
 // The infos of a structure's members.
-pub fn emit_infos(
-    types: &TypeTable,
-    members: &MemberTable,
-    d: StructDef,
-    sink: Sink,
-    out: &mut [u8],
-) -> Sink
-    requires { Readable members.now d × SinkRoom (infos_in types.now members.now d) sink out.old }
-    ensures { Emitted (infos_in types.now members.now d)
+pub fn emit_infos(tables: &Tables, d: StructDef, sink: Sink, out: &mut [u8]) -> Sink
+    requires { Readable tables.now.members d × SinkRoom (infos_in tables.now.types tables.now.members d) sink out.old }
+    ensures { Emitted (infos_in tables.now.types tables.now.members d)
         sink out.old result out.new }
 {
     let first = d.first as usize;
     let mut k = sink;
     for row in first..first + d.count as usize {
-        k = emit(&info(types, members, row), k, out);
+        k = emit(&info(tables, row), k, out);
     }
     k
 }
@@ -105,21 +99,16 @@ pub fn emit_shown(names: &[u8], d: StructDef, sink: Sink, out: &mut [u8]) -> Sin
 }
 
 // Each member's name and 0.
-pub fn emit_names(
-    members: &MemberTable,
-    names: &[u8],
-    d: StructDef,
-    sink: Sink,
-    out: &mut [u8],
-) -> Sink
-    requires { Emittable members.now names.now d (names_in members.now names.now d) sink out.old }
-    ensures { Emitted (names_in members.now names.now d)
+pub fn emit_names(tables: &Tables, d: StructDef, sink: Sink, out: &mut [u8]) -> Sink
+    requires { Emittable tables.now.members tables.now.names d (names_in tables.now.members tables.now.names d) sink
+        out.old }
+    ensures { Emitted (names_in tables.now.members tables.now.names d)
         sink out.old result out.new }
 {
     let first = d.first as usize;
     let mut k = sink;
     for row in first..first + d.count as usize {
-        k = emit_name(names, name_row(members, row), k, out);
+        k = emit_name(&tables.names, name_row(&tables.members, row), k, out);
         k = emit(b"\0", k, out);
     }
     k

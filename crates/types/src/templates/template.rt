@@ -14,7 +14,7 @@ ghost use Rattle.types.specs.templates.Template.{has_template, object_size, temp
 ghost use Rattle.types.specs.templates.Template.{template_length};
 
 use crate::refusals::refusal::Refusal;
-use crate::tables::lent::{MemberTable, NameTable, TypeTable, type_row};
+use crate::tables::lent::{Tables, TypeTable, type_row};
 use crate::tables::member::{StructDef, Ty};
 use crate::tables::there::is_there;
 use crate::templates::handle::{START, finish_handle};
@@ -24,40 +24,28 @@ use crate::templates::pieces::{
 use crate::templates::sink::{Sink, emit};
 
 // What every template has.
-fn emit_front(
-    types: &TypeTable,
-    members: &MemberTable,
-    names: &[u8],
-    d: StructDef,
-    sink: Sink,
-    out: &mut [u8],
-) -> Sink
-    requires { Emittable members.now names.now d (front_in types.now members.now names.now d)
+fn emit_front(tables: &Tables, d: StructDef, sink: Sink, out: &mut [u8]) -> Sink
+    requires { Emittable tables.now.members tables.now.names d
+        (front_in tables.now.types tables.now.members tables.now.names d)
         sink out.old }
-    ensures { Emitted (front_in types.now members.now names.now d)
+    ensures { Emitted (front_in tables.now.types tables.now.members tables.now.names d)
         sink out.old result out.new }
 {
-    let k1 = emit_infos(types, members, d, sink, out);
-    let k2 = emit_shown(names, d, k1, out);
+    let k1 = emit_infos(tables, d, sink, out);
+    let k2 = emit_shown(&tables.names, d, k1, out);
     let k3 = emit(b"\0", k2, out);
-    emit_names(members, names, d, k3, out)
+    emit_names(tables, d, k3, out)
 }
 
 // The whole template, for ids 0x100..0xEFF with padding and member ids.
-fn walk(
-    types: &TypeTable,
-    members: &MemberTable,
-    names: &[u8],
-    d: StructDef,
-    sink: Sink,
-    out: &mut [u8],
-) -> Sink
+fn walk(tables: &Tables, d: StructDef, sink: Sink, out: &mut [u8]) -> Sink
     requires { (sink.at ≡ 0)
-        × Emittable members.now names.now d (template_in types.now members.now names.now d) sink out.old }
-    ensures { Emitted (template_in types.now members.now names.now d)
+        × Emittable tables.now.members tables.now.names d (template_in tables.now.types tables.now.members
+        tables.now.names d) sink out.old }
+    ensures { Emitted (template_in tables.now.types tables.now.members tables.now.names d)
         sink out.old result out.new }
 {
-    let k1 = emit_front(types, members, names, d, sink, out);
+    let k1 = emit_front(tables, d, sink, out);
     if user_id(d.id) {
         let k2 = emit_padding(k1, out);
         emit_ids(d.count, k2, out)
@@ -67,9 +55,9 @@ fn walk(
 }
 
 // The walk that stores nothing.
-fn measure(types: &TypeTable, members: &MemberTable, names: &NameTable, d: StructDef) -> Sink
-    requires { Readable members.now d }
-    ensures { EmittedAll (template_in types.now members.now names.now d) result }
+fn measure(tables: &Tables, d: StructDef) -> Sink
+    requires { Readable tables.now.members d }
+    ensures { EmittedAll (template_in tables.now.types tables.now.members tables.now.names d) result }
 {
     let mut none = [0u8; 1];
     let start = Sink {
@@ -77,54 +65,38 @@ fn measure(types: &TypeTable, members: &MemberTable, names: &NameTable, d: Struc
         fold: START,
         writes: false,
     };
-    walk(types, members, names, d, start, &mut none)
+    walk(tables, d, start, &mut none)
 }
 
 // How many bytes a structure's template has.
-pub fn template_bytes(
-    types: &TypeTable,
-    members: &MemberTable,
-    names: &NameTable,
-    d: StructDef,
-) -> u32
-    requires { Readable members.now d }
-    ensures { result ≡ length (template_in types.now members.now names.now d) }
+pub fn template_bytes(tables: &Tables, d: StructDef) -> u32
+    requires { Readable tables.now.members d }
+    ensures { result ≡ length (template_in tables.now.types tables.now.members tables.now.names d) }
 {
-    measure(types, members, names, d).at as u32
+    measure(tables, d).at as u32
 }
 
 // The handle of a structure's template.
-pub fn template_handle(
-    types: &TypeTable,
-    members: &MemberTable,
-    names: &NameTable,
-    d: StructDef,
-) -> u16
-    requires { Readable members.now d }
-    ensures { result ≡ handle_of (template_in types.now members.now names.now d) }
+pub fn template_handle(tables: &Tables, d: StructDef) -> u16
+    requires { Readable tables.now.members d }
+    ensures { result ≡ handle_of (template_in tables.now.types tables.now.members tables.now.names d) }
 {
-    finish_handle(measure(types, members, names, d).fold)
+    finish_handle(measure(tables, d).fold)
 }
 
 // Stores a structure's template; the bytes past it are kept.
-pub fn write_template(
-    types: &TypeTable,
-    members: &MemberTable,
-    names: &NameTable,
-    d: StructDef,
-    out: &mut [u8],
-)
-    requires { Readable members.now d
-        × (length (template_in types.now members.now names.now d) ≤ length out.old) }
+pub fn write_template(tables: &Tables, d: StructDef, out: &mut [u8])
+    requires { Readable tables.now.members d
+        × (length (template_in tables.now.types tables.now.members tables.now.names d) ≤ length out.old) }
     ensures { out.new
-        ≡ sets out.old 0 (template_in types.now members.now names.now d) }
+        ≡ sets out.old 0 (template_in tables.now.types tables.now.members tables.now.names d) }
 {
     let start = Sink {
         at: 0,
         fold: START,
         writes: true,
     };
-    walk(types, members, names, d, start, out);
+    walk(tables, d, start, out);
 }
 
 // The structure with a number; or 15.
@@ -140,17 +112,12 @@ pub fn struct_there(types: &TypeTable, n: usize) -> Result<StructDef, Refusal>
 }
 
 // The length of the template of the structure with a number; or 15.
-pub fn template_len(
-    types: &TypeTable,
-    members: &MemberTable,
-    names: &NameTable,
-    n: usize,
-) -> Result<u32, Refusal>
-    requires { Kept types.now members.now names.now }
-    ensures { said_by result ≡ template_length types.now members.now names.now n }
+pub fn template_len(tables: &Tables, n: usize) -> Result<u32, Refusal>
+    requires { Kept tables.now.types tables.now.members tables.now.names }
+    ensures { said_by result ≡ template_length tables.now.types tables.now.members tables.now.names n }
 {
-    let d = struct_there(types, n)?;
-    Ok(template_bytes(types, members, names, d))
+    let d = struct_there(&tables.types, n)?;
+    Ok(template_bytes(tables, d))
 }
 
 // The object definition size of a template of n bytes.
@@ -161,26 +128,20 @@ pub fn object_definition_size(n: u32) -> u32
 }
 
 // The template of a type, stored from the buffer's start on: its length; or a refusal, and nothing stored.
-pub fn template(
-    types: &TypeTable,
-    members: &MemberTable,
-    names: &NameTable,
-    ty: Ty,
-    out: &mut [u8],
-) -> Result<u32, Refusal>
-    requires { Kept types.now members.now names.now }
-    ensures { Given (has_template types.now ty)
-        (template_for types.now members.now names.now ty)
+pub fn template(tables: &Tables, ty: Ty, out: &mut [u8]) -> Result<u32, Refusal>
+    requires { Kept tables.now.types tables.now.members tables.now.names }
+    ensures { Given (has_template tables.now.types ty)
+        (template_for tables.now.types tables.now.members tables.now.names ty)
         out.old result out.new }
 {
     let Ty::Struct(n) = ty else {
         return Err(Refusal::NoSuchType);
     };
-    let d = struct_there(types, n)?;
-    let long = template_bytes(types, members, names, d);
+    let d = struct_there(&tables.types, n)?;
+    let long = template_bytes(tables, d);
     if out.len() < long as usize {
         return Err(Refusal::NoRoom);
     }
-    write_template(types, members, names, d, out);
+    write_template(tables, d, out);
     Ok(long)
 }

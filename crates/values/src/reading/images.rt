@@ -9,7 +9,7 @@ ghost use Rattle.values.specs.inside.reading.Images.{said_of_image};
 use crate::reading::rows::{struct_size, times_of};
 use types::{Refusal, Ty, TypeTable, is_there};
 
-// The bytes of a type; those of an atomic without its table, for pace.
+// The bytes of a type.
 fn size_of_ty(types: &TypeTable, ty: Ty) -> usize
     requires { TyFits ty }
     ensures { result ≡ size_in (sizes_in types.now) ty }

@@ -18,22 +18,25 @@ use Rattle.types.proofs.adding.add.add_entry.Goals.{After-lookup, After-pick_id,
 -- what was looked up is the definition's
 looked : (c : After-lookup)
     → c.lookup.result
-    ≡ type_among (view_in c.args.types.now c.args.names.now c.args.w.used).names c.args.name.now
+    ≡ type_among (view_in c.args.tables.now.types c.args.tables.now.names c.args.w.used).names c.args.name.now
 unfolding view_in
 looked c = c.lookup.ensures
 
 -- the id that was picked is the definition's
 picked_id : (c : After-pick_id)
     → c.pick_id.result
-    ≡ id_for (view_in c.args.types.now c.args.names.now c.args.w.used).ids (has_id c.args.w.entry) c.args.w.entry.id
+    ≡ id_for (view_in c.args.tables.now.types c.args.tables.now.names c.args.w.used).ids (has_id c.args.w.entry)
+    c.args.w.entry.id
 unfolding view_in
 picked_id c = c.pick_id.ensures ∙ rw c.has_id.ensures
 
 -- a good name that is new: what is left is its id
 is_new : (c : Else-is_some) (ds : List Decl)
-    → add_entry (view_in c.args.types.now c.args.names.now c.args.w.used) c.args.book.now c.args.w.number c.args.w.at
+    → add_entry (view_in c.args.tables.now.types c.args.tables.now.names c.args.w.used) c.args.book.now c.args.w.number
+    c.args.w.at
     c.args.w.entry c.args.name.now ds
-    ≡ add_fresh (view_in c.args.types.now c.args.names.now c.args.w.used) c.args.book.now c.args.w.number c.args.w.at
+    ≡ add_fresh (view_in c.args.tables.now.types c.args.tables.now.names c.args.w.used) c.args.book.now c.args.w.number
+    c.args.w.at
     c.args.w.entry c.args.name.now ds
 is_new c ds =
     entry_fresh _ _ _ _ _ _ _ _ c.good_name.ensures c.if-not-good_name.false _

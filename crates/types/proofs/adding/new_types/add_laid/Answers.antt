@@ -19,7 +19,7 @@ use Rattle.types.proofs.adding.new_types.add_laid.Goals.{After-has_room, Else-no
 laid : (c : After-has_room)
     → came c.in_ok-c.c c.in_ok-c.long
     ≡ measured_of c.args.new.aoi c.args.name.now
-    (decls_from c.args.types.now c.args.book.now c.args.tys.now c.args.new.at 0 c.args.new.count)
+    (decls_from c.args.tables.now.types c.args.book.now c.args.tys.now c.args.new.at 0 c.args.new.count)
 laid c = sym (mapped_ok _ c.map_err.ensures.cases c.in_ok-c.was) ∙ c.measure_type.ensures
 
 room : (c : After-has_room)
@@ -31,7 +31,7 @@ room c = c.has_room.ensures
 counted : (c : After-has_room) → Bytes c.args.book.now
     → PartsCounted c.args.name.now
     (parts_of c.args.new.aoi (named_in c.args.book.now) c.args.name.now
-    (decls_from c.args.types.now c.args.book.now c.args.tys.now c.args.new.at 0 c.args.new.count))
+    (decls_from c.args.tables.now.types c.args.book.now c.args.tys.now c.args.new.at 0 c.args.new.count))
     c.args.new.used.types c.in_ok-c.c.members (length c.args.name.now + c.in_ok-c.long)
 counted c b = laid_counted c.args.new c.requires.usable c.requires.declared _ (laid c) b
 
@@ -53,7 +53,7 @@ returns-then-not-has_room c =
     let s = goal.at.returns-then-not-has_room c in
     let a = c.args in
     took_so (laid_fitted _ _ _ a.new _ (laid s.After-has_room))
-    (stored_full a.types.now a.members.now a.names.now a.new.used
+    (stored_full a.tables.now.types a.tables.now.members a.tables.now.names a.new.used
     (counted s.After-has_room (λ k. (c.type_inv.book k).fits)) _ _ _ (room s.After-has_room) _
     c.if-not-has_room.true)
 
@@ -76,7 +76,7 @@ enter-requires c =
     let a = c.args in (
       (fits s.Else-not-has_room).types,
       rw (c.bare_head-head.ensures, c.rounded_size.ensures, c.laid_kind-kind.ensures, c.store_type.ensures.rows)
-          (stored_readable a.types.now a.members.now a.names.now a.new.used
+          (stored_readable a.tables.now.types a.tables.now.members a.tables.now.names a.new.used
           (counted s.After-has_room (λ k. (c.type_inv.book k).fits)) _ _ _ (room s.After-has_room)
           c.if-not-has_room.false c.requires.usable c.requires.rows),
     )
@@ -93,8 +93,15 @@ returns c =
     took_used
     c.used_more.ensures
     (took_so (laid_fitted _ _ _ a.new _ (laid s.After-has_room))
-    (stored_took a.types.now a.members.now a.names.now a.new.used
+    (stored_took a.tables.now.types a.tables.now.members a.tables.now.names a.new.used
     (counted s.After-has_room (λ k. (c.type_inv.book k).fits)) _ _ _ (room s.After-has_room)
-    c.if-not-has_room.false c.requires.usable c.requires.rows _ c.requires.bytes c.store_type.ensures.rows
-    (c.store_type.ensures.names ∙ rw c.put_bytes.ensures)
-    (c.enter.ensures ∙ rw (c.bare_head-head.ensures, c.rounded_size.ensures, c.laid_kind-kind.ensures))))
+    c.if-not-has_room.false c.requires.usable c.requires.rows _ c.requires.bytes
+    (c.enter.ensures.members ∙ c.store_type.ensures.rows)
+    (c.enter.ensures.names ∙ (c.store_type.ensures.names ∙ rw c.put_bytes.ensures))
+    (c.enter.ensures.types ∙ rw (
+      c.bare_head-head.ensures,
+      c.rounded_size.ensures,
+      c.laid_kind-kind.ensures,
+      c.enter.ensures.members,
+      c.enter.ensures.names,
+    ))))

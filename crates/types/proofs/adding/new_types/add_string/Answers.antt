@@ -6,7 +6,7 @@ use Rattle.types.proofs.adding.new_types.add_string.Goals as goal
 
 pub returns-then-not-has_room : goal.returns-then-not-has_room
 returns-then-not-has_room c =
-    stored_full c.args.types.now c.args.members.now c.args.names.now c.args.new.used
+    stored_full c.args.tables.now.types c.args.tables.now.members c.args.tables.now.names c.args.new.used
     (string_counted c.args.name.now c.args.capacity _) _ _ _ c.has_room.ensures _ c.if-not-has_room.true
 
 pub store_string-requires : goal.store_string-requires
@@ -26,6 +26,6 @@ store_string-requires c =
 pub returns : goal.returns
 returns c =
     took_so
-    (stored_yes c.args.types.now c.args.members.now c.args.names.now c.args.new.used
+    (stored_yes c.args.tables.now.types c.args.tables.now.members c.args.tables.now.names c.args.new.used
     (string_counted c.args.name.now c.args.capacity _) _ _ _ c.has_room.ensures c.if-not-has_room.false _)
     c.store_string.ensures

@@ -9,12 +9,16 @@ pub enter-requires : goal.enter-requires
 enter-requires c = (
   c.requires.ready.few,
   rw (c.put_control.ensures.rows, c.bare_head-head.ensures)
-      (new_readable c.args.types.now c.args.members.now c.args.names.now c.args.u (control_counted c.requires _)
+      (new_readable c.args.tables.now.types c.args.tables.now.members c.args.tables.now.names c.args.u
+      (control_counted c.requires _)
       c.args.id 12 Predefined c.requires.ready),
 )
 
 pub returns : goal.returns
 returns c =
-    new_took c.args.types.now c.args.members.now c.args.names.now c.args.u (control_counted c.requires _) c.args.id 12
-    Predefined c.requires.ready c.put_control.ensures.rows (c.put_control.ensures.names ∙ rw c.put_bytes.ensures)
-    (c.enter.ensures ∙ rw c.bare_head-head.ensures) c.used_more.ensures
+    new_took c.args.tables.now.types c.args.tables.now.members c.args.tables.now.names c.args.u
+    (control_counted c.requires _) c.args.id 12
+    Predefined c.requires.ready (c.enter.ensures.members ∙ c.put_control.ensures.rows)
+    (c.enter.ensures.names ∙ (c.put_control.ensures.names ∙ rw c.put_bytes.ensures))
+    (c.enter.ensures.types ∙ rw (c.bare_head-head.ensures, c.enter.ensures.members, c.enter.ensures.names))
+    c.used_more.ensures

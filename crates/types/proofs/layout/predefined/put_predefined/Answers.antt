@@ -14,14 +14,14 @@ use Rattle.types.proofs.layout.predefined.put_predefined.Goals.{After-put_contro
 -- what stands after each call
 one : (c : After-put_control_def-one)
     → let f = c.put_control_def-one in
-    Stands (with_timer c.args.ids) f.new.types f.new.members f.new.names f.result
+    Stands (with_timer c.args.ids) f.new.tables.types f.new.tables.members f.new.tables.names f.result
 one c =
     let p = c.requires.zeroed in
     timer_stands _ (none_stands p.0 p.1.0 p.1.1) c.put_control_def-one.ensures
 
 two : (c : After-put_control_def-two)
     → let f = c.put_control_def-two in
-    Stands (with_counter c.args.ids) f.new.types f.new.members f.new.names f.result
+    Stands (with_counter c.args.ids) f.new.tables.types f.new.tables.members f.new.tables.names f.result
 two c =
     let p = c.requires.zeroed in
     counter_stands _ (ids_allowed _ c.requires.apart)
@@ -29,7 +29,7 @@ two c =
 
 three : (c : After-put_control_def-three)
     → let f = c.put_control_def-three in
-    Stands (with_control c.args.ids) f.new.types f.new.members f.new.names f.result
+    Stands (with_control c.args.ids) f.new.tables.types f.new.tables.members f.new.tables.names f.result
 three c =
     let p = c.requires.zeroed in
     let good = ids_allowed _ c.requires.apart in

@@ -11,9 +11,10 @@ use Rattle.types.proofs.listing.lines.member_line.Goals.{After-name_row-name}
 
 -- the fields as the code has them
 abbrev fields : After-name_row-name → List (List ℕ)
-fields c = member_fields c.args.types.now c.args.names.now c.args.k c.member_row-m.result c.name_row-name.result
+fields c =
+    member_fields c.args.tables.now.types c.args.tables.now.names c.args.k c.member_row-m.result c.name_row-name.result
 
-named : (c : After-name_row-name) → TypeNamed c.args.types.now c.member_row-m.result.ty
+named : (c : After-name_row-name) → TypeNamed c.args.tables.now.types c.member_row-m.result.ty
 named c =
     row_named c.type_row-d.ensures refl c.requires.1.1.0 c.requires.1.0 c.member_row-m.ensures
 
@@ -22,7 +23,7 @@ short c = row_short c.type_row-d.ensures refl c.requires.1.1.0 c.requires.1.0 c.
 
 all : (c : After-name_row-name) → FieldsLeft (line (fields c)) 0 c.args.out.now (fields c) 0 c.args.out.now
 all c =
-    row_left c.type_row-d.ensures refl c.requires.1.1.0 c.requires.1.0 c.args.names.now
+    row_left c.type_row-d.ensures refl c.requires.1.1.0 c.requires.1.0 c.args.tables.now.names
     c.member_row-m.ensures c.name_row-name.ensures c.requires.1.1.1
 
 pub put_number-k1-requires : goal.put_number-k1-requires
@@ -42,7 +43,7 @@ pub put_place-requires : goal.put_place-requires
 put_place-requires c =
     let w = (goal.at.put_place-requires c).After-name_row-name in
     let l2 = left_on (left_on (all w) c.put_number-k1.ensures) c.put_seen-k2.ensures in
-    let long : length c.args.names.now ≡ most_names = search rules in
+    let long : length c.args.tables.now.names ≡ most_names = search rules in
     (rw long (short w).inside, (left_on l2 c.put_type_name-k3.ensures).fits)
 
 pub returns : goal.returns
@@ -52,5 +53,5 @@ returns c =
     let l3 = left_on l2 c.put_type_name-k3.ensures in
     let row = row_same c.type_row-d.ensures refl c.requires.1.1.0 c.requires.1.0 in
     rw (← row, ← c.member_row-m.ensures, ← c.name_row-name.ensures)
-    (member_lined c.args.types.now c.args.names.now c.args.k c.member_row-m.result c.name_row-name.result
+    (member_lined c.args.tables.now.types c.args.tables.now.names c.args.k c.member_row-m.result c.name_row-name.result
     (all w) (l3.then _ _ c.put_place.ensures))

@@ -11,7 +11,7 @@ use Rattle.types.proofs.listing.lines.put_member_line.Goals.{Else-not-has_member
 -- the test was passed
 there : (c : Else-not-has_member)
     → let a = c.args in
-    has_member a.types.now a.i a.k ≡ true
+    has_member a.tables.now.types a.i a.k ≡ true
 there c = sym c.has_member.ensures ∙ c.if-not-has_member.false
 
 pub member_line-n-requires : goal.member_line-n-requires

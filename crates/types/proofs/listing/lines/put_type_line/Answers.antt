@@ -12,7 +12,7 @@ use Rattle.types.proofs.listing.lines.put_type_line.Goals.{Else-not-is_there}
 -- the test was passed
 there : (c : Else-not-is_there)
     → let a = c.args in
-    has_template a.types.now (Struct a.i) ≡ true
+    has_template a.tables.now.types (Struct a.i) ≡ true
 there c = sym c.is_there.ensures ∙ c.if-not-is_there.false
 
 pub type_line-n-requires : goal.type_line-n-requires

@@ -11,7 +11,8 @@ use Rattle.types.proofs.rounds.build.run.Goals.{At-loop-left}
 -- the rounds began with the predefined types
 going : (c : At-loop-left)
     → Going c.args.book.now (predefined c.args.ids) c.args.t c.args.tys.now c.args.done.now c.args.stuck.now
-    c.args.tried.now c.loop-left.types c.loop-left.members c.loop-left.names c.loop-left.tys c.loop-left.done
+    c.args.tried.now c.loop-left.tables.types c.loop-left.tables.members c.loop-left.tables.names c.loop-left.tys
+    c.loop-left.done
     c.loop-left.stuck c.loop-left.tried c.loop-left.u c.loop-left.left
 going c = c.loop-left.invariant _ (first _ c.requires.allowed) c.put_predefined-u.ensures
 

@@ -11,7 +11,7 @@ use Rattle.types.proofs.tables.DefLaws.{earlier_fits, lent_name}
 -- what was looked up is the entry's type name
 looked : (c : After-lookup)
     → c.lookup.result
-    ≡ type_among (row_names c.args.types.now c.args.names.now c.args.known)
+    ≡ type_among (row_names c.args.tables.now.types c.args.tables.now.names c.args.known)
     (type_name c.args.book.now c.args.at c.loop-j.j)
 looked c = c.lookup.ensures ∙ rw (lent_name c.args.book.now c.entry_at.result.ty refl refl, c.entry_at.ensures)
 
@@ -19,8 +19,9 @@ pub word_of-requires : goal.word_of-requires
 word_of-requires c =
     let found = looked (goal.at.word_of-requires c).After-lookup in
     earlier_fits c.args.known c.requires.rows.few c.in-Some.ty
-    (rw (length_list (row_name c.args.types.now c.args.names.now) 0 c.args.known)
-    at (found_earlier (row_names c.args.types.now c.args.names.now c.args.known) _ _ (sym found ∙ c.in-Some.is)))
+    (rw (length_list (row_name c.args.tables.now.types c.args.tables.now.names) 0 c.args.known)
+    at (found_earlier (row_names c.args.tables.now.types c.args.tables.now.names c.args.known) _ _
+    (sym found ∙ c.in-Some.is)))
 
 pub returns-in_default : goal.returns-in_default
 returns-in_default c =

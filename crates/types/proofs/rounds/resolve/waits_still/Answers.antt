@@ -11,12 +11,12 @@ pub returns : goal.returns
 returns c q =
     let a = c.args in
     let looked : c.find_type.result
-    ≡ named_among (list_from (row_name a.types.now a.names.now) a.from (a.n - a.from))
+    ≡ named_among (list_from (row_name a.tables.now.types a.tables.now.names) a.from (a.n - a.from))
     (type_name a.book.now a.at a.k) a.from =
     c.find_type.ensures ∙ rw (lent_name a.book.now c.entry_at.result.ty refl refl, c.entry_at.ensures) in
     let none : c.find_type.result ≡ None = grind arith in
     record {
       past = c.if-from-eq0.false;
-      missing = unseen_none (row_name a.types.now a.names.now) (type_name a.book.now a.at a.k) a.from a.n
+      missing = unseen_none (row_name a.tables.now.types a.tables.now.names) (type_name a.book.now a.at a.k) a.from a.n
           (c.requires.unseen c.if-from-eq0.false) (sym looked ∙ none);
     }

@@ -42,15 +42,15 @@ loop-i-preserved c =
     rw n
     (elim c.if-done-i-eq0.branch [
       | then-done-i-eq0+in_ok-turn+in-Some w ↦
-          rw (w.types-is, w.members-is, w.names-is, w.tys-is, w.done-is, w.stuck-is, w.tried-is, w.used-is, w.rest-is)
+          rw (w.tables-is, w.tys-is, w.done-is, w.stuck-is, w.tried-is, w.used-is, w.rest-is)
           (within_yes v l w.take_turn.ensures.0 w.if-done-i-eq0.true w.take_turn.auto.tys w.take_turn.auto.stuck
           w.take_turn.auto.tried w.take_turn.ensures.1 _ (w.in_ok-turn.was ∙ ap Ok w.in-Some.is))
       | then-done-i-eq0+in_ok-turn+in_default w ↦
-          rw (w.types-is, w.members-is, w.names-is, w.tys-is, w.done-is, w.stuck-is, w.tried-is, w.used-is, w.rest-is)
+          rw (w.tables-is, w.tys-is, w.done-is, w.stuck-is, w.tried-is, w.used-is, w.rest-is)
           (within_wait v l w.take_turn.ensures.0 w.if-done-i-eq0.true w.take_turn.auto.tys w.take_turn.auto.stuck
           w.take_turn.auto.tried w.take_turn.ensures.1 (w.in_ok-turn.was ∙ ap Ok w.in_default.is))
       | else-done-i-eq0 w ↦
-          rw (w.types-is, w.members-is, w.names-is, w.tys-is, w.done-is, w.stuck-is, w.tried-is, w.used-is, w.rest-is)
+          rw (w.tables-is, w.tys-is, w.done-is, w.stuck-is, w.tried-is, w.used-is, w.rest-is)
           (within_past v l w.if-done-i-eq0.false)
     ])
 

@@ -29,7 +29,7 @@ add_entry-requires c =
       usable = c.requires.usable;
       declared =
           rw (← c.count_of-n.ensures.0)
-          (turn_ready _ c.args.members.now _ _ c.args.u _ _ _ few _ c.resolve-found.ensures
+          (turn_ready _ c.args.tables.now.members _ _ c.args.u _ _ _ few _ c.resolve-found.ensures
           c.if-found-n.false (omega (arith, few, c.requires.room)) (rw few c.requires.inside)
           (omega (arith, c.count_of-n.ensures.1)));
       rows = c.requires.rows;

@@ -13,14 +13,14 @@ info-requires c =
 
 pub emit-k-requires : goal.emit-k-requires
 emit-k-requires c =
-    let is = infos_on c.args.members.now [] c.loop-row.row (c.args.d.first + c.args.d.count) c.loop-row-test.true
-    (ids_in c.args.types.now) in
+    let is = infos_on c.args.tables.now.members [] c.loop-row.row (c.args.d.first + c.args.d.count) c.loop-row-test.true
+    (ids_in c.args.tables.now.types) in
     rw c.info.ensures (left_room _ _ is c.loop-row.invariant)
 
 pub loop-row-preserved : goal.loop-row-preserved
 loop-row-preserved c =
-    let is = infos_on c.args.members.now [] c.loop-row.row (c.args.d.first + c.args.d.count) c.loop-row-test.true
-    (ids_in c.args.types.now) in
+    let is = infos_on c.args.tables.now.members [] c.loop-row.row (c.args.d.first + c.args.d.count) c.loop-row-test.true
+    (ids_in c.args.tables.now.types) in
     left_on _ is c.loop-row.invariant (rw c.info.ensures at c.emit-k.ensures)
 
 pub returns : goal.returns

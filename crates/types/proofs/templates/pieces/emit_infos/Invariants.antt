@@ -6,5 +6,5 @@ use Rattle.types.proofs.templates.pieces.emit_infos.Given as goal
 
 abbrev pub invariant-loop-row : goal.invariant-loop-row
 invariant-loop-row l =
-    PiecesLeft (infos_in l.types l.members l.fn.d) l.initial.k l.initial.out
-    (infos_from l.types l.members l.row (l.row-end - l.row)) l.k l.out
+    PiecesLeft (infos_in l.tables.types l.tables.members l.fn.d) l.initial.k l.initial.out
+    (infos_from l.tables.types l.tables.members l.row (l.row-end - l.row)) l.k l.out

@@ -6,22 +6,24 @@ use Rattle.types.proofs.templates.pieces.emit_names.Goals as goal
 
 pub emit_name-k-requires : goal.emit_name-k-requires
 emit_name-k-requires c =
-    let is = names_on c.args.members.now c.args.names.now c.loop-row.row (c.args.d.first + c.args.d.count)
+    let is = names_on c.args.tables.now.members c.args.tables.now.names c.loop-row.row (c.args.d.first + c.args.d.count)
     c.loop-row-test.true in
     rw c.name_row.ensures (
-      row_name c.loop-row.auto.row c.loop-row-test.true c.requires.rows c.args.names.now c.requires.table,
+      row_name c.loop-row.auto.row c.loop-row-test.true c.requires.rows c.args.tables.now.names c.requires.table,
       left_room _ _ is c.loop-row.invariant,
     )
 
 pub emit-k-requires : goal.emit-k-requires
 emit-k-requires c =
-    let named = name_came c.args.members.now c.args.names.now c.loop-row.row (c.args.d.first + c.args.d.count)
+    let named = name_came c.args.tables.now.members c.args.tables.now.names c.loop-row.row
+    (c.args.d.first + c.args.d.count)
     c.loop-row-test.true c.name_row.ensures c.loop-row.invariant c.emit_name-k.ensures in
     left_room (0 ∷ []) _ refl named
 
 pub loop-row-preserved : goal.loop-row-preserved
 loop-row-preserved c =
-    let named = name_came c.args.members.now c.args.names.now c.loop-row.row (c.args.d.first + c.args.d.count)
+    let named = name_came c.args.tables.now.members c.args.tables.now.names c.loop-row.row
+    (c.args.d.first + c.args.d.count)
     c.loop-row-test.true c.name_row.ensures c.loop-row.invariant c.emit_name-k.ensures in
     left_on _ refl named c.emit-k.ensures
 

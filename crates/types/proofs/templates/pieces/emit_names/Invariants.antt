@@ -6,5 +6,5 @@ use Rattle.types.proofs.templates.pieces.emit_names.Given as goal
 
 abbrev pub invariant-loop-row : goal.invariant-loop-row
 invariant-loop-row l =
-    PiecesLeft (names_in l.members l.names l.fn.d) l.initial.k l.initial.out
-    (names_from l.members l.names l.row (l.row-end - l.row)) l.k l.out
+    PiecesLeft (names_in l.tables.members l.tables.names l.fn.d) l.initial.k l.initial.out
+    (names_from l.tables.members l.tables.names l.row (l.row-end - l.row)) l.k l.out

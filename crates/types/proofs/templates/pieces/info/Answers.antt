@@ -8,7 +8,7 @@ use Rattle.types.proofs.templates.pieces.info.Goals as goal
 pub returns : goal.returns
 returns c =
     let m = c.member_row-m in
-    let ids = ids_in c.args.types.now in
+    let ids = ids_in c.args.tables.now.types in
     rw (c.store-3.ensures, c.store-2.ensures, c.store.ensures)
     (info_bytes_lem ids m.result c.info_of.ensures (ap (λ (x : ℕ). x % 65536) c.type_in-word.ensures)
     ∙ ap (info_bytes ids) m.ensures)

@@ -7,13 +7,15 @@ use Rattle.types.proofs.templates.template.measure.Goals as goal
 
 pub walk-requires : goal.walk-requires
 walk-requires c =
-    let small = template_small c.args.types.now c.args.members.now c.args.names.now c.args.d c.requires in
+    let small = template_small c.args.tables.now.types c.args.tables.now.members c.args.tables.now.names c.args.d
+    c.requires in
     (refl, record { rows = c.requires; table = search rules; room = quiet_room small })
 
 pub returns : goal.returns
 returns c =
     record {
       at = c.walk.ensures.at ∙ zero-add _;
-      small = template_small c.args.types.now c.args.members.now c.args.names.now c.args.d c.requires;
+      small = template_small c.args.tables.now.types c.args.tables.now.members c.args.tables.now.names c.args.d
+          c.requires;
       fold = c.walk.ensures.fold;
     }

@@ -16,7 +16,7 @@ returns-in_err-d c =
     rw (c.in-Struct.is, p.1, p.2, c.in_err-d.ensures.1) (given_absent c.in_err-d.ensures.0)
 
 -- the structure's row can be read
-readable : (c : In_ok-d) → Readable c.args.members.now c.in_ok-d.d
+readable : (c : In_ok-d) → Readable c.args.tables.now.members c.in_ok-d.d
 readable c = rw c.in_ok-d.ensures.1 (kept_there c.requires _ c.in_ok-d.ensures.0).listable.rows.rows
 
 pub template_bytes-long-requires : goal.template_bytes-long-requires

@@ -6,6 +6,7 @@ use Rattle.types.proofs.templates.template.write_template.Goals as goal
 
 pub walk-requires : goal.walk-requires
 walk-requires c =
-    let small = template_small c.args.types.now c.args.members.now c.args.names.now c.args.d c.requires.0 in
+    let small = template_small c.args.tables.now.types c.args.tables.now.members c.args.tables.now.names c.args.d
+    c.requires.0 in
     let room = writing_room small c.requires.1 in
     (refl, record { rows = c.requires.0; table = search rules; room = room })
