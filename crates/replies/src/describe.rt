@@ -1,4 +1,5 @@
 // Kind 2: a type of the tables, whole, with its members.
+ghost use Rattle.std.specs.Prelude.{◌≡◌, ◌≤◌, cond};
 ghost use Rattle.types.specs.tables.Kept.{KeptTables};
 
 use crate::faults::Fault;
@@ -27,9 +28,17 @@ fn kind_byte(kind: StructKind) -> u8 {
     }
 }
 
+// A flag's byte is the number where it is set.
+fn number_if(set: bool, number: u8) -> u8
+    ensures is { result ≡ cond set number 0 }
+    ensures most { result ≤ number }
+{
+    if set { number } else { 0 }
+}
+
 // A member's fields after its name.
 fn put_member_fields(m: Member, out: &mut [u8], from: usize) -> usize {
-    let flags = u8::from(m.hidden) * HIDDEN + u8::from(m.local) * LOCAL;
+    let flags = number_if(m.hidden, HIDDEN) + number_if(m.local, LOCAL);
     let mut at = put(out, from, word_of_ty(m.ty));
     at = put(out, at, m.count);
     at = put(out, at, m.offset);
@@ -78,7 +87,7 @@ pub fn describe(rest: &[u8], tables: &Tables, out: &mut [u8]) -> Result<usize, F
     }
     let i = usize::from(u16::load(rest, 0));
     let bytes = template_len(tables, i)?;
-    let bits = waste(tables, i)?;
+    let bits = waste(&tables.types, &tables.members, i)?;
     let d = type_at(&tables.types, i);
     let mut at = accept(out);
     at = put_row(&tables.names, d, out, at);

@@ -1,6 +1,6 @@
 // What each kind of question is answered with: the place where the answer ends in the output buffer.
 ghost use Rattle.std.specs.Prelude.{◌≤◌, length};
-ghost use Rattle.types.specs.tables.Kept.{KeptTables};
+ghost use Rattle.types.specs.tables.Kept.{KeptNames, KeptTables};
 
 use crate::describe::describe;
 use crate::faults::Fault;
@@ -102,9 +102,9 @@ fn tell_header(rest: &[u8], tables: &Tables, out: &mut [u8]) -> Result<usize, Fa
 
 // The word of the type with a name.
 fn tell_lookup(name: &[u8], tables: &Tables, out: &mut [u8]) -> Result<usize, Fault>
-    requires { KeptTables tables.now }
+    requires { KeptNames tables.now.types tables.now.names }
 {
-    let ty = find(tables, name).ok_or(Refusal::NoSuchType)?;
+    let ty = find(&tables.types, &tables.names, name).ok_or(Refusal::NoSuchType)?;
     let k = accept(out);
     Ok(put(out, k, word_of_ty(ty)))
 }

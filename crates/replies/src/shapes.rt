@@ -1,5 +1,5 @@
 // Kind 4: the shape of a tag.
-ghost use Rattle.types.specs.tables.Kept.{KeptTables};
+ghost use Rattle.types.specs.tables.Kept.{KeptTypes};
 
 use crate::faults::Fault;
 use crate::puts::{accept, put};
@@ -28,7 +28,7 @@ fn put_shape(shape: Shape, symbol: u16, out: &mut [u8]) -> usize {
 
 // The shape of a type with lengths, and its symbol type.
 pub fn tell_shape(rest: &[u8], tables: &Tables, out: &mut [u8]) -> Result<usize, Fault>
-    requires { KeptTables tables.now }
+    requires { KeptTypes tables.now.types }
 {
     if rest.len() < FIRST {
         return Err(Fault::NotAQuestion);

@@ -1,7 +1,7 @@
 // Questions that write: a value stream set in a tag's bytes. The image follows in the answer, also after a refusal, so
 // that one can see that nothing changed.
 ghost use Rattle.std.specs.Prelude.{◌+◌, ◌≤◌, length};
-ghost use Rattle.types.specs.tables.Kept.{KeptTables};
+ghost use Rattle.types.specs.tables.Kept.{KeptRows};
 
 use crate::faults::Fault;
 use crate::puts::{BODY, accept, put_bytes, put_fault};
@@ -12,7 +12,7 @@ use words::Word;
 
 // The image of the question, `long` bytes, put at its place in the answer, and the stream after it written there.
 fn put_written(rest: &[u8], long: usize, tables: &Tables, out: &mut [u8]) -> Result<usize, Fault>
-    requires kept_rows { KeptTables tables.now }
+    requires kept_rows { KeptRows tables.now.types tables.now.members }
     requires long_in_bounds { 14 + long ≤ length rest.now }
 {
     let past = 14 + long;
@@ -23,7 +23,14 @@ fn put_written(rest: &[u8], long: usize, tables: &Tables, out: &mut [u8]) -> Res
     let ty = ty_of_word(u16::load(rest, 0));
     let count = u64::load(rest, 2);
     put_bytes(out, BODY, &rest[14..past]);
-    match write(tables, ty, count, &rest[past..], &mut out[BODY..end]) {
+    match write(
+        &tables.types,
+        &tables.members,
+        ty,
+        count,
+        &rest[past..],
+        &mut out[BODY..end],
+    ) {
         Ok(()) => accept(out),
         Err(why) => put_fault(out, Fault::Refused(why)),
     };
@@ -32,7 +39,7 @@ fn put_written(rest: &[u8], long: usize, tables: &Tables, out: &mut [u8]) -> Res
 
 // Kind 6.
 pub fn tell_write(rest: &[u8], tables: &Tables, out: &mut [u8]) -> Result<usize, Fault>
-    requires { KeptTables tables.now }
+    requires { KeptRows tables.now.types tables.now.members }
 {
     if rest.len() < 14 {
         return Err(Fault::NotAQuestion);

@@ -2,3 +2,4 @@
 pub mod Given
 pub mod Refusal
 pub mod Said
+pub mod Words

@@ -111,7 +111,7 @@ pub fn add_entry(
     if !good_name(name) {
         return Err(Refusal::NameOutsideRule(w.number));
     }
-    if lookup(tables, w.used.types, name).is_some() {
+    if lookup(&tables.types, &tables.names, w.used.types, name).is_some() {
         return Err(Refusal::NameKnown(w.number));
     }
     let id = pick_id(&tables.types, w.used.types, has_id(w.entry), w.entry.id).map_err(

@@ -38,13 +38,17 @@ pub fn free_id(types: &TypeTable, n: usize) -> u32
 {
     let mut id: u32 = 0x100;
     'ids: while id < 0xF00 {
-        for i in 0..n {
+        let mut i = 0;
+        loop {
+            if i == n {
+                break 'ids;
+            }
             if types[TYPE_WORDS * i + 2] == id {
                 id += 1;
                 continue 'ids;
             }
+            i += 1;
         }
-        break 'ids;
     }
     id
 }

@@ -99,6 +99,13 @@ impl Atomic {
         self.row().0
     }
 
+    // Its bytes as its row of the table has them: layouts and tag shapes ask here.
+    pub fn row_size(self) -> u8
+        ensures { result ≡ size_of self }
+    {
+        self.row().1
+    }
+
     // Its bytes, by a match: the row's size costs a look-up in the table, and readers of values ask at every leaf.
     #[tactic(auto, unfolding(crate::specs::atomics::Atomic::size_of))]
     pub fn size(self) -> u8

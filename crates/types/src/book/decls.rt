@@ -19,7 +19,7 @@ fn plain(types: &TypeTable, ty: Ty, dim: u32, name: Span, local: bool, access: u
 {
     let (size, align) = match ty {
         Ty::Atomic(a) => {
-            let size = u32::from(a.size());
+            let size = u32::from(a.row_size());
             (size, size.min(4))
         }
         Ty::Struct(n) => (type_row(types, n).size, 4),

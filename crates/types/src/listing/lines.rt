@@ -153,7 +153,7 @@ fn type_line(tables: &Tables, i: usize, out: &mut [u8]) -> usize
 {
     let d = type_row(&tables.types, i);
     let bytes = template_bytes(tables, d);
-    let bits = lost_bits(tables, d);
+    let bits = lost_bits(&tables.types, &tables.members, d);
     let k1 = put_field(out, 0, b"type", b' ');
     let k2 = put_name(out, k1, &tables.names, d.name, b' ');
     put_numbers(d, bytes, bits, out, k2)

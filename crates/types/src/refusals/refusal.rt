@@ -1,7 +1,8 @@
 // Refusals (document 01, "Refusal numbers"): a case for each number, with its place where it has one, and a few
 // words that say what it means (docs/REFUSALS.md has the whole).
-ghost use Rattle.std.specs.Prelude.{◌≡◌};
+ghost use Rattle.std.specs.Prelude.{◌≡◌, Some};
 ghost use Rattle.types.specs.refusals.Refusal.{number_of, place_of};
+ghost use Rattle.types.specs.refusals.Words.{words_of};
 
 use std::error::Error;
 use std::fmt;
@@ -100,8 +101,10 @@ impl Refusal {
     }
 }
 
+// What went wrong, and the number of the type in the book or of the entry in the stream.
 impl fmt::Display for Refusal {
-    // What went wrong, and the number of the type in the book or of the entry in the stream.
+    ghost output = { λ why. Some (words_of why) };
+
     fn fmt<W: fmt::Write>(&self, f: &mut fmt::Formatter<W>) -> fmt::Result {
         match self {
             Refusal::BookMalformed => write!(f, "the book is malformed"),

@@ -27,7 +27,7 @@ pub fn resolve(
         let span = entry_at(book, at + 16 * j).ty;
         let start = span.at as usize;
         let end = start + span.long as usize;
-        let Some(ty) = lookup(tables, known, &book[start..end]) else {
+        let Some(ty) = lookup(&tables.types, &tables.names, known, &book[start..end]) else {
             return j;
         };
         tys[j] = word_of(ty);
@@ -47,5 +47,5 @@ pub fn waits_still(tables: &Tables, book: &[u8], at: usize, k: usize, from: usiz
     let span = entry_at(book, at + 16 * k).ty;
     let start = span.at as usize;
     let end = start + span.long as usize;
-    find_type(tables, from, n, &book[start..end]).is_none()
+    find_type(&tables.types, &tables.names, from, n, &book[start..end]).is_none()
 }

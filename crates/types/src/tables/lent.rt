@@ -25,7 +25,7 @@ pub const MEMBER_WORDS: usize = 8;
 
 pub const NAME_BYTES: usize = 32768;
 
-// A call is lent the tables one by one, and only those that it needs.
+// A public call that reads two of the tables is lent these two; one that reads or writes all three is lent `Tables`.
 pub type TypeTable = [u32; TYPES * TYPE_WORDS];
 
 pub type MemberTable = [u32; MEMBERS * MEMBER_WORDS];
@@ -52,7 +52,7 @@ pub fn no_names() -> NameTable
 }
 
 // The three tables together, as a program holds them.
-#[derive(Drop)]
+#[derive(Clone, Copy, Debug, PartialEq, Eq)]
 pub struct Tables {
     pub types: TypeTable,
     pub members: MemberTable,

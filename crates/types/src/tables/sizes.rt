@@ -12,7 +12,7 @@ pub fn size_in(types: &TypeTable, ty: Ty) -> u64
     ensures { result ≡ size_in (sizes_in types.now) ty }
 {
     match ty {
-        Ty::Atomic(a) => u64::from(a.size()),
+        Ty::Atomic(a) => u64::from(a.row_size()),
         Ty::Struct(n) => u64::from(type_row(types, n).size),
     }
 }

@@ -8,7 +8,7 @@ ghost use Rattle.types.specs.templates.Waste.{waste_in, waste_at};
 
 use crate::layout::placing::elements;
 use crate::refusals::refusal::Refusal;
-use crate::tables::lent::{Tables, TypeTable, member_row};
+use crate::tables::lent::{MemberTable, TypeTable, member_row};
 use crate::tables::member::{Member, StructDef};
 use crate::tables::sizes::size_in;
 use crate::templates::template::struct_there;
@@ -28,23 +28,23 @@ fn seen_bits(types: &TypeTable, m: Member) -> u64
 }
 
 // How many bits of a structure are waste; no name matters to it.
-pub fn lost_bits(tables: &Tables, d: StructDef) -> u64
-    requires { Countable tables.now.types tables.now.members d }
-    ensures { (names : List ℕ) → result ≡ waste_in tables.now.types tables.now.members names d }
+pub fn lost_bits(types: &TypeTable, members: &MemberTable, d: StructDef) -> u64
+    requires { Countable types.now members.now d }
+    ensures { (names : List ℕ) → result ≡ waste_in types.now members.now names d }
 {
     let first = d.first as usize;
     let mut bits: u64 = 0;
     for row in first..first + d.count as usize {
-        bits += seen_bits(&tables.types, member_row(&tables.members, row));
+        bits += seen_bits(types, member_row(members, row));
     }
     (8 * u64::from(d.size)).saturating_sub(bits)
 }
 
 // The waste of the structure with a number; or 15.
-pub fn waste(tables: &Tables, n: usize) -> Result<u64, Refusal>
-    requires { KeptRows tables.now.types tables.now.members }
-    ensures { (names : List ℕ) → said_by result ≡ waste_at tables.now.types tables.now.members names n }
+pub fn waste(types: &TypeTable, members: &MemberTable, n: usize) -> Result<u64, Refusal>
+    requires { KeptRows types.now members.now }
+    ensures { (names : List ℕ) → said_by result ≡ waste_at types.now members.now names n }
 {
-    let d = struct_there(&tables.types, n)?;
-    Ok(lost_bits(tables, d))
+    let d = struct_there(types, n)?;
+    Ok(lost_bits(types, members, d))
 }

@@ -9,29 +9,35 @@ ghost use Rattle.values.specs.normal_image.Normalised.{MadeNormal, value_normal}
 use crate::normal_image::leaves::normal_atomics;
 use crate::normal_image::walk::{normal_elements, normal_struct};
 use crate::reading::images::image_fit;
-use types::{Refusal, Tables, Ty};
+use types::{MemberTable, Refusal, Ty, TypeTable};
 
 // A value of n elements, or of one where n is 0.
-fn normal_value(tables: &Tables, ty: Ty, n: usize, image: &mut [u8])
-    requires { Sweepable tables.now.types tables.now.members × ValueImage tables.now.types ty n image.old }
+fn normal_value(types: &TypeTable, members: &MemberTable, ty: Ty, n: usize, image: &mut [u8])
+    requires { Sweepable types.now members.now × ValueImage types.now ty n image.old }
     ensures { image.new
-        ≡ value_normal tables.now.types tables.now.members ty n image.old }
+        ≡ value_normal types.now members.now ty n image.old }
 {
     match ty {
         Ty::Atomic(a) => normal_atomics(a, n, image, 0),
-        Ty::Struct(i) if n == 0 => normal_struct(tables, i, image, 0),
-        Ty::Struct(i) => normal_elements(tables, i, n, image, 0),
+        Ty::Struct(i) if n == 0 => normal_struct(types, members, i, image, 0),
+        Ty::Struct(i) => normal_elements(types, members, i, n, image, 0),
     }
 }
 
 // Makes an image of a type normal, of `count` elements where `count` is not 0; or refuses with 15 or 14, and the image
 // is as it was.
-pub fn normal(tables: &Tables, ty: Ty, count: u64, image: &mut [u8]) -> Result<(), Refusal>
-    requires { KeptRows tables.now.types tables.now.members }
-    ensures { MadeNormal tables.now.types tables.now.members ty count image.old result
+pub fn normal(
+    types: &TypeTable,
+    members: &MemberTable,
+    ty: Ty,
+    count: u64,
+    image: &mut [u8],
+) -> Result<(), Refusal>
+    requires { KeptRows types.now members.now }
+    ensures { MadeNormal types.now members.now ty count image.old result
         image.new }
 {
-    image_fit(&tables.types, ty, count, image.len())?;
-    normal_value(tables, ty, count as usize, image);
+    image_fit(types, ty, count, image.len())?;
+    normal_value(types, members, ty, count as usize, image);
     Ok(())
 }

@@ -13,46 +13,52 @@ ghost use Rattle.values.specs.reading.Trees.{members_at};
 use crate::normal_image::flags::{keep_flags, put_flags};
 use crate::normal_image::leaves::{normal_atomics, normal_text};
 use crate::reading::rows::{capacity_at, is_plain, is_string, struct_size, times_of};
-use types::{Tables, Ty, member_row, type_row};
+use types::{MemberTable, Ty, TypeTable, member_row, type_row};
 
 // A bit for each row of the table of members.
 const FLAG_BYTES: usize = 250;
 
 // Structure i, from a byte of the image on.
 #[cycle(clearing)]
-pub fn normal_struct(tables: &Tables, i: usize, image: &mut [u8], base: usize)
-    requires { Sweepable tables.now.types tables.now.members × Here tables.now.types i base image.old }
+pub fn normal_struct(
+    types: &TypeTable,
+    members: &MemberTable,
+    i: usize,
+    image: &mut [u8],
+    base: usize,
+)
+    requires { Sweepable types.now members.now × Here types.now i base image.old }
     ensures { flat image.new
-        ≡ made (tree_in tables.now.types tables.now.members i) (8 * base) (flat image.old) }
+        ≡ made (tree_in types.now members.now i) (8 * base) (flat image.old) }
 {
-    let d = type_row(&tables.types, i);
+    let d = type_row(types, i);
     let first = d.first as usize;
     if is_string(d.kind) {
-        normal_text(capacity_at(&tables.members, first), image, base);
+        normal_text(capacity_at(members, first), image, base);
         return;
     }
     let count = d.count as usize;
     let mut kept = [0u8; FLAG_BYTES];
-    keep_flags(&tables.members, first, count, image, base, &mut kept);
-    sweep(tables, i, image, base);
-    put_flags(&tables.members, first, count, &kept, image, base);
+    keep_flags(members, first, count, image, base, &mut kept);
+    sweep(types, members, i, image, base);
+    put_flags(members, first, count, &kept, image, base);
 }
 
 // Its visible members that are no BOOLs made normal, and all between them cleared.
 #[cycle(clearing)]
-fn sweep(tables: &Tables, i: usize, image: &mut [u8], base: usize)
-    requires { Sweepable tables.now.types tables.now.members × Here tables.now.types i base image.old }
+fn sweep(types: &TypeTable, members: &MemberTable, i: usize, image: &mut [u8], base: usize)
+    requires { Sweepable types.now members.now × Here types.now i base image.old }
     ensures { flat image.new
-        ≡ swept (tree_in tables.now.types tables.now.members) (8 * base) (8 * sizes_in tables.now.types i)
-        (members_at tables.now.members (type_at tables.now.types i).first
-        (type_at tables.now.types i).count) 0 (flat image.old) }
+        ≡ swept (tree_in types.now members.now) (8 * base) (8 * sizes_in types.now i)
+        (members_at members.now (type_at types.now i).first
+        (type_at types.now i).count) 0 (flat image.old) }
 {
-    let d = type_row(&tables.types, i);
+    let d = type_row(types, i);
     let first = d.first as usize;
     let mut c = 0;
     for k in 0..d.count as usize {
-        if is_plain(&tables.members, first + k) {
-            c = normal_member(tables, i, first + k, image, base, c);
+        if is_plain(members, first + k) {
+            c = normal_member(types, members, i, first + k, image, base, c);
         }
     }
     image[base + c..base + d.size as usize].fill(0);
@@ -62,19 +68,20 @@ fn sweep(tables: &Tables, i: usize, image: &mut [u8], base: usize)
 // The byte after the member.
 #[cycle(clearing)]
 fn normal_member(
-    tables: &Tables,
+    types: &TypeTable,
+    members: &MemberTable,
     i: usize,
     row: usize,
     image: &mut [u8],
     base: usize,
     c: usize,
 ) -> usize
-    requires { Sweepable tables.now.types tables.now.members × (PlainRow tables.now.types tables.now.members i row c
-        × Here tables.now.types i base image.old) }
-    ensures { OnwardTo (tree_in tables.now.types tables.now.members) base c
-        (member_at tables.now.members row) image.old image.new result }
+    requires { Sweepable types.now members.now × (PlainRow types.now members.now i row c
+        × Here types.now i base image.old) }
+    ensures { OnwardTo (tree_in types.now members.now) base c
+        (member_at members.now row) image.old image.new result }
 {
-    let m = member_row(&tables.members, row);
+    let m = member_row(members, row);
     let start = m.offset as usize;
     let count = m.count as usize;
     image[base + c..base + start].fill(0);
@@ -84,29 +91,36 @@ fn normal_member(
             start + a.size() as usize * times_of(count)
         }
         Ty::Struct(t) if count == 0 => {
-            normal_struct(tables, t, image, base + start);
-            start + struct_size(&tables.types, t)
+            normal_struct(types, members, t, image, base + start);
+            start + struct_size(types, t)
         }
         Ty::Struct(t) => {
-            normal_elements(tables, t, count, image, base + start);
-            start + struct_size(&tables.types, t) * count
+            normal_elements(types, members, t, count, image, base + start);
+            start + struct_size(types, t) * count
         }
     }
 }
 
 // An array of structures i; elements of no bytes are not walked, however many there are.
 #[cycle(clearing)]
-pub fn normal_elements(tables: &Tables, i: usize, count: usize, image: &mut [u8], base: usize)
-    requires { Sweepable tables.now.types tables.now.members × AllHere tables.now.types i count base image.old }
+pub fn normal_elements(
+    types: &TypeTable,
+    members: &MemberTable,
+    i: usize,
+    count: usize,
+    image: &mut [u8],
+    base: usize,
+)
+    requires { Sweepable types.now members.now × AllHere types.now i count base image.old }
     ensures { flat image.new
-        ≡ made (array count (tree_in tables.now.types tables.now.members i)) (8 * base)
+        ≡ made (array count (tree_in types.now members.now i)) (8 * base)
         (flat image.old) }
 {
-    let size = struct_size(&tables.types, i);
+    let size = struct_size(types, i);
     if size == 0 {
         return;
     }
     for e in 0..count {
-        normal_struct(tables, i, image, base + size * e);
+        normal_struct(types, members, i, image, base + size * e);
     }
 }

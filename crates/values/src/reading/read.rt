@@ -19,140 +19,173 @@ use crate::stream::count::{count_atomics, count_structs};
 use crate::stream::form::MOST_BYTES;
 use crate::stream::lengths::{text_elements, text_struct};
 use crate::stream::place::Place;
-use types::{Refusal, Tables, Ty};
+use types::{MemberTable, Refusal, Ty, TypeTable};
 use words::Word;
 
 // How many entries a value has, and whether one is a text.
-fn count_value(tables: &Tables, ty: Ty, n: usize, most: usize, texts: &mut bool) -> usize
-    requires { Walkable tables.now.types tables.now.members × (TyFits ty × (most ≤ most_bytes)) }
-    ensures { Counted most 0 (value_out tables.now.types tables.now.members ty n)
+fn count_value(
+    types: &TypeTable,
+    members: &MemberTable,
+    ty: Ty,
+    n: usize,
+    most: usize,
+    texts: &mut bool,
+) -> usize
+    requires { Walkable types.now members.now × (TyFits ty × (most ≤ most_bytes)) }
+    ensures { Counted most 0 (value_out types.now members.now ty n)
         texts.old texts.new result }
 {
     match ty {
         Ty::Atomic(a) => count_atomics(a, n, most),
-        Ty::Struct(i) => count_structs(tables, i, n, 0, most, texts),
+        Ty::Struct(i) => count_structs(types, members, i, n, 0, most, texts),
     }
 }
 
 // How many bytes of text a structure has, or an array of structures.
-fn text_structs(tables: &Tables, i: usize, n: usize, image: &[u8], room: usize) -> usize
-    requires { Walkable tables.now.types tables.now.members × (ImagesOf tables.now.types i (times n) image.now
+fn text_structs(
+    types: &TypeTable,
+    members: &MemberTable,
+    i: usize,
+    n: usize,
+    image: &[u8],
+    room: usize,
+) -> usize
+    requires { Walkable types.now members.now × (ImagesOf types.now i (times n) image.now
         × (room ≤ most_bytes)) }
-    ensures { Texts room (value_out tables.now.types tables.now.members (Ty.Struct i) n
+    ensures { Texts room (value_out types.now members.now (Ty.Struct i) n
         image.now) result }
 {
     if n == 0 {
-        text_struct(tables, i, image, room)
+        text_struct(types, members, i, image, room)
     } else {
-        text_elements(tables, i, n, image, room)
+        text_elements(types, members, i, n, image, room)
     }
 }
 
 // And a value, of which is known whether it has any.
-fn text_value(tables: &Tables, ty: Ty, n: usize, image: &[u8], room: usize, texts: bool) -> usize
-    requires walkable { Walkable tables.now.types tables.now.members × ((room ≤ most_bytes)
-        × ValueImage tables.now.types ty n image.now) }
-    requires textless { texts ≡ false → bodies (value_out tables.now.types tables.now.members ty n image.now) ≡ [] }
-    ensures { Texts room (value_out tables.now.types tables.now.members ty n image.now) result }
+fn text_value(
+    types: &TypeTable,
+    members: &MemberTable,
+    ty: Ty,
+    n: usize,
+    image: &[u8],
+    room: usize,
+    texts: bool,
+) -> usize
+    requires walkable { Walkable types.now members.now × ((room ≤ most_bytes)
+        × ValueImage types.now ty n image.now) }
+    requires textless { texts ≡ false → bodies (value_out types.now members.now ty n image.now) ≡ [] }
+    ensures { Texts room (value_out types.now members.now ty n image.now) result }
 {
     if !texts {
         return 0;
     }
     match ty {
         Ty::Atomic(_) => 0,
-        Ty::Struct(i) => text_structs(tables, i, n, image, room),
+        Ty::Struct(i) => text_structs(types, members, i, n, image, room),
     }
 }
 
 // A structure, or an array of structures.
 fn read_structs(
-    tables: &Tables,
+    types: &TypeTable,
+    members: &MemberTable,
     i: usize,
     n: usize,
     image: &[u8],
     out: &mut [u8],
     base: usize,
 ) -> Place
-    requires walkable { Walkable tables.now.types tables.now.members × ImagesOf tables.now.types i (times n) image.now }
+    requires walkable { Walkable types.now members.now × ImagesOf types.now i (times n) image.now }
     requires stream_room { StreamRoom (length out.old) base 4 0
-        (value_out tables.now.types tables.now.members (Ty.Struct i) n image.now) }
+        (value_out types.now members.now (Ty.Struct i) n image.now) }
     ensures { TokensLaid out.old base 4 0
-        (value_out tables.now.types tables.now.members (Ty.Struct i) n image.now) out.new
+        (value_out types.now members.now (Ty.Struct i) n image.now) out.new
         result }
 {
     if n == 0 {
-        read_struct(tables, i, image, out, base, 4, 0)
+        read_struct(types, members, i, image, out, base, 4, 0)
     } else {
-        read_elements(tables, i, n, image, out, base, 4, 0)
+        read_elements(types, members, i, n, image, out, base, 4, 0)
     }
 }
 
 // The entries and the texts of a value.
-fn read_value(tables: &Tables, ty: Ty, n: usize, image: &[u8], out: &mut [u8], base: usize) -> Place
-    requires walkable { Walkable tables.now.types tables.now.members × ValueImage tables.now.types ty n image.now }
+fn read_value(
+    types: &TypeTable,
+    members: &MemberTable,
+    ty: Ty,
+    n: usize,
+    image: &[u8],
+    out: &mut [u8],
+    base: usize,
+) -> Place
+    requires walkable { Walkable types.now members.now × ValueImage types.now ty n image.now }
     requires stream_room { StreamRoom (length out.old) base 4 0
-        (value_out tables.now.types tables.now.members ty n image.now) }
+        (value_out types.now members.now ty n image.now) }
     ensures { TokensLaid out.old base 4 0
-        (value_out tables.now.types tables.now.members ty n image.now) out.new result }
+        (value_out types.now members.now ty n image.now) out.new result }
 {
     match ty {
         Ty::Atomic(a) => Place {
             at: put_atomics(a, n, image, out, 4),
             text: 0,
         },
-        Ty::Struct(i) => read_structs(tables, i, n, image, out, base),
+        Ty::Struct(i) => read_structs(types, members, i, n, image, out, base),
     }
 }
 
 // The count of the entries, the entries and the texts; the bytes past them stay. The stream's length, where there is
 // room for it.
 fn read_within(
-    tables: &Tables,
+    types: &TypeTable,
+    members: &MemberTable,
     ty: Ty,
     n: usize,
     image: &[u8],
     out: &mut [u8],
     room: usize,
 ) -> Result<usize, Refusal>
-    requires walkable { Walkable tables.now.types tables.now.members × ValueImage tables.now.types ty n image.now }
+    requires walkable { Walkable types.now members.now × ValueImage types.now ty n image.now }
     requires most_room { room + 4 ≡ min (length out.old) most_bytes }
-    ensures { StreamWritten tables.now.types tables.now.members ty n image.now
+    ensures { StreamWritten types.now members.now ty n image.now
         out.old result out.new }
 {
     let most = room / 12;
     let mut texts = false;
-    let entries = count_value(tables, ty, n, most, &mut texts);
+    let entries = count_value(types, members, ty, n, most, &mut texts);
     if most < entries {
         return Err(Refusal::NoRoom);
     }
     let left = room - 12 * entries;
-    let text = text_value(tables, ty, n, image, left, texts);
+    let text = text_value(types, members, ty, n, image, left, texts);
     if left < text {
         return Err(Refusal::NoRoom);
     }
     (entries as u32).store(out, 0);
     let base = 4 + 12 * entries;
-    read_value(tables, ty, n, image, out, base);
+    read_value(types, members, ty, n, image, out, base);
     Ok(base + text)
 }
 
 // The stream of a value of a type, of `count` elements where `count` is not 0, from the buffer's start on: its length;
 // or 15, 14 or 16, and nothing is written.
 pub fn read(
-    tables: &Tables,
+    types: &TypeTable,
+    members: &MemberTable,
     ty: Ty,
     count: u64,
     image: &[u8],
     out: &mut [u8],
 ) -> Result<usize, Refusal>
-    requires { KeptRows tables.now.types tables.now.members }
-    ensures { Answered tables.now.types tables.now.members ty count image.now
+    requires { KeptRows types.now members.now }
+    ensures { Answered types.now members.now ty count image.now
         out.old result out.new }
 {
-    image_fit(&tables.types, ty, count, image.len())?;
+    image_fit(types, ty, count, image.len())?;
     let most = out.len().min(MOST_BYTES);
     if most < 4 {
         return Err(Refusal::NoRoom);
     }
-    read_within(tables, ty, count as usize, image, out, most - 4)
+    read_within(types, members, ty, count as usize, image, out, most - 4)
 }

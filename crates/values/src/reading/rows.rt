@@ -47,7 +47,10 @@ pub fn is_nested(members: &MemberTable, row: usize) -> bool
     ensures { result ≡ is_nested (member_at members.now row) }
 {
     let m = member_row(members, row);
-    !m.hidden && m.bit.is_none() && matches!(m.ty, Ty::Struct(_))
+    match m.ty {
+        Ty::Atomic(_) => false,
+        Ty::Struct(_) => !m.hidden && m.bit.is_none(),
+    }
 }
 
 // A structure that a row holds: its number, how many there are of it, 0 for one that is no array, and where in the

@@ -42,20 +42,27 @@ fn put_wide<W: Word + Into<u64>>(a: Atomic, n: usize, s: &[u8], out: &mut [u8], 
     p
 }
 
-// n atomics, an entry each; where the next entry goes.
+// n atomics, an entry each; where the next entry goes. An arm for each atomic, for pace: its kind and its sign are then
+// known in the loop.
 pub fn put_run(a: Atomic, n: usize, s: &[u8], out: &mut [u8], at: usize) -> usize
     requires { (size_of a * n ≤ length s.now) × (at + 12 * n ≤ length out.old) }
     ensures { EntriesPut out.old at (up_to (element_out a s.now) n) out.new result }
 {
     match a {
         Atomic::Bool => put_truths(n, s, out, at),
-        Atomic::SInt | Atomic::USInt | Atomic::Byte => put_wide::<u8>(a, n, s, out, at),
-        Atomic::Int | Atomic::UInt | Atomic::Word => put_wide::<u16>(a, n, s, out, at),
-        Atomic::DInt | Atomic::UDInt | Atomic::DWord | Atomic::Real => put_wide::<u32>(
-            a, n, s, out, at,
-        ),
-        Atomic::LInt | Atomic::ULInt | Atomic::LWord | Atomic::LReal => put_wide::<u64>(
-            a, n, s, out, at,
-        ),
+        Atomic::SInt => put_wide::<u8>(a, n, s, out, at),
+        Atomic::Int => put_wide::<u16>(a, n, s, out, at),
+        Atomic::DInt => put_wide::<u32>(a, n, s, out, at),
+        Atomic::LInt => put_wide::<u64>(a, n, s, out, at),
+        Atomic::USInt => put_wide::<u8>(a, n, s, out, at),
+        Atomic::UInt => put_wide::<u16>(a, n, s, out, at),
+        Atomic::UDInt => put_wide::<u32>(a, n, s, out, at),
+        Atomic::ULInt => put_wide::<u64>(a, n, s, out, at),
+        Atomic::Real => put_wide::<u32>(a, n, s, out, at),
+        Atomic::LReal => put_wide::<u64>(a, n, s, out, at),
+        Atomic::Byte => put_wide::<u8>(a, n, s, out, at),
+        Atomic::Word => put_wide::<u16>(a, n, s, out, at),
+        Atomic::DWord => put_wide::<u32>(a, n, s, out, at),
+        Atomic::LWord => put_wide::<u64>(a, n, s, out, at),
     }
 }

@@ -5,7 +5,7 @@ ghost use Rattle.values.specs.reading.Texts.{Stored};
 
 use crate::reading::rows::{capacity_at, is_string};
 use crate::reading::texts::text_length;
-use types::{Refusal, StructDef, Tables, Ty, TypeTable, is_there, type_row};
+use types::{MemberTable, Refusal, StructDef, Ty, TypeTable, is_there, type_row};
 
 // The row of a string type; or 15.
 fn string_row(types: &TypeTable, ty: Ty) -> Result<StructDef, Refusal>
@@ -25,15 +25,20 @@ fn string_row(types: &TypeTable, ty: Ty) -> Result<StructDef, Refusal>
 }
 
 // The text's part of the image; or 15 or 14.
-pub fn text<'a>(tables: &Tables, ty: Ty, image: &'a [u8]) -> Result<&'a [u8], Refusal>
-    requires { KeptRows tables.now.types tables.now.members }
-    ensures { Stored tables.now.types tables.now.members ty image.entry result }
+pub fn text<'a>(
+    types: &TypeTable,
+    members: &MemberTable,
+    ty: Ty,
+    image: &'a [u8],
+) -> Result<&'a [u8], Refusal>
+    requires { KeptRows types.now members.now }
+    ensures { Stored types.now members.now ty image.entry result }
 {
-    let d = string_row(&tables.types, ty)?;
+    let d = string_row(types, ty)?;
     if image.len() != d.size as usize {
         return Err(Refusal::ImageLength);
     }
-    let capacity = capacity_at(&tables.members, d.first as usize);
+    let capacity = capacity_at(members, d.first as usize);
     let end = 4 + text_length(capacity, image);
     Ok(&image[4..end])
 }

@@ -14,12 +14,13 @@ use crate::reading::texts::put_text;
 use crate::stream::entry::put_entry;
 use crate::stream::kinds;
 use crate::stream::place::Place;
-use types::{Tables, Ty, member_row, type_row};
+use types::{MemberTable, Ty, TypeTable, member_row, type_row};
 use words::bit_at;
 
 // The member in a row of structure i, where it is no structure; j is its number.
 fn read_leaf(
-    tables: &Tables,
+    types: &TypeTable,
+    members: &MemberTable,
     i: usize,
     row: usize,
     j: usize,
@@ -27,12 +28,12 @@ fn read_leaf(
     out: &mut [u8],
     at: usize,
 ) -> usize
-    requires row_of { RowOf tables.now.types tables.now.members i row × ImageOf tables.now.types i image.now }
-    requires out_room { at + 12 * length (leaf_out j (member_at tables.now.members row) image.now) ≤ length out.old }
+    requires row_of { RowOf types.now members.now i row × ImageOf types.now i image.now }
+    requires out_room { at + 12 * length (leaf_out j (member_at members.now row) image.now) ≤ length out.old }
     ensures { EntriesPut out.old at
-        (leaf_out j (member_at tables.now.members row) image.now) out.new result }
+        (leaf_out j (member_at members.now row) image.now) out.new result }
 {
-    let m = member_row(&tables.members, row);
+    let m = member_row(members, row);
     if m.hidden {
         return at;
     }
@@ -58,7 +59,8 @@ fn read_leaf(
 // Structure i from an image of its size.
 #[cycle(reading)]
 pub fn read_struct(
-    tables: &Tables,
+    types: &TypeTable,
+    members: &MemberTable,
     i: usize,
     image: &[u8],
     out: &mut [u8],
@@ -66,25 +68,26 @@ pub fn read_struct(
     at: usize,
     text: usize,
 ) -> Place
-    requires walkable { Walkable tables.now.types tables.now.members × ImageOf tables.now.types i image.now }
+    requires walkable { Walkable types.now members.now × ImageOf types.now i image.now }
     requires stream_room { StreamRoom (length out.old) base at text
-        (struct_out tables.now.types tables.now.members i image.now) }
+        (struct_out types.now members.now i image.now) }
     ensures { TokensLaid out.old base at text
-        (struct_out tables.now.types tables.now.members i image.now) out.new result }
+        (struct_out types.now members.now i image.now) out.new result }
 {
-    let d = type_row(&tables.types, i);
+    let d = type_row(types, i);
     if is_string(d.kind) {
-        let capacity = capacity_at(&tables.members, d.first as usize);
+        let capacity = capacity_at(members, d.first as usize);
         put_text(capacity, image, out, base, at, text)
     } else {
-        read_members(tables, i, image, out, base, at, text)
+        read_members(types, members, i, image, out, base, at, text)
     }
 }
 
 // Its members, between the brackets.
 #[cycle(reading)]
 fn read_members(
-    tables: &Tables,
+    types: &TypeTable,
+    members: &MemberTable,
     i: usize,
     image: &[u8],
     out: &mut [u8],
@@ -92,26 +95,26 @@ fn read_members(
     at: usize,
     text: usize,
 ) -> Place
-    requires walkable { Walkable tables.now.types tables.now.members × ImageOf tables.now.types i image.now }
+    requires walkable { Walkable types.now members.now × ImageOf types.now i image.now }
     requires stream_room { StreamRoom (length out.old) base at text
-        (members_by tables.now.types tables.now.members (struct_out tables.now.types tables.now.members) i image.now) }
+        (members_by types.now members.now (struct_out types.now members.now) i image.now) }
     ensures { TokensLaid out.old base at text
-        (members_by tables.now.types tables.now.members (struct_out tables.now.types tables.now.members) i
+        (members_by types.now members.now (struct_out types.now members.now) i
         image.now) out.new result }
 {
-    let d = type_row(&tables.types, i);
+    let d = type_row(types, i);
     let first = d.first as usize;
     put_entry(out, at, kinds::OPEN, 0);
     let mut p = at + 12;
     let mut t = text;
     for j in 0..d.count as usize {
         let row = first + j;
-        if is_nested(&tables.members, row) {
-            let next = read_nested(tables, i, row, j, image, out, base, p, t);
+        if is_nested(members, row) {
+            let next = read_nested(types, members, i, row, j, image, out, base, p, t);
             p = next.at;
             t = next.text;
         } else {
-            p = read_leaf(tables, i, row, j, image, out, p);
+            p = read_leaf(types, members, i, row, j, image, out, p);
         }
     }
     put_entry(out, p, kinds::CLOSE, 0);
@@ -125,7 +128,8 @@ fn read_members(
 // member's number.
 #[cycle(reading)]
 fn read_nested(
-    tables: &Tables,
+    types: &TypeTable,
+    members: &MemberTable,
     i: usize,
     row: usize,
     j: usize,
@@ -135,25 +139,26 @@ fn read_nested(
     at: usize,
     text: usize,
 ) -> Place
-    requires walkable { Walkable tables.now.types tables.now.members
-        × (NestedRow tables.now.types tables.now.members i row
-        × ImageOf tables.now.types i image.now) }
+    requires walkable { Walkable types.now members.now
+        × (NestedRow types.now members.now i row
+        × ImageOf types.now i image.now) }
     requires stream_room { StreamRoom (length out.old) base at text
-        (member_by tables.now.types tables.now.members (struct_out tables.now.types tables.now.members) j
-        (member_at tables.now.members row)
+        (member_by types.now members.now (struct_out types.now members.now) j
+        (member_at members.now row)
         image.now) }
     ensures { TokensLaid out.old base at text
-        (member_by tables.now.types tables.now.members (struct_out tables.now.types tables.now.members) j
-        (member_at tables.now.members row) image.now) out.new result }
+        (member_by types.now members.now (struct_out types.now members.now) j
+        (member_at members.now row) image.now) out.new result }
 {
     put_entry(out, at, kinds::MEMBER, j as u64);
-    let m = nested_in(&tables.members, row);
-    let size = struct_size(&tables.types, m.structure);
+    let m = nested_in(members, row);
+    let size = struct_size(types, m.structure);
     let start = m.start;
     if m.count == 0 {
         let end = start + size;
         return read_struct(
-            tables,
+            types,
+            members,
             m.structure,
             &image[start..end],
             out,
@@ -164,7 +169,8 @@ fn read_nested(
     }
     let end = start + size * m.count;
     read_elements(
-        tables,
+        types,
+        members,
         m.structure,
         m.count,
         &image[start..end],
@@ -178,7 +184,8 @@ fn read_nested(
 // n structures i as an array.
 #[cycle(reading)]
 pub fn read_elements(
-    tables: &Tables,
+    types: &TypeTable,
+    members: &MemberTable,
     i: usize,
     n: usize,
     image: &[u8],
@@ -187,22 +194,22 @@ pub fn read_elements(
     at: usize,
     text: usize,
 ) -> Place
-    requires walkable { Walkable tables.now.types tables.now.members × ImagesOf tables.now.types i n image.now }
+    requires walkable { Walkable types.now members.now × ImagesOf types.now i n image.now }
     requires stream_room { StreamRoom (length out.old) base at text
-        (elements_by tables.now.types tables.now.members (struct_out tables.now.types tables.now.members) i n
+        (elements_by types.now members.now (struct_out types.now members.now) i n
         image.now) }
     ensures { TokensLaid out.old base at text
-        (elements_by tables.now.types tables.now.members (struct_out tables.now.types tables.now.members)
+        (elements_by types.now members.now (struct_out types.now members.now)
         i n image.now) out.new result }
 {
-    let size = struct_size(&tables.types, i);
+    let size = struct_size(types, i);
     put_entry(out, at, kinds::ARRAY_OPEN, 0);
     let mut p = at + 12;
     let mut t = text;
     for k in 0..n {
         let start = size * k;
         let end = start + size;
-        let next = read_struct(tables, i, &image[start..end], out, base, p, t);
+        let next = read_struct(types, members, i, &image[start..end], out, base, p, t);
         p = next.at;
         t = next.text;
     }

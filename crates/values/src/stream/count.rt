@@ -11,7 +11,7 @@ ghost use Rattle.values.specs.inside.stream.Counting.{Counted, TextFree};
 ghost use Rattle.values.specs.stream.Stream.{most_bytes};
 
 use crate::reading::rows::{is_nested, is_string, nested_in, times_of};
-use types::{Atomic, MemberTable, Tables, Ty, member_row, type_row};
+use types::{Atomic, MemberTable, Ty, TypeTable, member_row, type_row};
 
 // An atomic, or n of them where n is not 0.
 pub fn atomic_entries(a: Atomic, n: usize) -> usize
@@ -48,36 +48,42 @@ fn leaf_entries(members: &MemberTable, row: usize) -> usize
     if m.hidden {
         return 0;
     }
-    match (m.bit, m.ty) {
-        (Some(_), _) => 2,
-        (None, Ty::Atomic(a)) => 1 + atomic_entries(a, m.count as usize),
-        (None, Ty::Struct(_)) => 1,
+    match m.ty {
+        Ty::Atomic(a) => match m.bit {
+            Some(_) => 2,
+            None => 1 + atomic_entries(a, m.count as usize),
+        },
+        Ty::Struct(_) => match m.bit {
+            Some(_) => 2,
+            None => 1,
+        },
     }
 }
 
 // Structure i, or n of it where n is not 0.
 #[cycle(counting)]
 pub fn count_structs(
-    tables: &Tables,
+    types: &TypeTable,
+    members: &MemberTable,
     i: usize,
     n: usize,
     from: usize,
     most: usize,
     texts: &mut bool,
 ) -> usize
-    requires { Walkable tables.now.types tables.now.members
+    requires { Walkable types.now members.now
         × ((i < most_types) × ((most ≤ most_bytes) × (from ≤ most + 1))) }
     ensures { Counted most from
-        (structs_by tables.now.types tables.now.members
-        (struct_out tables.now.types tables.now.members) i n) texts.old texts.new result }
+        (structs_by types.now members.now
+        (struct_out types.now members.now) i n) texts.old texts.new result }
 {
     if n == 0 {
-        return count_struct(tables, i, from, most, texts);
+        return count_struct(types, members, i, from, most, texts);
     }
     if most < n {
         return most + 1;
     }
-    let one = count_struct(tables, i, 0, most, texts);
+    let one = count_struct(types, members, i, 0, most, texts);
     if most < one {
         return most + 1;
     }
@@ -86,30 +92,44 @@ pub fn count_structs(
 
 // Structure i.
 #[cycle(counting)]
-fn count_struct(tables: &Tables, i: usize, from: usize, most: usize, texts: &mut bool) -> usize
-    requires { Walkable tables.now.types tables.now.members
+fn count_struct(
+    types: &TypeTable,
+    members: &MemberTable,
+    i: usize,
+    from: usize,
+    most: usize,
+    texts: &mut bool,
+) -> usize
+    requires { Walkable types.now members.now
         × ((i < most_types) × ((most ≤ most_bytes) × (from ≤ most + 1))) }
-    ensures { Counted most from (struct_out tables.now.types tables.now.members i)
+    ensures { Counted most from (struct_out types.now members.now i)
         texts.old texts.new result }
 {
-    let d = type_row(&tables.types, i);
+    let d = type_row(types, i);
     if is_string(d.kind) {
         *texts = true;
         return from + 1;
     }
-    count_members(tables, i, from, most, texts)
+    count_members(types, members, i, from, most, texts)
 }
 
 // Its members. The last one's structure takes the place of this one, so that it costs no call.
 #[cycle(counting)]
-fn count_members(tables: &Tables, i: usize, from: usize, most: usize, texts: &mut bool) -> usize
-    requires { Walkable tables.now.types tables.now.members
+fn count_members(
+    types: &TypeTable,
+    members: &MemberTable,
+    i: usize,
+    from: usize,
+    most: usize,
+    texts: &mut bool,
+) -> usize
+    requires { Walkable types.now members.now
         × ((i < most_types) × ((most ≤ most_bytes) × (from ≤ most + 1))) }
     ensures { Counted most from
-        (members_by tables.now.types tables.now.members
-        (struct_out tables.now.types tables.now.members) i) texts.old texts.new result }
+        (members_by types.now members.now
+        (struct_out types.now members.now) i) texts.old texts.new result }
 {
-    let d = type_row(&tables.types, i);
+    let d = type_row(types, i);
     let first = d.first as usize;
     let n = d.count as usize;
     let mut sum = from + 2;
@@ -118,12 +138,12 @@ fn count_members(tables: &Tables, i: usize, from: usize, most: usize, texts: &mu
             return sum;
         }
         let row = first + j;
-        if !is_nested(&tables.members, row) {
-            sum += leaf_entries(&tables.members, row);
+        if !is_nested(members, row) {
+            sum += leaf_entries(members, row);
         } else if j + 1 == n {
-            return count_nested(tables, i, row, sum, most, texts);
+            return count_nested(types, members, i, row, sum, most, texts);
         } else {
-            sum = count_nested(tables, i, row, sum, most, texts);
+            sum = count_nested(types, members, i, row, sum, most, texts);
         }
     }
     sum
@@ -132,19 +152,20 @@ fn count_members(tables: &Tables, i: usize, from: usize, most: usize, texts: &mu
 // The structure, or the array of structures, in a row of structure i, with the member's number before it.
 #[cycle(counting)]
 fn count_nested(
-    tables: &Tables,
+    types: &TypeTable,
+    members: &MemberTable,
     i: usize,
     row: usize,
     from: usize,
     most: usize,
     texts: &mut bool,
 ) -> usize
-    requires { Walkable tables.now.types tables.now.members
-        × (NestedRow tables.now.types tables.now.members i row × ((most ≤ most_bytes) × (from ≤ most))) }
+    requires { Walkable types.now members.now
+        × (NestedRow types.now members.now i row × ((most ≤ most_bytes) × (from ≤ most))) }
     ensures { (j : ℕ) → Counted most from
-        (member_by tables.now.types tables.now.members (struct_out tables.now.types tables.now.members) j
-        (member_at tables.now.members row)) texts.old texts.new result }
+        (member_by types.now members.now (struct_out types.now members.now) j
+        (member_at members.now row)) texts.old texts.new result }
 {
-    let m = nested_in(&tables.members, row);
-    count_structs(tables, m.structure, m.count, from + 1, most, texts)
+    let m = nested_in(members, row);
+    count_structs(types, members, m.structure, m.count, from + 1, most, texts)
 }

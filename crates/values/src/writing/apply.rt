@@ -16,64 +16,66 @@ use crate::reading::rows::{capacity_at, is_nested, is_string, nested_in, struct_
 use crate::stream::kinds;
 use crate::stream::tokens::{kind_of, payload_of};
 use crate::writing::sets::{set_leaf, set_text};
-use types::{Tables, type_row};
+use types::{MemberTable, TypeTable, type_row};
 
 // Structure i, from a byte of the image on.
 #[cycle(applying)]
 pub fn apply_struct(
-    tables: &Tables,
+    types: &TypeTable,
+    members: &MemberTable,
     i: usize,
     s: &[u8],
     k: usize,
     image: &mut [u8],
     base: usize,
 ) -> usize
-    requires walkable { Walkable tables.now.types tables.now.members × (Here tables.now.types i base image.old
+    requires walkable { Walkable types.now members.now × (Here types.now i base image.old
         × (stream_ok s.now ≡ true)) }
-    requires right { accepted (write (tree_in tables.now.types tables.now.members i) (8 * base) (left_at s.now k)
+    requires right { accepted (write (tree_in types.now members.now i) (8 * base) (left_at s.now k)
         (flat image.old))
         ≡ true }
     ensures { Applied s.now k result image.old image.new
-        (write (tree_in tables.now.types tables.now.members i) (8 * base) (left_at s.now k)) }
+        (write (tree_in types.now members.now i) (8 * base) (left_at s.now k)) }
 {
-    let d = type_row(&tables.types, i);
+    let d = type_row(types, i);
     if is_string(d.kind) {
-        let capacity = capacity_at(&tables.members, d.first as usize);
+        let capacity = capacity_at(members, d.first as usize);
         return set_text(capacity, s, k, image, base);
     }
-    apply_members(tables, i, s, k, image, base)
+    apply_members(types, members, i, s, k, image, base)
 }
 
 // Its members, in the order of the entries, so that a later one wins.
 #[cycle(applying)]
 fn apply_members(
-    tables: &Tables,
+    types: &TypeTable,
+    members: &MemberTable,
     i: usize,
     s: &[u8],
     k: usize,
     image: &mut [u8],
     base: usize,
 ) -> usize
-    requires walkable { Walkable tables.now.types tables.now.members × (Here tables.now.types i base image.old
+    requires walkable { Walkable types.now members.now × (Here types.now i base image.old
         × (stream_ok s.now ≡ true)) }
-    requires right { accepted (write (struct (8 * sizes_in tables.now.types i)
-        (branches_in tables.now.types tables.now.members i))
+    requires right { accepted (write (struct (8 * sizes_in types.now i)
+        (branches_in types.now members.now i))
         (8 * base) (left_at s.now k) (flat image.old)) ≡ true }
     ensures { Applied s.now k result image.old image.new
-        (write (struct (8 * sizes_in tables.now.types i)
-        (branches_in tables.now.types tables.now.members i)) (8 * base) (left_at s.now k)) }
+        (write (struct (8 * sizes_in types.now i)
+        (branches_in types.now members.now i)) (8 * base) (left_at s.now k)) }
 {
     if kind_of(s, k) == kinds::NULL {
         return k + 1;
     }
-    let first = type_row(&tables.types, i).first as usize;
+    let first = type_row(types, i).first as usize;
     let mut p = k + 1;
     while kind_of(s, p) != kinds::CLOSE {
         let row = first + payload_of(s, p) as usize;
-        p = if is_nested(&tables.members, row) {
-            apply_nested(tables, i, row, s, p + 1, image, base)
+        p = if is_nested(members, row) {
+            apply_nested(types, members, i, row, s, p + 1, image, base)
         } else {
-            set_leaf(&tables.members, row, s, p + 1, image, base)
+            set_leaf(members, row, s, p + 1, image, base)
         };
     }
     p + 1
@@ -82,7 +84,8 @@ fn apply_members(
 // The structure, or the array of structures, in a row of structure i, which begins at `base`.
 #[cycle(applying)]
 fn apply_nested(
-    tables: &Tables,
+    types: &TypeTable,
+    members: &MemberTable,
     i: usize,
     row: usize,
     s: &[u8],
@@ -90,29 +93,30 @@ fn apply_nested(
     image: &mut [u8],
     base: usize,
 ) -> usize
-    requires walkable { Walkable tables.now.types tables.now.members
-        × (NestedRow tables.now.types tables.now.members i row
-        × (Here tables.now.types i base image.old × (stream_ok s.now ≡ true))) }
-    requires right { accepted (write (member_tree (tree_in tables.now.types tables.now.members)
-        (member_at tables.now.members row))
-        (8 * base + first_bit (member_at tables.now.members row)) (left_at s.now k) (flat image.old)) ≡ true }
+    requires walkable { Walkable types.now members.now
+        × (NestedRow types.now members.now i row
+        × (Here types.now i base image.old × (stream_ok s.now ≡ true))) }
+    requires right { accepted (write (member_tree (tree_in types.now members.now)
+        (member_at members.now row))
+        (8 * base + first_bit (member_at members.now row)) (left_at s.now k) (flat image.old)) ≡ true }
     ensures { Applied s.now k result image.old image.new
-        (write (member_tree (tree_in tables.now.types tables.now.members) (member_at tables.now.members row))
-        (8 * base + first_bit (member_at tables.now.members row)) (left_at s.now k)) }
+        (write (member_tree (tree_in types.now members.now) (member_at members.now row))
+        (8 * base + first_bit (member_at members.now row)) (left_at s.now k)) }
 {
-    let m = nested_in(&tables.members, row);
+    let m = nested_in(members, row);
     let start = base + m.start;
     if m.count == 0 {
-        return apply_struct(tables, m.structure, s, k, image, start);
+        return apply_struct(types, members, m.structure, s, k, image, start);
     }
-    apply_elements(tables, m.structure, m.count, s, k, image, start)
+    apply_elements(types, members, m.structure, m.count, s, k, image, start)
 }
 
 // An array of structures i, or null. A walk beside that of `check_elements`, for pace: what was checked is not asked
 // again.
 #[cycle(applying)]
 pub fn apply_elements(
-    tables: &Tables,
+    types: &TypeTable,
+    members: &MemberTable,
     i: usize,
     count: usize,
     s: &[u8],
@@ -120,25 +124,25 @@ pub fn apply_elements(
     image: &mut [u8],
     base: usize,
 ) -> usize
-    requires walkable { Walkable tables.now.types tables.now.members × (AllHere tables.now.types i count base image.old
+    requires walkable { Walkable types.now members.now × (AllHere types.now i count base image.old
         × (stream_ok s.now ≡ true)) }
-    requires right { accepted (write (array count (tree_in tables.now.types tables.now.members i)) (8 * base)
+    requires right { accepted (write (array count (tree_in types.now members.now i)) (8 * base)
         (left_at s.now k)
         (flat image.old)) ≡ true }
     ensures { Applied s.now k result image.old image.new
-        (write (array count (tree_in tables.now.types tables.now.members i)) (8 * base)
+        (write (array count (tree_in types.now members.now i)) (8 * base)
         (left_at s.now k)) }
 {
     if kind_of(s, k) == kinds::NULL {
         return k + 1;
     }
-    let size = struct_size(&tables.types, i);
+    let size = struct_size(types, i);
     let mut p = k + 1;
     for e in 0..count {
         if kind_of(s, p) == kinds::ARRAY_CLOSE {
             return p + 1;
         }
-        p = apply_struct(tables, i, s, p, image, base + size * e);
+        p = apply_struct(types, members, i, s, p, image, base + size * e);
     }
     p + 1
 }

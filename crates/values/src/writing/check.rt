@@ -14,7 +14,7 @@ use crate::reading::rows::{capacity_at, is_nested, is_string, nested_in};
 use crate::stream::kinds;
 use crate::stream::tokens::{kind_at, kind_of, payload_of};
 use crate::writing::fits::{check_leaf, check_text, close_at};
-use types::{MemberTable, Refusal, Tables, member_row, type_row};
+use types::{MemberTable, Refusal, TypeTable, member_row, type_row};
 
 // The row of the visible member of a number, among `count` from row `first` on.
 fn visible_row(members: &MemberTable, first: usize, count: usize, j: usize) -> Option<usize>
@@ -34,40 +34,48 @@ fn visible_row(members: &MemberTable, first: usize, count: usize, j: usize) -> O
 // Structure i.
 #[cycle(checking)]
 pub fn check_struct(
-    tables: &Tables,
+    types: &TypeTable,
+    members: &MemberTable,
     i: usize,
     s: &[u8],
     n: usize,
     k: usize,
 ) -> Result<usize, Refusal>
-    requires walkable { Walkable tables.now.types tables.now.members × (i < most_types) }
+    requires walkable { Walkable types.now members.now × (i < most_types) }
     requires well_formed { WellFormed s.now n × (k ≤ n) }
     ensures { (p : ℕ) → CheckedFrom s.now k result
-        (write (tree_in tables.now.types tables.now.members i) p (left_at s.now k)) }
+        (write (tree_in types.now members.now i) p (left_at s.now k)) }
 {
-    let d = type_row(&tables.types, i);
+    let d = type_row(types, i);
     if is_string(d.kind) {
-        let capacity = capacity_at(&tables.members, d.first as usize);
+        let capacity = capacity_at(members, d.first as usize);
         return check_text(capacity, s, n, k);
     }
-    check_members(tables, i, s, n, k)
+    check_members(types, members, i, s, n, k)
 }
 
 // Its members, in any order, or null.
 #[cycle(checking)]
-fn check_members(tables: &Tables, i: usize, s: &[u8], n: usize, k: usize) -> Result<usize, Refusal>
-    requires walkable { Walkable tables.now.types tables.now.members × (i < most_types) }
+fn check_members(
+    types: &TypeTable,
+    members: &MemberTable,
+    i: usize,
+    s: &[u8],
+    n: usize,
+    k: usize,
+) -> Result<usize, Refusal>
+    requires walkable { Walkable types.now members.now × (i < most_types) }
     requires well_formed { WellFormed s.now n × (k ≤ n) }
     ensures { (p : ℕ) → CheckedFrom s.now k result
-        (write (struct (8 * sizes_in tables.now.types i)
-        (branches_in tables.now.types tables.now.members i)) p (left_at s.now k)) }
+        (write (struct (8 * sizes_in types.now i)
+        (branches_in types.now members.now i)) p (left_at s.now k)) }
 {
     match kind_at(s, n, k) {
         kinds::NULL => return Ok(k + 1),
         kinds::OPEN => {}
         _ => return Err(Refusal::EntryMisfit(k as u32)),
     }
-    let d = type_row(&tables.types, i);
+    let d = type_row(types, i);
     let mut p = k + 1;
     while p < n {
         match kind_of(s, p) {
@@ -76,13 +84,13 @@ fn check_members(tables: &Tables, i: usize, s: &[u8], n: usize, k: usize) -> Res
             _ => return Err(Refusal::EntryMisfit(p as u32)),
         }
         let j = payload_of(s, p) as usize;
-        let Some(row) = visible_row(&tables.members, d.first as usize, d.count as usize, j) else {
+        let Some(row) = visible_row(members, d.first as usize, d.count as usize, j) else {
             return Err(Refusal::EntryMisfit(p as u32));
         };
-        p = if is_nested(&tables.members, row) {
-            check_nested(tables, i, row, s, n, p + 1)?
+        p = if is_nested(members, row) {
+            check_nested(types, members, i, row, s, n, p + 1)?
         } else {
-            check_leaf(&tables.members, row, s, n, p + 1)?
+            check_leaf(members, row, s, n, p + 1)?
         };
     }
     Err(Refusal::EntryMisfit(p as u32))
@@ -91,41 +99,43 @@ fn check_members(tables: &Tables, i: usize, s: &[u8], n: usize, k: usize) -> Res
 // The structure, or the array of structures, in a row of structure i.
 #[cycle(checking)]
 fn check_nested(
-    tables: &Tables,
+    types: &TypeTable,
+    members: &MemberTable,
     i: usize,
     row: usize,
     s: &[u8],
     n: usize,
     k: usize,
 ) -> Result<usize, Refusal>
-    requires walkable { Walkable tables.now.types tables.now.members
-        × NestedRow tables.now.types tables.now.members i row }
+    requires walkable { Walkable types.now members.now
+        × NestedRow types.now members.now i row }
     requires well_formed { WellFormed s.now n × (k ≤ n) }
     ensures { (p : ℕ) → CheckedFrom s.now k result
-        (write (member_tree (tree_in tables.now.types tables.now.members) (member_at tables.now.members row)) p
+        (write (member_tree (tree_in types.now members.now) (member_at members.now row)) p
         (left_at s.now k)) }
 {
-    let m = nested_in(&tables.members, row);
+    let m = nested_in(members, row);
     if m.count == 0 {
-        return check_struct(tables, m.structure, s, n, k);
+        return check_struct(types, members, m.structure, s, n, k);
     }
-    check_elements(tables, m.structure, m.count, s, n, k)
+    check_elements(types, members, m.structure, m.count, s, n, k)
 }
 
 // An array of structures i, or null.
 #[cycle(checking)]
 pub fn check_elements(
-    tables: &Tables,
+    types: &TypeTable,
+    members: &MemberTable,
     i: usize,
     count: usize,
     s: &[u8],
     n: usize,
     k: usize,
 ) -> Result<usize, Refusal>
-    requires walkable { Walkable tables.now.types tables.now.members × (i < most_types) }
+    requires walkable { Walkable types.now members.now × (i < most_types) }
     requires well_formed { WellFormed s.now n × (k ≤ n) }
     ensures { (p : ℕ) → CheckedFrom s.now k result
-        (write (array count (tree_in tables.now.types tables.now.members i)) p (left_at s.now k)) }
+        (write (array count (tree_in types.now members.now i)) p (left_at s.now k)) }
 {
     match kind_at(s, n, k) {
         kinds::NULL => return Ok(k + 1),
@@ -140,7 +150,7 @@ pub fn check_elements(
         if kind_of(s, p) == kinds::ARRAY_CLOSE {
             return Ok(p + 1);
         }
-        p = check_struct(tables, i, s, n, p)?;
+        p = check_struct(types, members, i, s, n, p)?;
     }
     close_at(s, n, p)
 }

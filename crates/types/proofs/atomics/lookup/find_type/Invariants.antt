@@ -5,6 +5,6 @@ use Rattle.types.specs.book.Contents.{list_from}
 use Rattle.types.proofs.atomics.lookup.find_type.Given as goal
 
 abbrev pub invariant-loop-i : goal.invariant-loop-i
-invariant-loop-i l = named_among (list_from (row_name l.tables.types l.tables.names) l.from (l.n - l.from)) l.name
+invariant-loop-i l = named_among (list_from (row_name l.types l.names) l.from (l.n - l.from)) l.name
     l.from
-    ≡ named_among (list_from (row_name l.tables.types l.tables.names) l.i (l.n - l.i)) l.name l.i
+    ≡ named_among (list_from (row_name l.types l.names) l.i (l.n - l.i)) l.name l.i

@@ -16,12 +16,12 @@ pub returns-then-long-name : goal.returns-then-long-name
 unfolding type_at
 returns-then-long-name c =
     let a = c.args in
-    c.same_name.ensures ∙ rw (lent_name a.tables.now.names (type_at a.tables.now.types a.i).name refl refl)
+    c.same_name.ensures ∙ rw (lent_name a.names.now (type_at a.types.now a.i).name refl refl)
 
 pub returns-else-long-name : goal.returns-else-long-name
 unfolding type_at
 returns-else-long-name c =
     let a = c.args in
-    let differ = same_long (row_name a.tables.now.types a.tables.now.names a.i) a.name.now
-    (λ e. c.if-long-name.false (sym (length_part a.tables.now.names _ _ c.requires.1) ∙ e)) in
+    let differ = same_long (row_name a.types.now a.names.now a.i) a.name.now
+    (λ e. c.if-long-name.false (sym (length_part a.names.now _ _ c.requires.1) ∙ e)) in
     rw (ne_eqb _ _ c.if-long-name.false) (sym differ)

@@ -5,7 +5,7 @@ use Rattle.types.proofs.templates.waste.WasteLaws.{count_first, count_on, count_
 use Rattle.types.proofs.templates.waste.lost_bits.Goals as goal
 
 pub loop-row-init : goal.loop-row-init
-loop-row-init c = count_first c.args.tables.now.types c.args.tables.now.members c.args.d.first _
+loop-row-init c = count_first c.args.types.now c.args.members.now c.args.d.first _
 
 pub seen_bits-bits-requires : goal.seen_bits-bits-requires
 seen_bits-bits-requires c =

@@ -3,4 +3,4 @@ use Rattle.types.proofs.templates.waste.WasteLaws.{CountingBits}
 use Rattle.types.proofs.templates.waste.lost_bits.Given as goal
 
 abbrev pub invariant-loop-row : goal.invariant-loop-row
-invariant-loop-row l = CountingBits l.tables.types l.tables.members l.first l.row-end l.bits l.row
+invariant-loop-row l = CountingBits l.types l.members l.first l.row-end l.bits l.row

@@ -35,7 +35,7 @@ normal_elements-returns t c = elements_done c.requires.0 c.requires.1 c.loop-e.i
 
 -- the member was read
 held : (t : ℕ) (c : normal_member-After-member_row-m t)
-    → PlainHere c.args.tables.now.types c.args.tables.now.members c.args.i c.args.row c.args.base c.args.c
+    → PlainHere c.args.types.now c.args.members.now c.args.i c.args.row c.args.base c.args.c
     c.args.image.now
     c.member_row-m.result c.member_row-m.result.offset c.member_row-m.result.count
 held t c =

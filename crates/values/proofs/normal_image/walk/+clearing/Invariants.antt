@@ -21,9 +21,9 @@ decreases-sweep l = 4 * l.i + 2
 -- the first e elements are normal
 abbrev pub invariant-normal_elements-loop-e : goal.invariant-normal_elements-loop-e
 invariant-normal_elements-loop-e l =
-    ElementsNormal l.tables.types l.tables.members l.i l.count l.initial.image l.base l.size l.e l.image
+    ElementsNormal l.types l.members l.i l.count l.initial.image l.base l.size l.e l.image
 
 -- the plain members of the first k rows are normal, up to byte c
 abbrev pub invariant-sweep-loop-k : goal.invariant-sweep-loop-k
 invariant-sweep-loop-k l =
-    Sweeping l.tables.types l.tables.members l.i l.initial.image l.base l.first l.k-end l.image l.c l.k
+    Sweeping l.types l.members l.i l.initial.image l.base l.first l.k-end l.image l.c l.k

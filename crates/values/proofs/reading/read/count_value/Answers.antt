@@ -19,10 +19,10 @@ pub returns-in-Atomic : goal.returns-in-Atomic
 returns-in-Atomic c =
     let a = c.args in
     counted_same (c.count_atomics.ensures a.texts.now) (λ image. sym
-    (value_atomic a.tables.now.types a.tables.now.members a.n image a.ty c.in-Atomic.is))
+    (value_atomic a.types.now a.members.now a.n image a.ty c.in-Atomic.is))
 
 pub returns-in-Struct : goal.returns-in-Struct
 returns-in-Struct c =
     let a = c.args in
     counted_same c.count_structs.ensures (λ image. sym
-    (value_struct a.tables.now.types a.tables.now.members a.n image a.ty c.in-Struct.is))
+    (value_struct a.types.now a.members.now a.n image a.ty c.in-Struct.is))

@@ -14,16 +14,16 @@ use Rattle.values.proofs.reading.read.read.Goals.{In_ok-image_fit}
 -- the image fits
 fits : (c : In_ok-image_fit)
     → let a = c.args in
-    done tt ≡ said_of_image a.tables.now.types a.ty a.count (length a.image.now)
+    done tt ≡ said_of_image a.types.now a.ty a.count (length a.image.now)
 fits c = rw c.in_ok-image_fit.was at c.image_fit.ensures
 
 pub returns-then-most-lt4 : goal.returns-then-most-lt4
 returns-then-most-lt4 c =
     let a = c.args in
-    answered a.tables.now.types a.tables.now.members a.ty a.count a.image.now a.out.now
+    answered a.types.now a.members.now a.ty a.count a.image.now a.out.now
     (fits (goal.at.returns-then-most-lt4 c).In_ok-image_fit)
-    (no_room a.tables.now.types a.tables.now.members a.ty a.count a.image.now a.out.now
-    (no_start a.tables.now.types a.tables.now.members a.ty a.count a.image.now a.out.now
+    (no_room a.types.now a.members.now a.ty a.count a.image.now a.out.now
+    (no_start a.types.now a.members.now a.ty a.count a.image.now a.out.now
     (omega (arith, c.min-most.ensures, c.if-most-lt4.true))))
 
 pub read_within-requires : goal.read_within-requires
@@ -31,7 +31,7 @@ read_within-requires c =
     let a = c.args in record {
       walkable = (
         kept_walkable c.requires.kept,
-        (fit_image a.tables.now.types a.ty a.count a.image.now
+        (fit_image a.types.now a.ty a.count a.image.now
             (fits (goal.at.read_within-requires c).In_ok-image_fit)),
       );
       most_room = omega (arith, c.min-most.ensures, c.if-most-lt4.false);
@@ -40,7 +40,7 @@ read_within-requires c =
 pub returns : goal.returns
 returns c =
     let a = c.args in
-    answered a.tables.now.types a.tables.now.members a.ty a.count a.image.now a.out.now
+    answered a.types.now a.members.now a.ty a.count a.image.now a.out.now
     (fits (goal.at.returns c).In_ok-image_fit)
     c.read_within.ensures
 
@@ -49,5 +49,5 @@ returns-in_err-image_fit c =
     let a = c.args in
     let p = err_from_is_err_and c.from_residual.result c.from_residual.ensures.1 in
     rw (p.1, p.2)
-    (unfit_read a.tables.now.types a.tables.now.members a.ty a.count a.image.now a.out.now
+    (unfit_read a.types.now a.members.now a.ty a.count a.image.now a.out.now
     (rw c.in_err-image_fit.was at c.image_fit.ensures))

@@ -14,27 +14,27 @@ put_atomics-requires c =
     let a = c.args in
     let is = c.in-Atomic.is in
     let v = rw is at c.requires.walkable.1 in
-    let r = room_as (value_atomic a.tables.now.types a.tables.now.members a.n a.image.now a.ty is)
+    let r = room_as (value_atomic a.types.now a.members.now a.n a.image.now a.ty is)
     c.requires.stream_room in
     (v.long, omega (arith, r.entries, r.texts))
 
 pub returns-in-Atomic : goal.returns-in-Atomic
 returns-in-Atomic c =
     let a = c.args in
-    wrote_as (value_atomic a.tables.now.types a.tables.now.members a.n a.image.now a.ty c.in-Atomic.is)
+    wrote_as (value_atomic a.types.now a.members.now a.n a.image.now a.ty c.in-Atomic.is)
     (put_wrote a.base 0 (textless_atomics _ a.n a.image.now) c.put_atomics.ensures)
 
 pub read_structs-requires : goal.read_structs-requires
 read_structs-requires c =
     let a = c.args in
     let is = c.in-Struct.is in record {
-      walkable = (c.requires.walkable.0, images a.tables.now.types a.ty a.n a.image.now is c.requires.walkable.1);
-      stream_room = room_as (ap (λ (t : Ty). value_out a.tables.now.types a.tables.now.members t a.n a.image.now) is)
+      walkable = (c.requires.walkable.0, images a.types.now a.ty a.n a.image.now is c.requires.walkable.1);
+      stream_room = room_as (ap (λ (t : Ty). value_out a.types.now a.members.now t a.n a.image.now) is)
           c.requires.stream_room;
     }
 
 pub returns-in-Struct : goal.returns-in-Struct
 returns-in-Struct c =
     let a = c.args in
-    wrote_as (ap (λ (t : Ty). value_out a.tables.now.types a.tables.now.members t a.n a.image.now)
+    wrote_as (ap (λ (t : Ty). value_out a.types.now a.members.now t a.n a.image.now)
     c.in-Struct.is) c.read_structs.ensures

@@ -13,18 +13,18 @@ use Rattle.values.proofs.reading.read.read_within.Goals.{Start}
 -- the stream is that of the walk's entries
 same : (c : Start) → Bytes c.args.image.now
     → let a = c.args in
-    value_stream a.tables.now.types a.tables.now.members a.ty a.n a.image.now
-    ≡ stream_bytes (value_out a.tables.now.types a.tables.now.members a.ty a.n a.image.now)
+    value_stream a.types.now a.members.now a.ty a.n a.image.now
+    ≡ stream_bytes (value_out a.types.now a.members.now a.ty a.n a.image.now)
 same c b =
     let a = c.args in
-    stream_is a.tables.now.types a.tables.now.members c.requires.walkable.0 a.ty a.n a.image.now c.requires.walkable.1 b
+    stream_is a.types.now a.members.now c.requires.walkable.0 a.ty a.n a.image.now c.requires.walkable.1 b
 
 pub returns-then-most-entries : goal.returns-then-most-entries
 returns-then-most-entries c =
     let a = c.args in
     let over = c.count_value-entries.ensures.over c.if-most-entries.true a.image.now in
-    no_room a.tables.now.types a.tables.now.members a.ty a.n a.image.now a.out.now
-    (over_room a.tables.now.types a.tables.now.members a.ty a.n a.image.now a.out.now a.room
+    no_room a.types.now a.members.now a.ty a.n a.image.now a.out.now
+    (over_room a.types.now a.members.now a.ty a.n a.image.now a.out.now a.room
     (same (goal.at.returns-then-most-entries c).Start (λ k. (c.type_inv.image k).fits)) c.requires.most_room
     (omega (arith, over)))
 
@@ -40,8 +40,8 @@ returns-then-left-text c =
     let a = c.args in
     let over = c.text_value-text.ensures.over c.if-left-text.true in
     let is = c.count_value-entries.ensures.exact c.if-most-entries.false a.image.now in
-    no_room a.tables.now.types a.tables.now.members a.ty a.n a.image.now a.out.now
-    (over_room a.tables.now.types a.tables.now.members a.ty a.n a.image.now a.out.now a.room
+    no_room a.types.now a.members.now a.ty a.n a.image.now a.out.now
+    (over_room a.types.now a.members.now a.ty a.n a.image.now a.out.now a.room
     (same (goal.at.returns-then-left-text c).Start (λ k. (c.type_inv.image k).fits)) c.requires.most_room
     (omega (arith, over, is, c.if-most-entries.false)))
 
@@ -73,7 +73,7 @@ returns c =
     let a = c.args in
     let is = c.count_value-entries.ensures.exact c.if-most-entries.false a.image.now in
     let text = c.text_value-text.ensures.exact (omega (arith, c.if-left-text.false)) in
-    read_all a.tables.now.types a.tables.now.members a.ty a.n a.image.now a.out.now a.room
+    read_all a.types.now a.members.now a.ty a.n a.image.now a.out.now a.room
     (same (goal.at.returns c).Start (λ k. (c.type_inv.image k).fits)) c.requires.most_room
     (omega (arith, is)) (sym text)
     (omega (arith, is, text, c.if-left-text.false, c.if-most-entries.false)) c.store.ensures

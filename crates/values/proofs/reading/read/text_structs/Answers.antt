@@ -9,7 +9,7 @@ text_struct-requires c =
     let a = c.args in (
       c.requires.0,
       (
-        image_one a.tables.now.types a.i a.n a.image.now c.requires.1.0 c.if-n-eq0.true,
+        image_one a.types.now a.i a.n a.image.now c.requires.1.0 c.if-n-eq0.true,
         c.requires.1.1,
       ),
     )
@@ -17,7 +17,7 @@ text_struct-requires c =
 pub returns-then-n-eq0 : goal.returns-then-n-eq0
 returns-then-n-eq0 c =
     let a = c.args in
-    texts_as (sym (value_one a.tables.now.types a.tables.now.members a.n a.image.now a.i c.if-n-eq0.true))
+    texts_as (sym (value_one a.types.now a.members.now a.n a.image.now a.i c.if-n-eq0.true))
     c.text_struct.ensures
 
 pub text_elements-requires : goal.text_elements-requires
@@ -25,7 +25,7 @@ text_elements-requires c =
     let a = c.args in (
       c.requires.0,
       (
-        image_some a.tables.now.types a.i a.n a.image.now c.requires.1.0 c.if-n-eq0.false,
+        image_some a.types.now a.i a.n a.image.now c.requires.1.0 c.if-n-eq0.false,
         c.requires.1.1,
       ),
     )
@@ -33,5 +33,5 @@ text_elements-requires c =
 pub returns-else-n-eq0 : goal.returns-else-n-eq0
 returns-else-n-eq0 c =
     let a = c.args in
-    texts_as (sym (value_some a.tables.now.types a.tables.now.members a.n a.image.now a.i c.if-n-eq0.false))
+    texts_as (sym (value_some a.types.now a.members.now a.n a.image.now a.i c.if-n-eq0.false))
     c.text_elements.ensures

@@ -16,7 +16,7 @@ text_structs-requires c =
     let a = c.args in (
       c.requires.walkable.0,
       (
-        images a.tables.now.types a.ty a.n a.image.now c.in-Struct.is
+        images a.types.now a.ty a.n a.image.now c.in-Struct.is
             c.requires.walkable.1.1,
         c.requires.walkable.1.0,
       ),
@@ -25,11 +25,11 @@ text_structs-requires c =
 pub returns-in-Atomic : goal.returns-in-Atomic
 returns-in-Atomic c =
     let a = c.args in
-    no_texts (ap bodies (value_atomic a.tables.now.types a.tables.now.members a.n a.image.now a.ty
+    no_texts (ap bodies (value_atomic a.types.now a.members.now a.n a.image.now a.ty
     c.in-Atomic.is) ∙ (textless_atomics _ a.n a.image.now).none)
 
 pub returns-in-Struct : goal.returns-in-Struct
 returns-in-Struct c =
     let a = c.args in
-    texts_as (sym (ap (λ (t : Ty). value_out a.tables.now.types a.tables.now.members t a.n a.image.now)
+    texts_as (sym (ap (λ (t : Ty). value_out a.types.now a.members.now t a.n a.image.now)
     c.in-Struct.is)) c.text_structs.ensures

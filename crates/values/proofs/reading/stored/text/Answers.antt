@@ -16,7 +16,7 @@ returns-in_err-d c =
     let e = sym (c.in_err-d.ensures.1 a.image.now) in
     rw (p.1, p.2, c.in_err-d.ensures.0)
     (record {
-      answer = stored_none a.tables.now.types a.tables.now.members a.ty a.image.now e (omega arith);
+      answer = stored_none a.types.now a.members.now a.ty a.image.now e (omega arith);
       place = tt;
     })
 
@@ -24,7 +24,7 @@ pub returns-then-image-d : goal.returns-then-image-d
 returns-then-image-d c =
     let a = c.args in
     let e = row_misfits c.in_ok-d.ensures a.image.now c.if-image-d.true in
-    record { answer = stored_none a.tables.now.types a.tables.now.members a.ty a.image.now e (omega arith); place = tt }
+    record { answer = stored_none a.types.now a.members.now a.ty a.image.now e (omega arith); place = tt }
 
 pub capacity_at-capacity-requires : goal.capacity_at-capacity-requires
 capacity_at-capacity-requires c =
@@ -37,7 +37,7 @@ text_length-end-requires c =
 -- the text lies in the image
 held : (c : After-text_length-end)
     → let a = c.args in
-    TextHeld a.tables.now.types a.tables.now.members a.ty a.image.now c.text_length-end.result
+    TextHeld a.types.now a.members.now a.ty a.image.now c.text_length-end.result
 held c =
     let a = c.args in
     row_held c.in_ok-d.ensures a.image.now (kept_walkable c.requires.kept) c.if-image-d.false
@@ -51,7 +51,7 @@ returns c =
     let a = c.args in
     let fits = row_fits c.in_ok-d.ensures a.image.now c.if-image-d.false in
     record {
-      answer = stored_text a.tables.now.types a.tables.now.members a.ty a.image.now fits
+      answer = stored_text a.types.now a.members.now a.ty a.image.now fits
           (held (goal.at.returns c).After-text_length-end);
       place = record { block = refl; start = omega arith };
     }

@@ -19,11 +19,11 @@ decreases-read_struct l = 4 * l.i + 3
 
 abbrev pub invariant-read_elements-loop-k : goal.invariant-read_elements-loop-k
 invariant-read_elements-loop-k l =
-    ElementsRead l.tables.types l.tables.members l.i l.n l.image l.size l.initial.out l.base l.initial.p l.initial.t
+    ElementsRead l.types l.members l.i l.n l.image l.size l.initial.out l.base l.initial.p l.initial.t
     l.k l.out l.p l.t
 
 abbrev pub invariant-read_members-loop-j : goal.invariant-read_members-loop-j
 invariant-read_members-loop-j l =
-    RowsRead l.tables.types l.tables.members l.i l.image l.first l.j-end l.initial.out l.base l.initial.p l.initial.t
+    RowsRead l.types l.members l.i l.image l.first l.j-end l.initial.out l.base l.initial.p l.initial.t
     l.j l.out l.p
     l.t

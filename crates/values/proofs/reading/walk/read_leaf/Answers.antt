@@ -17,7 +17,7 @@ put_entry-requires c =
 -- the number is put
 numbered : (c : After-put_entry)
     → let a = c.args in
-    NumberPut a.tables.now.types a.tables.now.members a.image.now a.out.now a.i a.row a.j a.at c.member_row-m.result
+    NumberPut a.types.now a.members.now a.image.now a.out.now a.i a.row a.j a.at c.member_row-m.result
     c.put_entry.new.out c.member_row-m.result.offset c.member_row-m.result.count
 numbered c = record {
   row_of = c.requires.row_of.0;
@@ -48,9 +48,9 @@ returns-in-Some c =
 -- and atomics are to follow
 atomics : (c : After-times_of)
     → let a = c.args in
-    NumberPut a.tables.now.types a.tables.now.members a.image.now a.out.now a.i a.row a.j a.at c.member_row-m.result
+    NumberPut a.types.now a.members.now a.image.now a.out.now a.i a.row a.j a.at c.member_row-m.result
     c.put_entry.new.out c.member_row-m.result.offset c.member_row-m.result.count
-    → Atomics a.tables.now.types a.tables.now.members a.image.now a.out.now a.i a.row a.j a.at c.member_row-m.result
+    → Atomics a.types.now a.members.now a.image.now a.out.now a.i a.row a.j a.at c.member_row-m.result
     c.put_entry.new.out c.member_row-m.result.offset c.member_row-m.result.count c.in-Atomic.a c.size.result
     c.times_of.result
 atomics c put = record {

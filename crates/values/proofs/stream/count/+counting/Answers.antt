@@ -55,7 +55,7 @@ count_nested-returns t c = λ j. nested_counted j c.requires.1.0 c.nested_in-m.e
 
 -- what the test says of the table's row
 kind : (t : ℕ) (c : count_struct-After-is_string t)
-    → is_string_kind (type_at c.args.tables.now.types c.args.i).kind ≡ c.is_string.result
+    → is_string_kind (type_at c.args.types.now c.args.i).kind ≡ c.is_string.result
 kind t c = ap (λ (d : StructDef). is_string_kind d.kind) (sym c.type_row-d.ensures) ∙ sym c.is_string.ensures
 
 pub count_struct-returns-then-is_string : goal.count_struct-returns-then-is_string
@@ -72,21 +72,21 @@ count_struct-returns t c =
 
 pub count_structs-returns-then-n-eq0 : goal.count_structs-returns-then-n-eq0
 count_structs-returns-then-n-eq0 t c =
-    structs_one c.args.tables.now.types c.args.tables.now.members c.args.i c.args.n c.if-n-eq0.true
+    structs_one c.args.types.now c.args.members.now c.args.i c.args.n c.if-n-eq0.true
     c.count_struct.ensures
 
 pub count_structs-returns-then-most-n : goal.count_structs-returns-then-most-n
 count_structs-returns-then-most-n t c =
-    structs_many c.args.tables.now.types c.args.tables.now.members c.args.i c.args.n c.if-n-eq0.false c.if-most-n.true
+    structs_many c.args.types.now c.args.members.now c.args.i c.args.n c.if-n-eq0.false c.if-most-n.true
 
 pub count_structs-returns-then-most-one : goal.count_structs-returns-then-most-one
 count_structs-returns-then-most-one t c =
-    structs_large c.args.tables.now.types c.args.tables.now.members c.args.i c.args.n c.if-n-eq0.false
+    structs_large c.args.types.now c.args.members.now c.args.i c.args.n c.if-n-eq0.false
     c.count_struct-one.ensures
     c.if-most-one.true
 
 pub count_structs-returns : goal.count_structs-returns
 count_structs-returns t c =
-    structs_all c.args.tables.now.types c.args.tables.now.members c.args.i c.args.n c.if-n-eq0.false
+    structs_all c.args.types.now c.args.members.now c.args.i c.args.n c.if-n-eq0.false
     c.count_struct-one.ensures
     c.if-most-one.false

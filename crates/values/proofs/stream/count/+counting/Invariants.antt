@@ -20,4 +20,4 @@ decreases-count_structs l = 4 * l.i + 4
 -- the sum of the first j rows is exact for every image where it is at most `most`, and else both are above it
 abbrev pub invariant-count_members-loop-j : goal.invariant-count_members-loop-j
 invariant-count_members-loop-j l =
-    RowsCounted l.tables.types l.tables.members l.i l.from l.most l.first l.n l.initial.texts l.texts l.sum l.j
+    RowsCounted l.types l.members l.i l.from l.most l.first l.n l.initial.texts l.texts l.sum l.j

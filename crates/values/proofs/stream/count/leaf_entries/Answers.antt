@@ -10,27 +10,31 @@ returns-then-m c =
     let m = c.member_row-m in
     (λ j. rw (← m.ensures) (leaf_hidden m.result j c.if-m.true), omega arith)
 
-pub returns-in-Some-default : goal.returns-in-Some-default
-returns-in-Some-default c =
+pub returns-in-Some : goal.returns-in-Some
+returns-in-Some c =
     let m = c.member_row-m in
-    (λ j. rw (← m.ensures) (leaf_bit m.result j c.if-m.false c.in-Some-default.is-0), omega arith)
+    (λ j. rw (← m.ensures) (leaf_bit m.result j c.if-m.false c.in-Some.is), omega arith)
 
 few : (c : After-atomic_entries) → c.atomic_entries.result ≤ 2 ^ 39
-few c = atomics_few c.in-None-Atomic.a _ c.atomic_entries.ensures (omega (arith, c.ranges))
+few c = atomics_few c.in-Atomic.a _ c.atomic_entries.ensures (omega (arith, c.ranges))
 
 pub overflow_add-result : goal.overflow_add-result
 overflow_add-result c = omega (arith, few (goal.at.overflow_add-result c).After-atomic_entries)
 
-pub returns-in-None-Atomic : goal.returns-in-None-Atomic
-returns-in-None-Atomic c =
-    let m = c.member_row-m in
-    let at = c.in-None-Atomic in (
-      λ j. rw (← m.ensures) (leaf_atomic m.result j c.if-m.false at.is-0 at.is-1 refl c.atomic_entries.ensures),
-      omega (arith, few (goal.at.returns-in-None-Atomic c).After-atomic_entries),
+pub returns-in-None : goal.returns-in-None
+returns-in-None c =
+    let m = c.member_row-m in (
+      λ j. rw (← m.ensures)
+          (leaf_atomic m.result j c.if-m.false c.in-None.is c.in-Atomic.is refl c.atomic_entries.ensures),
+      omega (arith, few (goal.at.returns-in-None c).After-atomic_entries),
     )
 
-pub returns-in-None-Struct : goal.returns-in-None-Struct
-returns-in-None-Struct c =
+pub returns-in-Some-bit : goal.returns-in-Some-bit
+returns-in-Some-bit c =
     let m = c.member_row-m in
-    let at = c.in-None-Struct in
-    (λ j. rw (← m.ensures) (leaf_struct m.result j c.if-m.false at.is-0 at.is-1), omega arith)
+    (λ j. rw (← m.ensures) (leaf_bit m.result j c.if-m.false c.in-Some-bit.is), omega arith)
+
+pub returns-in-None-bit : goal.returns-in-None-bit
+returns-in-None-bit c =
+    let m = c.member_row-m in
+    (λ j. rw (← m.ensures) (leaf_struct m.result j c.if-m.false c.in-None-bit.is c.in-Struct.is), omega arith)

@@ -27,9 +27,9 @@ text_elements-returns-then-room-t t c = sum_past 10 11 c.loop-k.invariant c.if-r
 
 pub text_elements-loop-k-preserved : goal.text_elements-loop-k-preserved
 text_elements-loop-k-preserved t c =
-    let trees = struct_out c.args.tables.now.types c.args.tables.now.members in
+    let trees = struct_out c.args.types.now c.args.members.now in
     sum_on c.loop-k.invariant c.loop-k-test.true c.if-room-t.false
-    (texts_as (element_is c.requires.1.0 c.struct_size-size.ensures c.args.tables.now.members trees c.loop-k.k)
+    (texts_as (element_is c.requires.1.0 c.struct_size-size.ensures c.args.members.now trees c.loop-k.k)
     c.text_struct-t.ensures)
 
 pub text_elements-returns : goal.text_elements-returns
@@ -40,11 +40,11 @@ text_elements-returns t c = sum_done 10 11 c.loop-k.invariant c.loop-k-test.fals
 
 -- the code's first row and count are the table's
 first : (t : ℕ) (c : text_members-At-loop-j t)
-    → c.type_row-d.result.first ≡ (type_at c.args.tables.now.types c.args.i).first
+    → c.type_row-d.result.first ≡ (type_at c.args.types.now c.args.i).first
 first t c = ap (λ (d : StructDef). d.first) c.type_row-d.ensures
 
 count : (t : ℕ) (c : text_members-At-loop-j t)
-    → c.type_row-d.result.count ≡ (type_at c.args.tables.now.types c.args.i).count
+    → c.type_row-d.result.count ≡ (type_at c.args.types.now c.args.i).count
 count t c = ap (λ (d : StructDef). d.count) c.type_row-d.ensures
 
 pub text_members-loop-j-init : goal.text_members-loop-j-init
@@ -78,7 +78,7 @@ text_members-returns t c =
 
 -- what the row holds
 held : (t : ℕ) (c : text_nested-After-struct_size-size t)
-    → HeldRow c.args.tables.now.types c.args.tables.now.members c.args.i c.args.row c.args.image.now
+    → HeldRow c.args.types.now c.args.members.now c.args.i c.args.row c.args.image.now
     c.nested_in-m.result
     c.struct_size-size.result
 held t c =
@@ -96,7 +96,7 @@ text_nested-slice_bounds-text_struct-end t c =
 pub text_nested-returns-then-m-eq0 : goal.text_nested-returns-then-m-eq0
 text_nested-returns-then-m-eq0 t c = λ j.
     let w = held t (goal.at.text_nested-returns-then-m-eq0 t c).After-struct_size-size in
-    texts_as (one_is w c.if-m-eq0.true (struct_out c.args.tables.now.types c.args.tables.now.members) j)
+    texts_as (one_is w c.if-m-eq0.true (struct_out c.args.types.now c.args.members.now) j)
     (texts_member j c.text_struct.ensures)
 
 pub text_nested-overflow_mul-end : goal.text_nested-overflow_mul-end
@@ -117,20 +117,20 @@ text_nested-slice_bounds-text_elements-end t c =
 pub text_nested-returns : goal.text_nested-returns
 text_nested-returns t c = λ j.
     let w = held t (goal.at.text_nested-returns t c).After-struct_size-size in
-    texts_as (some_is w c.if-m-eq0.false (struct_out c.args.tables.now.types c.args.tables.now.members) j)
+    texts_as (some_is w c.if-m-eq0.false (struct_out c.args.types.now c.args.members.now) j)
     (texts_member j c.text_elements.ensures)
 
 -- ---- a structure
 
 -- what the test says of the table's row
 kind : (t : ℕ) (c : text_struct-After-is_string t)
-    → is_string_kind (type_at c.args.tables.now.types c.args.i).kind ≡ c.is_string.result
+    → is_string_kind (type_at c.args.types.now c.args.i).kind ≡ c.is_string.result
 kind t c = ap (λ (d : StructDef). is_string_kind d.kind) (sym c.type_row-d.ensures) ∙ sym c.is_string.ensures
 
 pub text_struct-returns-then-is_string : goal.text_struct-returns-then-is_string
 text_struct-returns-then-is_string t c =
     let a = c.args in
-    let string : StringAt a.tables.now.types a.tables.now.members a.i a.image.now c.type_row-d.result.first = record {
+    let string : StringAt a.types.now a.members.now a.i a.image.now c.type_row-d.result.first = record {
       tables = c.requires.0;
       whole = c.requires.1.0;
       kind = kind t (goal.at.text_struct-returns-then-is_string t c).After-is_string ∙ c.if-is_string.true;

@@ -21,9 +21,9 @@ decreases-text_struct l = 4 * l.i + 3
 -- the texts of the first k elements are summed
 abbrev pub invariant-text_elements-loop-k : goal.invariant-text_elements-loop-k
 invariant-text_elements-loop-k l =
-    Summed l.room (element_by l.tables.types l.tables.members (struct_out l.tables.types l.tables.members) l.i l.image)
+    Summed l.room (element_by l.types l.members (struct_out l.types l.members) l.i l.image)
     l.n l.k l.t
 
 -- the texts of the first j rows are summed
 abbrev pub invariant-text_members-loop-j : goal.invariant-text_members-loop-j
-invariant-text_members-loop-j l = RowsOfTexts l.tables.types l.tables.members l.i l.room l.image l.j l.t
+invariant-text_members-loop-j l = RowsOfTexts l.types l.members l.i l.room l.image l.j l.t

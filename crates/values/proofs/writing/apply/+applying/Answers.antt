@@ -119,7 +119,7 @@ apply_members-payload_of-requires t c =
 
 -- the entry names a visible member
 named_is : (t : ℕ) (c : apply_members-After-payload_of t)
-    → MemberNamed c.args.tables.now.types c.args.tables.now.members c.args.i c.args.s.now c.args.k c.args.image.now
+    → MemberNamed c.args.types.now c.args.members.now c.args.i c.args.s.now c.args.k c.args.image.now
     c.args.base
     c.type_row-first.result.first c.loop-row.p c.loop-row.image (c.type_row-first.result.first + c.payload_of.result)
 named_is t c =
@@ -159,27 +159,27 @@ apply_members-set_leaf-p-requires-clause-formed t c =
     let v = c.loop-row.invariant in
     let u = named_is t (goal.at.apply_members-set_leaf-p-requires-clause-formed t c).After-payload_of in
     let leaf = named_leaf v u c.is_nested.ensures c.if-is_nested.false in
-    (v.asked.form, (leaf, (sizes_in c.args.tables.now.types, named_here v u c.is_nested.ensures)))
+    (v.asked.form, (leaf, (sizes_in c.args.types.now, named_here v u c.is_nested.ensures)))
 
 pub apply_members-set_leaf-p-requires-clause-right : goal.apply_members-set_leaf-p-requires-clause-right
 apply_members-set_leaf-p-requires-clause-right t c =
     let u = named_is t (goal.at.apply_members-set_leaf-p-requires-clause-right t c).After-payload_of in
-    (tree_in c.args.tables.now.types c.args.tables.now.members, u.set)
+    (tree_in c.args.types.now c.args.members.now, u.set)
 
 pub apply_members-loop-row-smaller : goal.apply_members-loop-row-smaller
 apply_members-loop-row-smaller t c =
     let u = named_is t (goal.at.apply_members-loop-row-smaller t c).After-payload_of in
-    omega (arith, (c.set_leaf-p.ensures (tree_in c.args.tables.now.types c.args.tables.now.members)).further, u.inside)
+    omega (arith, (c.set_leaf-p.ensures (tree_in c.args.types.now c.args.members.now)).further, u.inside)
 
 pub apply_members-loop-row-preserved : goal.apply_members-loop-row-preserved
 apply_members-loop-row-preserved t c =
     (named_is t (goal.at.apply_members-loop-row-preserved t c).After-payload_of).on _ _
-    (c.set_leaf-p.ensures (tree_in c.args.tables.now.types c.args.tables.now.members))
+    (c.set_leaf-p.ensures (tree_in c.args.types.now c.args.members.now))
 
 -- what a row of a structure holds
 
 held : (t : ℕ) (c : apply_nested-After-nested_in-m t)
-    → Holds c.args.tables.now.types c.args.tables.now.members c.args.i c.args.row c.args.base c.args.image.now
+    → Holds c.args.types.now c.args.members.now c.args.i c.args.row c.args.base c.args.image.now
     c.nested_in-m.result
 held t c =
     let p = c.requires.walkable.1 in record { nested = p.0; here = p.1.0; held = c.nested_in-m.ensures }
@@ -246,7 +246,7 @@ apply_struct-returns t c =
     let same = rows_write p.0 p.1.0 c.type_row-d.ensures c.is_string.ensures c.if-is_string.false (8 * a.base)
     (left_at a.s.now a.k) (flat a.image.now) in
     applied_as
-    {g = write (struct (8 * sizes_in a.tables.now.types a.i) (branches_in a.tables.now.types a.tables.now.members a.i))
+    {g = write (struct (8 * sizes_in a.types.now a.i) (branches_in a.types.now a.members.now a.i))
     (8 * a.base)
     (left_at a.s.now a.k)}
     same c.apply_members.ensures

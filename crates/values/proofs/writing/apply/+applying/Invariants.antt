@@ -21,11 +21,11 @@ decreases-apply_struct l = 4 * l.i + 3
 
 abbrev pub invariant-apply_elements-loop-e : goal.invariant-apply_elements-loop-e
 invariant-apply_elements-loop-e l =
-    ElementsSet l.tables.types l.tables.members l.i l.count l.s l.k l.initial.image l.base l.size l.p l.e l.image
+    ElementsSet l.types l.members l.i l.count l.s l.k l.initial.image l.base l.size l.p l.e l.image
 
 abbrev pub invariant-apply_members-loop-row : goal.invariant-apply_members-loop-row
 invariant-apply_members-loop-row l =
-    MembersSet l.tables.types l.tables.members l.i l.s l.k l.initial.image l.base l.first l.p l.image
+    MembersSet l.types l.members l.i l.s l.k l.initial.image l.base l.first l.p l.image
 
 abbrev pub decreases-apply_members-loop-row : goal.decreases-apply_members-loop-row
 decreases-apply_members-loop-row l = count_in l.s - l.p

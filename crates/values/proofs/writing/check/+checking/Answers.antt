@@ -97,7 +97,7 @@ check_members-returns-in-9 t c =
 
 -- the row that the entry names
 named : (t : ℕ) (c : check_members-In-Some t)
-    → RowNamed c.args.tables.now.types c.args.tables.now.members c.args.i c.args.s.now c.loop-p.p c.in-Some.row
+    → RowNamed c.args.types.now c.args.members.now c.args.i c.args.s.now c.loop-p.p c.in-Some.row
 named t c =
     row_named c.loop-p.invariant c.loop-p-test.true c.kind_of.ensures c.in-7.is c.payload_of-j.ensures
     c.in-Some.ensures

@@ -19,10 +19,10 @@ abbrev pub decreases-check_struct : goal.decreases-check_struct
 decreases-check_struct l = 4 * l.i + 3
 
 abbrev pub invariant-check_elements-loop-e : goal.invariant-check_elements-loop-e
-invariant-check_elements-loop-e l = ElementsChecked l.tables.types l.tables.members l.i l.count l.s l.n l.k l.p l._e
+invariant-check_elements-loop-e l = ElementsChecked l.types l.members l.i l.count l.s l.n l.k l.p l._e
 
 abbrev pub invariant-check_members-loop-p : goal.invariant-check_members-loop-p
-invariant-check_members-loop-p l = MembersChecked l.tables.types l.tables.members l.i l.s l.n l.k l.d.first l.d.count
+invariant-check_members-loop-p l = MembersChecked l.types l.members l.i l.s l.n l.k l.d.first l.d.count
     l.p
 
 abbrev pub decreases-check_members-loop-p : goal.decreases-check_members-loop-p

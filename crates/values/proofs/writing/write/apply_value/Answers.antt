@@ -13,7 +13,7 @@ set_atomics-requires c =
     let a = c.args in
     let is = c.in-Atomic.is in record {
       formed = (c.requires.walkable.1.1, omega (arith, atomics_fit c.requires.walkable.1.0 is));
-      right = accepted_as (atomics_write a.tables.now.types a.tables.now.members a.n (left_at a.s.now 0)
+      right = accepted_as (atomics_write a.types.now a.members.now a.n (left_at a.s.now 0)
           (flat a.image.now)
           is) c.requires.right;
     }
@@ -24,7 +24,7 @@ apply_struct-requires c =
     let is = c.in-Struct.is in
     let p = c.requires.walkable in record {
       walkable = (p.0, (value_here p.1.0 is c.if-n-eq0.true, p.1.1));
-      right = accepted_as (value_write a.tables.now.types a.tables.now.members a.n (left_at a.s.now 0)
+      right = accepted_as (value_write a.types.now a.members.now a.n (left_at a.s.now 0)
           (flat a.image.now) is
           c.if-n-eq0.true) c.requires.right;
     }
@@ -32,7 +32,7 @@ apply_struct-requires c =
 pub returns-then-n-eq0 : goal.returns-then-n-eq0
 returns-then-n-eq0 c =
     let a = c.args in
-    applied_as (value_write a.tables.now.types a.tables.now.members a.n (left_at a.s.now 0) (flat a.image.now)
+    applied_as (value_write a.types.now a.members.now a.n (left_at a.s.now 0) (flat a.image.now)
     c.in-Struct.is c.if-n-eq0.true) c.apply_struct.ensures
 
 pub apply_elements-requires : goal.apply_elements-requires
@@ -41,7 +41,7 @@ apply_elements-requires c =
     let is = c.in-Struct.is in
     let p = c.requires.walkable in record {
       walkable = (p.0, (values_here p.1.0 is c.if-n-eq0.false, p.1.1));
-      right = accepted_as (values_write a.tables.now.types a.tables.now.members a.n (left_at a.s.now 0)
+      right = accepted_as (values_write a.types.now a.members.now a.n (left_at a.s.now 0)
           (flat a.image.now)
           is c.if-n-eq0.false) c.requires.right;
     }
@@ -49,11 +49,11 @@ apply_elements-requires c =
 pub returns-else-n-eq0 : goal.returns-else-n-eq0
 returns-else-n-eq0 c =
     let a = c.args in
-    applied_as (values_write a.tables.now.types a.tables.now.members a.n (left_at a.s.now 0) (flat a.image.now)
+    applied_as (values_write a.types.now a.members.now a.n (left_at a.s.now 0) (flat a.image.now)
     c.in-Struct.is c.if-n-eq0.false) c.apply_elements.ensures
 
 pub returns-in-Atomic : goal.returns-in-Atomic
 returns-in-Atomic c =
     let a = c.args in
-    applied_as (atomics_write a.tables.now.types a.tables.now.members a.n (left_at a.s.now 0) (flat a.image.now)
+    applied_as (atomics_write a.types.now a.members.now a.n (left_at a.s.now 0) (flat a.image.now)
     c.in-Atomic.is) c.set_atomics.ensures

@@ -13,13 +13,13 @@ use Rattle.values.proofs.writing.write.write.Goals.{In_ok-image_fit}
 -- the image fits
 fits : (c : In_ok-image_fit)
     → let a = c.args in
-    done tt ≡ said_of_image a.tables.now.types a.ty a.count (length a.image.now)
+    done tt ≡ said_of_image a.types.now a.ty a.count (length a.image.now)
 fits c = rw c.in_ok-image_fit.was at c.image_fit.ensures
 
 pub returns-then-not-stream_ok : goal.returns-then-not-stream_ok
 returns-then-not-stream_ok c =
     let a = c.args in
-    no_stream a.tables.now.types a.tables.now.members a.ty a.count a.s.now a.image.now
+    no_stream a.types.now a.members.now a.ty a.count a.s.now a.image.now
     (fits (goal.at.returns-then-not-stream_ok c).In_ok-image_fit)
     (sym c.stream_ok.ensures ∙ c.if-not-stream_ok.true)
 
@@ -28,7 +28,7 @@ write_entries-requires c =
     let a = c.args in (
       kept_walkable c.requires.kept,
       (
-        (fit_image a.tables.now.types a.ty a.count a.image.now
+        (fit_image a.types.now a.ty a.count a.image.now
             (fits (goal.at.write_entries-requires c).In_ok-image_fit)),
         sym c.stream_ok.ensures ∙ c.if-not-stream_ok.false,
       ),
@@ -37,7 +37,7 @@ write_entries-requires c =
 pub returns : goal.returns
 returns c =
     let a = c.args in
-    entered_done a.tables.now.types a.tables.now.members a.ty a.count a.s.now a.image.now
+    entered_done a.types.now a.members.now a.ty a.count a.s.now a.image.now
     (fits (goal.at.returns c).In_ok-image_fit)
     (sym c.stream_ok.ensures ∙ c.if-not-stream_ok.false)
     c.write_entries.ensures
@@ -47,5 +47,5 @@ returns-in_err-image_fit c =
     let a = c.args in
     let p = err_from_is_err_and c.from_residual.result c.from_residual.ensures.1 in
     rw (p.1, p.2)
-    (unfit_write a.tables.now.types a.tables.now.members a.ty a.count a.s.now a.image.now
+    (unfit_write a.types.now a.members.now a.ty a.count a.s.now a.image.now
     (rw c.in_err-image_fit.was at c.image_fit.ensures))

@@ -20,26 +20,26 @@ returns-in_err-next c =
     let a = c.args in
     let p = err_from_is_err_and c.from_residual.result c.from_residual.ensures.1 in
     rw (p.1, p.2)
-    (refused_entered a.tables.now.types a.tables.now.members a.ty a.n a.s.now a.image.now c.requires.1.1
+    (refused_entered a.types.now a.members.now a.ty a.n a.s.now a.image.now c.requires.1.1
     c.in_err-next.ensures)
 
 pub returns-then-next-entries : goal.returns-then-next-entries
 returns-then-next-entries c =
     let a = c.args in
-    left_over a.tables.now.types a.tables.now.members a.ty a.n a.s.now a.image.now c.requires.1.1 c.in_ok-next.ensures
+    left_over a.types.now a.members.now a.ty a.n a.s.now a.image.now c.requires.1.1 c.in_ok-next.ensures
     (omega (arith, c.if-next-entries.true, counted (goal.at.returns-then-next-entries c).After-load-entries))
 
 pub apply_value-requires-clause-right : goal.apply_value-requires-clause-right
 apply_value-requires-clause-right c =
     let a = c.args in
-    all_accepted a.tables.now.types a.tables.now.members a.ty a.n a.s.now a.image.now c.requires.1.1
+    all_accepted a.types.now a.members.now a.ty a.n a.s.now a.image.now c.requires.1.1
     c.in_ok-next.ensures
     (omega (arith, c.if-next-entries.false, counted (goal.at.apply_value-requires-clause-right c).After-load-entries))
 
 pub returns : goal.returns
 returns c =
     let a = c.args in
-    entered_whole a.tables.now.types a.tables.now.members a.ty a.n a.s.now a.image.now c.requires.1.1
+    entered_whole a.types.now a.members.now a.ty a.n a.s.now a.image.now c.requires.1.1
     c.in_ok-next.ensures
     (omega (arith, c.if-next-entries.false, counted (goal.at.returns c).After-load-entries))
     c.apply_value.ensures (λ k. (c.type_inv.image k).fits)
