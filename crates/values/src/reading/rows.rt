@@ -41,7 +41,8 @@ pub fn capacity_at(members: &MemberTable, first: usize) -> u32
     member_row(members, first + 1).count
 }
 
-// A row holds a visible structure, or an array of structures.
+// A row holds a visible structure, or an array of structures. The type is looked at first, for pace: most rows are
+// atomics.
 pub fn is_nested(members: &MemberTable, row: usize) -> bool
     requires { row < most_members }
     ensures { result ≡ is_nested (member_at members.now row) }

@@ -38,7 +38,7 @@ pub fn count_atomics(a: Atomic, n: usize, most: usize) -> usize
     atomic_entries(a, n)
 }
 
-// The member in a row, where it is no structure.
+// The member in a row, where it is no structure; the type is looked at first, as `is_nested` did, for pace.
 fn leaf_entries(members: &MemberTable, row: usize) -> usize
     requires { row < most_members }
     ensures { ((j : ℕ) → TextFree (leaf_out j (member_at members.now row)) result)
