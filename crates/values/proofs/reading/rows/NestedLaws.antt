@@ -49,7 +49,7 @@ module _ {m n : Member} (e : m ≡ n) where
   unfolding is_nested
   nested_hidden h = rw (← e, h)
 
-  -- the same, in the words of the code's test
+  -- and the code's test of its flag says so
   pub nested_by_flag : m.hidden ≡ true → not m.hidden ≡ is_nested n
   nested_by_flag h = ap not h ∙ nested_hidden h
 
@@ -63,7 +63,7 @@ module _ {m n : Member} (e : m ≡ n) where
   unfolding is_nested
   nested_atomic {a} t = rw (← e, t) (no_struct m.hidden m.bit a)
 
-  -- a visible row whose type is a structure holds a visible structure where the code's test finds no bit
+  -- a visible row whose type is a structure holds a visible structure exactly where the code's test finds no bit
   pub nested_by_bit : {r : Bool} {i : ℕ} → m.hidden ≡ false → is_some m.bit ≡ not r → m.ty ≡ ty.Struct i
       → r ≡ is_nested n
   unfolding is_nested
